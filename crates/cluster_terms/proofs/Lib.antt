@@ -1,0 +1,9 @@
+pub mod AscendingLemmas
+pub mod AscendingNumbers
+pub mod DistinctCounts
+pub mod FactorTexts
+pub mod FactorsLemmas
+pub mod NameTexts
+pub mod Put
+pub mod ReplicationTexts
+pub mod RoundTrip

@@ -1,0 +1,10 @@
+pub mod Arc
+pub mod Ascending
+pub mod Factors
+pub mod Group
+pub mod Name
+pub mod NodeRow
+pub mod Replication
+pub mod ReplicationText
+pub mod Rf
+pub mod Row

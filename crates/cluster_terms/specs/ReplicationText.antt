@@ -1,0 +1,56 @@
+-- The texts of replications: `simple RF`, and `topology DC:RF ..`.
+use Rattle.std.specs.Prelude.{ℕ, Bool, if◌then◌else◌, List, [], ◌∷◌, ◌++◌, filter_map, flat_map, Option, Some, None, is_some, option_map, option_and_then, ◌==◌, codes, decimal}
+use Rattle.std.specs.List.{slice_split, before_first, after_first, list_all}
+use Rattle.std.specs.Str.{bytes_eq}
+use Rattle.cluster_terms.specs.Ascending.{ascending}
+use Rattle.cluster_terms.specs.Factors.{are_factors, by_name}
+use Rattle.cluster_terms.specs.Name.{is_name}
+use Rattle.cluster_terms.specs.Rf.{factor_of}
+use Rattle.cluster_terms.specs.declared.replication.Replication.{Replication}
+use Rattle.cluster_terms.specs.declared.replication.Replication.TheVariants.{Simple, Topology}
+
+-- the words of a text, which are parted by single spaces
+abbrev pub words_of : List ℕ → List (List ℕ)
+words_of text = slice_split (λ byte. byte == 32) text
+
+-- DC:RF: a name up to the first colon, and a factor after it
+abbrev pub is_colon : ℕ → Bool
+is_colon byte = byte == 58
+
+unfoldable pub row_of : List ℕ → Option (List ℕ × ℕ)
+row_of word =
+    let dc = before_first is_colon word in
+    if is_name dc then option_map (λ n. (dc, n)) (factor_of (after_first is_colon word)) else None
+
+-- words DC:RF, each of them
+unfoldable pub rows_of : List (List ℕ) → Option (List (List ℕ × ℕ))
+rows_of words = if list_all (λ word. is_some (row_of word)) words then Some (filter_map row_of words) else None
+
+-- the factors with some rows, if they make factors
+abbrev pub factors_of : List (List ℕ × ℕ) → Option (List (List ℕ × ℕ))
+factors_of rows = if are_factors rows then Some (ascending by_name rows) else None
+
+-- RF
+abbrev pub simple_of : List (List ℕ) → Option Replication
+simple_of (rf ∷ []) = option_map Simple (factor_of rf)
+simple_of _ = None
+
+-- `simple` and RF, or `topology` and 1 to 16 words DC:RF of different datacenters
+unfoldable pub replication_of_words : List (List ℕ) → Option Replication
+replication_of_words [] = None
+replication_of_words (word ∷ words) =
+    if bytes_eq word (codes "simple") then simple_of words
+    else if bytes_eq word (codes "topology") then option_map Topology (option_and_then factors_of (rows_of words))
+    else None
+
+-- the replication that a text writes
+abbrev pub replication_of : List ℕ → Option Replication
+replication_of text = replication_of_words (words_of text)
+
+-- the text of a row, after a space, and that of a replication
+abbrev pub row_text : List ℕ × ℕ → List ℕ
+row_text row = codes " " ++ row.0 ++ codes ":" ++ decimal row.1
+
+unfoldable pub text_of : Replication → List ℕ
+text_of (Simple rf) = codes "simple " ++ decimal rf
+text_of (Topology factors) = codes "topology" ++ flat_map row_text factors

@@ -1,0 +1,27 @@
+//! Tokens, nodes, names, replications, and the placement that a ring gives to them.
+#![tactic(auto)]
+
+pub mod ascending;
+pub mod factors;
+pub mod list;
+pub mod memory;
+pub mod name;
+pub mod node;
+pub mod replication;
+pub mod replication_text;
+pub mod rf;
+pub mod row;
+pub mod steps;
+pub mod token;
+
+pub use ascending::Ordered;
+pub use factors::Factors;
+pub use list::{ByteText, PairList, SmallList, TokenList, TryCopy};
+pub use memory::Memory;
+pub use name::Name;
+pub use node::{NodeId, NodeRow, NodeRows};
+pub use replication::Replication;
+pub use rf::Rf;
+pub use row::{Row, Rows, rows_between};
+pub use steps::Steps;
+pub use token::{Pair, RightEnd, Token};

@@ -1,0 +1,62 @@
+ghost use Rattle.std.specs.Prelude.{◌≡◌, ℕ, ℤ, IfOk};
+
+use crate::list::TryCopy;
+use crate::memory::Memory;
+use crate::node::NodeId;
+use std::marker::Model;
+
+/// A place on the ring of the Murmur3 partitioner: a whole number from -2^63 to 2^63 - 1.
+#[derive(Clone, Copy, Debug, PartialEq, Eq, PartialOrd, Ord)]
+pub struct Token {
+    value: i64,
+}
+
+impl Model for Token {
+    ghost Value = { ℤ };
+
+    ghost view = { λ t. t.value };
+
+    ghost inverse = { λ z. record { value = z } };
+}
+
+impl Token {
+    /// The token of a number. Every `i64` is a token.
+    pub fn new(v: i64) -> Token
+        ensures { result ≡ v }
+    {
+        Token { value: v }
+    }
+
+    /// The token's number.
+    pub fn value(self) -> i64
+        ensures { result ≡ self }
+    {
+        self.value
+    }
+}
+
+impl TryCopy for Token {
+    fn copy(&self) -> Result<Token, Memory> {
+        Ok(*self)
+    }
+}
+
+/// A token of a node.
+#[derive(Clone, Copy, Debug, PartialEq, Eq)]
+pub struct Pair {
+    pub token: Token,
+    pub node: NodeId,
+}
+
+impl TryCopy for Pair {
+    fn copy(&self) -> Result<Pair, Memory> {
+        Ok(*self)
+    }
+}
+
+/// The right end of a row: a token, or the place past the greatest token.
+#[derive(Clone, Copy, Debug, PartialEq, Eq)]
+pub enum RightEnd {
+    At(Token),
+    Max,
+}
