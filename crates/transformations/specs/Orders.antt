@@ -1,0 +1,19 @@
+-- The orders in which an image keeps its rows.
+use Rattle.std.specs.Prelude.{Bool, ◌&&◌, ◌==◌}
+use Rattle.std.specs.Ordering.{nat_cmp, int_cmp, int_eq}
+use Rattle.std.specs.Cmp.Lexicographic.{slice_cmp}
+use Rattle.std.specs.declared.cmp.Ordering.{Ordering}
+use Rattle.cluster_terms.specs.declared.token.Pair.{Pair}
+use Rattle.transformations.specs.declared.keyspace.KeyspaceRow.{KeyspaceRow}
+
+-- pairs by token
+abbrev pub by_token : Pair → Pair → Ordering
+by_token p q = int_cmp p.token q.token
+
+-- keyspaces by the bytes of their names
+abbrev pub by_name : KeyspaceRow → KeyspaceRow → Ordering
+by_name k l = slice_cmp nat_cmp k.name l.name
+
+-- whether two pairs are the same
+abbrev pub same_pair : Pair → Pair → Bool
+same_pair p q = int_eq p.token q.token && (p.node == q.node)

@@ -1,0 +1,44 @@
+ghost use Rattle.std.specs.Prelude.{◌≡◌};
+
+use cluster_terms::{Memory, Name, NodeId, Replication, TokenList, TryCopy};
+
+/// A transformation of the cluster's metadata (CEP-21).
+#[derive(Debug, Drop)]
+pub enum Command {
+    /// Adds a node under the next id.
+    Register {
+        name: Name,
+        dc: Name,
+        rack: Name,
+    },
+    /// Gives tokens to a node at once, without a movement. The tokens ascend.
+    UnsafeJoin {
+        node: NodeId,
+        tokens: TokenList,
+    },
+    /// Makes a keyspace, or gives it another replication.
+    Keyspace {
+        name: Name,
+        replication: Replication,
+    },
+}
+
+impl TryCopy for Command {
+    fn copy(&self) -> Result<Command, Memory> {
+        match self {
+            Command::Register { name, dc, rack } => Ok(Command::Register {
+                name: name.copy()?,
+                dc: dc.copy()?,
+                rack: rack.copy()?,
+            }),
+            Command::UnsafeJoin { node, tokens } => Ok(Command::UnsafeJoin {
+                node: *node,
+                tokens: tokens.copy()?,
+            }),
+            Command::Keyspace { name, replication } => Ok(Command::Keyspace {
+                name: name.copy()?,
+                replication: replication.copy()?,
+            }),
+        }
+    }
+}
