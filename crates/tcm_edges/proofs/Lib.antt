@@ -1,0 +1,5 @@
+pub mod CauseLemmas
+pub mod FeedLemmas
+pub mod FileLemmas
+pub mod OwedLemmas
+pub mod WriteLoop

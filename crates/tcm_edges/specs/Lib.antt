@@ -1,0 +1,9 @@
+pub mod Calls
+pub mod Causes
+pub mod Counted
+pub mod FailingFeed
+pub mod FailingText
+pub mod Feed
+pub mod Files
+pub mod Owed
+pub mod Writes

@@ -1,0 +1,97 @@
+ghost use Rattle.std.specs.Prelude.{◌≡◌, ◌<◌, [], ◌++◌, ◌↔◌, Some, length, IfErr, IfOk, IsErrOf, IsTrue, OnOk};
+ghost use Rattle.std.specs.Io.KnownBytes.{WriteAppends};
+ghost use Rattle.tcm_edges.specs.Calls.{begun, next_fails, passed, failed};
+ghost use Rattle.tcm_edges.specs.Causes.{HasWriteCause, OnFailed, OnMemory};
+ghost use Rattle.tcm_edges.specs.Writes.{KeptAtMemory, TakesSome, TellsAlike};
+
+use crate::calls::{CallList, Calls};
+use crate::fault::WriteFault;
+use crate::sink::Sink;
+use crate::sure_sink::SureSink;
+use std::alloc::Global;
+use std::marker::Model;
+
+/// A sink in memory of which some writes fail: those with the listed numbers, and no other. A write
+/// that finds no memory is not counted.
+#[derive(Debug, Drop)]
+pub struct MemSink {
+    sink: SureSink,
+    calls: Calls,
+}
+
+impl Model for MemSink {
+    ghost use Rattle.tcm_edges.specs.FailingText.{FailingText};
+
+    ghost Value = { FailingText };
+
+    ghost view = { λ sink. record { bytes = sink.sink; plan = sink.calls } };
+}
+
+impl MemSink {
+    /// A sink to which nothing is written, and which fails at the writes with these numbers.
+    pub fn new(alloc: Global, fails: CallList) -> MemSink
+        ensures bytes { result.bytes ≡ [] }
+        ensures plan { result.plan ≡ begun fails }
+    {
+        MemSink {
+            sink: SureSink::new(alloc),
+            calls: Calls::new(fails),
+        }
+    }
+
+    /// What was written.
+    pub fn bytes(&self) -> &[u8]
+        ensures { result.now ≡ self.now.bytes }
+    {
+        self.sink.bytes()
+    }
+}
+
+impl Sink for MemSink {
+    ghost written = { λ sink. Some sink.bytes };
+
+    ghost faults = { λ sink. sink.plan.faults };
+
+    fn write(&mut self, bytes: &[u8]) -> Result<usize, WriteFault>
+        requires { 0 < length bytes.now }
+        ensures bound { TakesSome result bytes.now }
+        ensures bytes { WriteAppends (Some self.old.bytes) (Some self.new.bytes) result bytes.now }
+        ensures cause { HasWriteCause self.old.plan.faults self.new.plan.faults result }
+        ensures memory { KeptAtMemory (Some self.old.bytes) (Some self.new.bytes)
+            self.old.plan.faults self.new.plan.faults result }
+        ensures told { TellsAlike (Some self.old.bytes) (Some self.new.bytes) }
+        ensures fails { IsErrOf result WriteFault.Failed ↔ IsTrue (next_fails self.old.plan) }
+        ensures whole { IfOk result (λ n. n ≡ length bytes.now) }
+        ensures after { OnOk result (self.new
+            ≡ record { bytes = self.old.bytes ++ bytes.now; plan = passed self.old.plan }) }
+        ensures failed { IfErr result (λ fault. OnFailed fault
+            (self.new ≡ record self.old { plan = failed self.old.plan })) }
+        ensures unchanged { IfErr result (λ fault. OnMemory fault (self.new ≡ self.old)) }
+    {
+        if self.calls.next_fails() {
+            self.calls.fail();
+            return Err(WriteFault::Failed);
+        }
+        let taken = self.sink.write(bytes)?;
+        self.calls.pass();
+        Ok(taken)
+    }
+}
+
+#[cfg(test)]
+mod tests {
+    use super::*;
+    use std::test::Fail;
+
+    #[test]
+    fn the_listed_writes_fail(rt: HostRuntime) -> Result<(), Fail> {
+        let mut fails = CallList::empty(rt.alloc());
+        assert!(rt; fails.push(2).is_ok());
+        let mut sink = MemSink::new(rt.alloc(), fails);
+        for want in [Ok(2), Err(WriteFault::Failed), Ok(2)] {
+            assert_eq!(rt; sink.write(b"ab"), want);
+        }
+        assert_eq!(rt; sink.bytes(), b"abab".as_slice());
+        Ok(())
+    }
+}

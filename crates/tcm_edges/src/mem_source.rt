@@ -1,0 +1,94 @@
+ghost use Rattle.std.specs.Prelude.{◌≡◌, ◌<◌, ◌≤◌, ◌++◌, ◌↔◌, Some, length, take, drop, IfOk, IsErr, IsTrue, OnErr};
+ghost use Rattle.std.specs.Io.{ReadsAtMost};
+ghost use Rattle.std.specs.Io.KnownBytes.{ReadConsumes};
+ghost use Rattle.tcm_edges.specs.Calls.{begun, next_fails, passed, failed};
+ghost use Rattle.tcm_edges.specs.Causes.{HasCause};
+ghost use Rattle.tcm_edges.specs.Feed.{given_len, after_read};
+ghost use Rattle.tcm_edges.specs.Writes.{TellsAlike};
+
+use crate::calls::{CallList, Calls};
+use crate::fault::Failed;
+use crate::source::Source;
+use crate::sure_source::SureSource;
+use cluster_terms::ByteText;
+use std::marker::Model;
+
+/// A source over bytes in memory of which some reads fail: those with the listed numbers, and no
+/// other.
+#[derive(Debug, Drop)]
+pub struct MemSource {
+    source: SureSource,
+    calls: Calls,
+}
+
+impl Model for MemSource {
+    ghost use Rattle.tcm_edges.specs.FailingFeed.{FailingFeed};
+
+    ghost Value = { FailingFeed };
+
+    ghost view = { λ source. record { feed = source.source; plan = source.calls } };
+}
+
+impl MemSource {
+    /// A source that gives these bytes, at most `piece` of them by one read, and fails at the
+    /// reads with these numbers.
+    pub fn new(bytes: ByteText, piece: usize, fails: CallList) -> MemSource
+        requires { 1 ≤ piece }
+        ensures feed { result.feed ≡ record { bytes = bytes; piece = piece } }
+        ensures plan { result.plan ≡ begun fails }
+    {
+        MemSource {
+            source: SureSource::new(bytes, piece),
+            calls: Calls::new(fails),
+        }
+    }
+}
+
+impl Source for MemSource {
+    ghost left = { λ source. Some source.feed.bytes };
+
+    ghost faults = { λ source. source.plan.faults };
+
+    fn read(&mut self, buf: &mut [u8]) -> Result<usize, Failed>
+        requires { 0 < length buf.old }
+        ensures bound { ReadsAtMost result buf.new }
+        ensures bytes { ReadConsumes (Some self.old.feed.bytes) (Some self.new.feed.bytes) result buf.new }
+        ensures cause { HasCause self.old.plan.faults self.new.plan.faults result }
+        ensures told { TellsAlike (Some self.old.feed.bytes) (Some self.new.feed.bytes) }
+        ensures fails { IsErr result ↔ IsTrue (next_fails self.old.plan) }
+        ensures count { IfOk result (λ n. n ≡ given_len self.old.feed (length buf.old)) }
+        ensures given { IfOk result (λ n. buf.new ≡ take n self.old.feed.bytes ++ drop n buf.old) }
+        ensures after { IfOk result (λ n. self.new
+            ≡ record { feed = after_read self.old.feed n; plan = passed self.old.plan }) }
+        ensures kept { OnErr result (self.new ≡ record self.old { plan = failed self.old.plan }) }
+        ensures unread { OnErr result (buf.new ≡ buf.old) }
+    {
+        if self.calls.next_fails() {
+            self.calls.fail();
+            return Err(Failed);
+        }
+        let read = self.source.read(buf)?;
+        self.calls.pass();
+        Ok(read)
+    }
+}
+
+#[cfg(test)]
+mod tests {
+    use super::*;
+    use crate::text::text_of;
+    use std::test::Fail;
+
+    #[test]
+    fn the_listed_reads_fail(rt: HostRuntime) -> Result<(), Fail> {
+        let mut fails = CallList::empty(rt.alloc());
+        assert!(rt; fails.push(2).is_ok());
+        let mut source = MemSource::new(text_of(rt.alloc(), b"abc")?, 9, fails);
+        let mut buf = [0; 2];
+        for want in [Ok(2), Err(Failed), Ok(1), Ok(0)] {
+            assert_eq!(rt; source.read(&mut buf), want);
+        }
+        assert_eq!(rt; buf, *b"cb");
+        Ok(())
+    }
+}

@@ -1,0 +1,44 @@
+ghost use Rattle.std.specs.Prelude.{◌≡◌, ℕ, ◌<◌, List, [], Option, length, OnOk};
+ghost use Rattle.std.specs.Io.KnownBytes.{Appends, WriteAppends};
+ghost use Rattle.tcm_edges.specs.Causes.{HasWriteCause};
+ghost use Rattle.tcm_edges.specs.Owed.{WritesPrefix};
+ghost use Rattle.tcm_edges.specs.Writes.{KeptAtMemory, TakesSome, TellsAlike};
+
+use crate::fault::WriteFault;
+
+/// Where bytes go.
+pub trait Sink {
+    /// The bytes that are written, where the sink tells them.
+    ghost written: { Self → Option (List ℕ) };
+
+    /// The count of failures.
+    ghost faults: { Self → ℕ };
+
+    /// Writes a prefix of a piece, which is not empty, and answers its length, which is at least 1.
+    /// `Failed` comes where the outside failed or took nothing. At an error nothing is written, and
+    /// after `Memory` the sink is as before.
+    fn write(&mut self, bytes: &[u8]) -> Result<usize, WriteFault>
+        requires { 0 < length bytes.now }
+        ensures bound { TakesSome result bytes.now }
+        ensures bytes { WriteAppends (written self.old) (written self.new) result bytes.now }
+        ensures cause { HasWriteCause (faults self.old) (faults self.new) result }
+        ensures memory { KeptAtMemory (written self.old) (written self.new) (faults self.old) (faults self.new) result }
+        ensures told { TellsAlike (written self.old) (written self.new) };
+}
+
+/// Writes a whole text, by as many writes as the sink takes. At an error a prefix of the text may
+/// stand written. A text of nothing makes no write.
+pub fn write_all<K: Sink>(sink: &mut K, bytes: &[u8]) -> Result<(), WriteFault>
+    ensures ok { OnOk result (Appends (K.written sink.old) (K.written sink.new) bytes.now) }
+    ensures part { WritesPrefix (K.written sink.old) (K.written sink.new) bytes.now }
+    ensures cause { HasWriteCause (K.faults sink.old) (K.faults sink.new) result }
+    ensures told { TellsAlike (K.written sink.old) (K.written sink.new) }
+    ensures none { bytes.now ≡ [] → sink.new ≡ sink.old }
+{
+    let mut rest = bytes;
+    while !rest.is_empty() {
+        let taken = sink.write(rest)?;
+        rest = &rest[taken..];
+    }
+    Ok(())
+}

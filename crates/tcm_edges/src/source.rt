@@ -1,0 +1,26 @@
+ghost use Rattle.std.specs.Prelude.{ℕ, ◌<◌, List, Option, length};
+ghost use Rattle.std.specs.Io.{ReadsAtMost};
+ghost use Rattle.std.specs.Io.KnownBytes.{ReadConsumes};
+ghost use Rattle.tcm_edges.specs.Causes.{HasCause};
+ghost use Rattle.tcm_edges.specs.Writes.{TellsAlike};
+
+use crate::fault::Failed;
+
+/// Where bytes come from.
+pub trait Source {
+    /// The bytes that are still to come, where the source tells them.
+    ghost left: { Self → Option (List ℕ) };
+
+    /// The count of failures.
+    ghost faults: { Self → ℕ };
+
+    /// Reads the next bytes into the front of a buffer, which is not empty, and answers how many:
+    /// 0 at the end of the input and nowhere else. `Failed` comes where the outside failed, and
+    /// then no byte is read.
+    fn read(&mut self, buf: &mut [u8]) -> Result<usize, Failed>
+        requires { 0 < length buf.old }
+        ensures bound { ReadsAtMost result buf.new }
+        ensures bytes { ReadConsumes (left self.old) (left self.new) result buf.new }
+        ensures cause { HasCause (faults self.old) (faults self.new) result }
+        ensures told { TellsAlike (left self.old) (left self.new) };
+}

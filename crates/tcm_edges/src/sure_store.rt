@@ -1,0 +1,190 @@
+ghost use Rattle.std.specs.Prelude.{◌≡◌, ◌++◌, Some, IfErr, IfOk, IfSome, IsOkUnless, MatchOption, None, OnErr, OnOk};
+ghost use Rattle.std.specs.FinMap as map;
+ghost use Rattle.tcm_edges.specs.Causes.{HasLoadCause, HasWriteCause, OnFailed};
+ghost use Rattle.tcm_edges.specs.Files.{file_of, content, loaded_of, ChangesFile, OthersKept, GainsAll, GainsPart, IsReplaced, IsOldOrNew};
+ghost use Rattle.tcm_edges.specs.Writes.{KeptAtLoadMemory, KeptAtMemory, TellsAlike};
+
+use crate::fault::{LoadFault, WriteFault};
+use crate::store::{Loaded, Store};
+use crate::stored_file::{StoredFile, place_of};
+use crate::text::text_of;
+use cluster_terms::Memory;
+use std::alloc::Global;
+use std::marker::Model;
+
+/// Files in memory, whose calls fail by want of memory alone.
+#[derive(Debug, Drop)]
+pub struct SureStore {
+    stored: Vec<StoredFile>,
+}
+
+impl Model for SureStore {
+    ghost use Rattle.std.specs.Prelude.{List, ℕ};
+    ghost use Rattle.std.specs.Coded.{coded_ℕ, coded_list};
+    ghost use Rattle.std.specs.FinMap as map;
+    ghost use Rattle.tcm_edges.specs.Files.{Files};
+
+    ghost Value = { Files };
+
+    ghost coded = { map.code (coded_list coded_ℕ) (coded_list coded_ℕ) };
+
+    ghost view = { λ store. map.from_entries store.stored.items };
+}
+
+impl SureStore {
+    /// A store of no files.
+    pub fn new(alloc: Global) -> SureStore
+        ensures { result ≡ map.empty }
+    {
+        SureStore {
+            stored: Vec::new(alloc),
+        }
+    }
+
+    /// The bytes of a file, or `None` where it is absent.
+    pub fn file(&self, name: &str) -> Option<&[u8]>
+        ensures { MatchOption result (file_of self.now name.now ≡ None)
+            (λ bytes. file_of self.now name.now ≡ Some bytes.now) }
+    {
+        match place_of(&self.stored, name) {
+            Some(place) => {
+                let file = &self.stored[place];
+                Some(file.bytes.as_slice())
+            }
+            None => None,
+        }
+    }
+
+    /// Makes bytes the whole of a file, which may be absent before.
+    pub fn put(&mut self, name: &str, bytes: &[u8]) -> Result<(), Memory>
+        ensures ok { OnOk result (self.new ≡ map.insert self.old name.now bytes.now) }
+        ensures err { OnErr result (self.new ≡ self.old) }
+    {
+        let alloc = *self.stored.allocator();
+        let bytes = Vec::from_slice(alloc, bytes)?;
+        match place_of(&self.stored, name) {
+            Some(place) => {
+                let file = &mut self.stored[place];
+                file.bytes = bytes;
+            }
+            None => {
+                let name = String::from_str(alloc, name)?;
+                self.stored.push(StoredFile { name, bytes })?;
+            }
+        }
+        Ok(())
+    }
+
+    // Adds bytes at the end of a file, which is made where it was absent.
+    fn extend(&mut self, name: &str, bytes: &[u8]) -> Result<(), Memory>
+        ensures ok { OnOk result (self.new
+            ≡ map.insert self.old name.now (content (file_of self.old name.now) ++ bytes.now)) }
+        ensures err { OnErr result (self.new ≡ self.old) }
+    {
+        match place_of(&self.stored, name) {
+            Some(place) => {
+                let file = &mut self.stored[place];
+                file.bytes.extend_from_slice(bytes)?;
+                Ok(())
+            }
+            None => self.put(name, bytes),
+        }
+    }
+}
+
+impl Store for SureStore {
+    ghost files = { λ store. Some store };
+
+    ghost faults = { λ _. 0 };
+
+    fn load(&mut self, name: &str, limit: u64) -> Result<Loaded, LoadFault>
+        ensures found { IfOk result (λ loaded. IfSome (Some self.old)
+            (λ all. loaded ≡ loaded_of (file_of all name.now) limit)) }
+        ensures kept { Some self.new ≡ Some self.old }
+        ensures cause { HasLoadCause 0 0 result }
+        ensures memory { KeptAtLoadMemory 0 0 result }
+        ensures sure { IsOkUnless result LoadFault.Memory }
+        ensures unchanged { self.new ≡ self.old }
+    {
+        let Some(bytes) = self.file(name) else {
+            return Ok(Loaded::Absent);
+        };
+        let size = bytes.len() as u64;
+        if limit < size {
+            return Ok(Loaded::TooLarge(size));
+        }
+        let text = text_of(*self.stored.allocator(), bytes)?;
+        Ok(Loaded::Bytes(text))
+    }
+
+    fn append(&mut self, name: &str, bytes: &[u8]) -> Result<(), WriteFault>
+        ensures ok { OnOk result
+            (ChangesFile (GainsAll bytes.now) (Some self.old) (Some self.new) name.now) }
+        ensures failed { IfErr result (λ fault. OnFailed fault
+            (ChangesFile (GainsPart bytes.now) (Some self.old) (Some self.new) name.now)) }
+        ensures others { OthersKept (Some self.old) (Some self.new) name.now }
+        ensures cause { HasWriteCause 0 0 result }
+        ensures memory { KeptAtMemory (Some self.old) (Some self.new) 0 0 result }
+        ensures told { TellsAlike (Some self.old) (Some self.new) }
+        ensures sure { IsOkUnless result WriteFault.Memory }
+        ensures after { OnOk result (self.new
+            ≡ map.insert self.old name.now (content (file_of self.old name.now) ++ bytes.now)) }
+        ensures unchanged { OnErr result (self.new ≡ self.old) }
+    {
+        self.extend(name, bytes)?;
+        Ok(())
+    }
+
+    fn replace(&mut self, name: &str, bytes: &[u8]) -> Result<(), WriteFault>
+        ensures ok { OnOk result
+            (ChangesFile (IsReplaced bytes.now) (Some self.old) (Some self.new) name.now) }
+        ensures failed { IfErr result (λ fault. OnFailed fault
+            (ChangesFile (IsOldOrNew bytes.now) (Some self.old) (Some self.new) name.now)) }
+        ensures others { OthersKept (Some self.old) (Some self.new) name.now }
+        ensures cause { HasWriteCause 0 0 result }
+        ensures memory { KeptAtMemory (Some self.old) (Some self.new) 0 0 result }
+        ensures told { TellsAlike (Some self.old) (Some self.new) }
+        ensures sure { IsOkUnless result WriteFault.Memory }
+        ensures after { OnOk result (self.new ≡ map.insert self.old name.now bytes.now) }
+        ensures unchanged { OnErr result (self.new ≡ self.old) }
+    {
+        self.put(name, bytes)?;
+        Ok(())
+    }
+}
+
+#[cfg(test)]
+mod tests {
+    use super::*;
+    use std::test::Fail;
+
+    #[test]
+    fn files_are_kept_apart(rt: HostRuntime) -> Result<(), Fail> {
+        let mut store = SureStore::new(rt.alloc());
+        store.append("log", b"ab")?;
+        store.append("log", b"c")?;
+        store.replace("snapshot", b"xy")?;
+        store.replace("snapshot", b"z")?;
+        store.put("empty", b"")?;
+        for (name, want) in [
+            ("log", b"abc".as_slice()),
+            ("snapshot", b"z".as_slice()),
+            ("empty", b"".as_slice()),
+        ] {
+            assert!(rt; store.file(name) == Some(want), "{name}");
+        }
+        assert!(rt; store.file("other").is_none());
+        Ok(())
+    }
+
+    #[test]
+    fn loads_have_a_limit(rt: HostRuntime) -> Result<(), Fail> {
+        let mut store = SureStore::new(rt.alloc());
+        store.put("log", b"abc")?;
+        assert!(rt; matches!(store.load("other", 9)?, Loaded::Absent));
+        assert!(rt; matches!(store.load("log", 2)?, Loaded::TooLarge(3)));
+        let loaded = store.load("log", 3)?;
+        assert!(rt; matches!(&loaded, Loaded::Bytes(text) if text.as_slice() == b"abc".as_slice()));
+        Ok(())
+    }
+}
