@@ -1,0 +1,4 @@
+pub mod RowLemmas
+pub mod KeptLemmas
+pub mod SearchLemmas
+pub mod ChangeLemmas

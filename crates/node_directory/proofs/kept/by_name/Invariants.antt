@@ -1,0 +1,13 @@
+use Rattle.std.proofs.Common.{◌≡◌, true, take}
+use Rattle.std.specs.Map.{values_of}
+use Rattle.node_directory.specs.Directory.{are_distinct, names_of}
+use Rattle.node_directory.specs.Kept.{AreNamed}
+use Rattle.node_directory.proofs.kept.by_name.Given as goal
+
+-- the rows so far are kept under their names, which are distinct
+abbrev pub invariant-loop-row : goal.invariant-loop-row
+invariant-loop-row l = record {
+  named : AreNamed l.nodes.entries;
+  rows : values_of l.nodes.entries ≡ take l.row-index l.rows;
+  distinct : are_distinct (names_of (take l.row-index l.rows)) ≡ true;
+}

@@ -1,0 +1,60 @@
+-- The registered nodes of a cluster.
+use Rattle.std.specs.Prelude.{ℕ, ◌+◌, Bool, true, false, not, ◌&&◌, ◌==◌, if◌then◌else◌, nat_le, nat_lt, List, [], ◌∷◌, map, filter, find, ◌++◌, Option}
+use Rattle.std.specs.Option.{option_map}
+use Rattle.std.specs.Set.{is_member}
+use Rattle.std.specs.Str.{bytes_eq}
+use Rattle.cluster_terms.specs.NodeRow.{row_of}
+use Rattle.cluster_terms.specs.declared.node.NodeRow.{NodeRow}
+
+-- the rows of the registered nodes in order of registration, and the id that the next node gets
+pub record Registry : Type 0 where
+  pub rows : List NodeRow
+  pub next : ℕ
+
+abbrev pub ids_of : List NodeRow → List ℕ
+ids_of rows = map (λ row. row.id) rows
+
+abbrev pub names_of : List NodeRow → List (List ℕ)
+names_of rows = map (λ row. row.name) rows
+
+-- whether some ids ascend, the first of them not below `least`, and are below `next`
+abbrev pub are_ascending : ℕ → List ℕ → ℕ → Bool
+are_ascending least [] next = true
+are_ascending least (id ∷ ids) next = nat_le least id && nat_lt id next && are_ascending (id + 1) ids next
+
+-- whether no name comes twice
+abbrev pub are_distinct : List (List ℕ) → Bool
+are_distinct [] = true
+are_distinct (name ∷ names) = not (is_member bytes_eq names name) && are_distinct names
+
+-- whether these may be the rows of a directory: ids ascend from `least` or more and are below the next one, and no
+-- name comes twice
+abbrev pub is_directory : ℕ → List NodeRow → ℕ → Bool
+is_directory least rows next = are_ascending least (ids_of rows) next && are_distinct (names_of rows)
+
+-- the node with a name, nodes that left included; none where no node has it
+abbrev pub node_named : List NodeRow → List ℕ → Option ℕ
+node_named rows name = option_map (λ row. row.id) (find (λ row. bytes_eq name row.name) rows)
+
+-- the datacenter and the rack of a node; none where it is not registered
+abbrev pub place_in : List NodeRow → ℕ → Option (List ℕ × List ℕ)
+place_in rows n =
+    let place : NodeRow → List ℕ × List ℕ = λ row. (row.dc, row.rack) in option_map place (row_of rows n)
+
+-- the directory after a node is registered: its row comes last, with the next id
+abbrev pub registered : Registry → List ℕ → List ℕ → List ℕ → Registry
+registered old name dc rack =
+    let row : NodeRow = record { id = old.next; name = name; dc = dc; rack = rack; left = false } in
+    record { rows = old.rows ++ row ∷ []; next = old.next + 1 }
+
+-- the rows of the other nodes
+abbrev pub without : List NodeRow → ℕ → List NodeRow
+without rows n = filter (λ row. not (row.id == n)) rows
+
+-- a row, marked where it is that of the node n
+abbrev pub marked : ℕ → NodeRow → NodeRow
+marked n row = let left : NodeRow = record row { left = true } in if row.id == n then left else row
+
+-- the rows once a node is marked: it has left
+abbrev pub with_left : List NodeRow → ℕ → List NodeRow
+with_left rows n = map (marked n) rows

@@ -1,0 +1,67 @@
+//! Rows that are kept under their nodes' names.
+ghost use Rattle.std.specs.Prelude.{◌≡◌, false, ◌++◌, [], ◌∷◌, ◌↔◌, IsTrue, IsSome, IfSome, IfOk, OnOk};
+ghost use Rattle.std.specs.Map.{values_of};
+ghost use Rattle.std.specs.Set.{is_member};
+ghost use Rattle.std.specs.Str.{bytes_eq};
+ghost use Rattle.node_directory.specs.Directory.{are_ascending, are_distinct, ids_of, names_of};
+ghost use Rattle.node_directory.specs.Kept.{AreNamed};
+
+use cluster_terms::{Memory, Name, NodeRow, TryCopy};
+use indexmap::IndexMap;
+use std::alloc::Global;
+
+/// Whether ids ascend from 1 or more and are below the next one.
+#[tactic(auto, using(crate::proofs::RowLemmas::ascending_more))]
+pub(crate) fn ids_ascend(rows: &[NodeRow], next: u32) -> bool
+    ensures { result ≡ are_ascending 1 (ids_of rows.now) next }
+{
+    let mut least = 1;
+    for row in rows {
+        let id = row.id.0;
+        if id < least || id >= next {
+            return false;
+        }
+        least = id + 1;
+    }
+    true
+}
+
+/// Puts a copy of a row last, under its name, which no row has.
+pub(crate) fn push_copy(nodes: &mut IndexMap<String, NodeRow>, row: &NodeRow) -> Result<(), Memory>
+    requires named { AreNamed nodes.old.entries }
+    requires free { is_member bytes_eq (names_of (values_of nodes.old.entries)) row.now.name ≡ false }
+    ensures named { AreNamed nodes.new.entries }
+    ensures rows { OnOk result (values_of nodes.new.entries ≡ values_of nodes.old.entries ++ row.now ∷ []) }
+{
+    let name = String::from_str(*nodes.allocator(), row.name.as_str())?;
+    nodes.insert(name, row.copy()?)?;
+    Ok(())
+}
+
+/// Whether a row has this name.
+fn has_name(nodes: &IndexMap<String, NodeRow>, name: &Name) -> bool
+    requires { AreNamed nodes.now.entries }
+    ensures { result ≡ is_member bytes_eq (names_of (values_of nodes.now.entries)) name.now }
+{
+    nodes.contains_key(name.as_str())
+}
+
+/// Copies of some rows by name. `None` comes exactly where a name comes twice.
+#[tactic(auto, using(crate::proofs::RowLemmas::row_steps))]
+pub(crate) fn by_name(
+    alloc: Global,
+    rows: &[NodeRow],
+) -> Result<Option<IndexMap<String, NodeRow>>, Memory>
+    ensures distinct { IfOk result (λ found. IsSome found ↔ IsTrue (are_distinct (names_of rows.now))) }
+    ensures named { IfOk result (λ found. IfSome found (λ nodes. AreNamed nodes.entries)) }
+    ensures rows { IfOk result (λ found. IfSome found (λ nodes. values_of nodes.entries ≡ rows.now)) }
+{
+    let mut nodes = IndexMap::with_capacity(alloc, rows.len())?;
+    for row in rows {
+        if has_name(&nodes, &row.name) {
+            return Ok(None);
+        }
+        push_copy(&mut nodes, row)?;
+    }
+    Ok(Some(nodes))
+}
