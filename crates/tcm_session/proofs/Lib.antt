@@ -1,0 +1,12 @@
+pub mod AnswersLemmas
+pub mod CauseLemmas
+pub mod CommandLemmas
+pub mod Counts
+pub mod FeedLemmas
+pub mod LinesLemmas
+pub mod NameTexts
+pub mod Numerals
+pub mod OutcomeLemmas
+pub mod ReadLemmas
+pub mod RegisterTexts
+pub mod TokenTexts

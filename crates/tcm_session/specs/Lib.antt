@@ -1,0 +1,10 @@
+pub mod Endings
+pub mod Faults
+pub mod Grammar
+pub mod Groups
+pub mod Lines
+pub mod Machine
+pub mod Outcome
+pub mod RingKinds
+pub mod Runs
+pub mod Texts

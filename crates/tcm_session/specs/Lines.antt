@@ -1,0 +1,38 @@
+-- How an input is cut into lines.
+use Rattle.std.specs.Prelude.{◌≡◌, ℕ, false, List, [], ◌∷◌, ◌++◌, ◌==◌}
+use Rattle.std.specs.List.{slice_split, AllByRecursion}
+
+-- the pieces of an input, which are parted by line feeds
+abbrev pub pieces_of : List ℕ → List (List ℕ)
+pieces_of input = slice_split (λ byte. byte == 10) input
+
+-- all pieces but the last, and the last
+abbrev pub all_but_last : List (List ℕ) → List (List ℕ)
+all_but_last [] = []
+all_but_last (piece ∷ []) = []
+all_but_last (piece ∷ next ∷ pieces) = piece ∷ all_but_last (next ∷ pieces)
+
+abbrev pub last_of : List (List ℕ) → List ℕ
+last_of [] = []
+last_of (piece ∷ []) = piece
+last_of (piece ∷ next ∷ pieces) = last_of (next ∷ pieces)
+
+-- the lines of an input that a line feed ends, and what has come of the next line
+unfoldable pub whole_lines : List ℕ → List (List ℕ)
+whole_lines input = all_but_last (pieces_of input)
+
+unfoldable pub open_line : List ℕ → List ℕ
+open_line input = last_of (pieces_of input)
+
+-- a line, where there is something of it
+abbrev pub if_any : List ℕ → List (List ℕ)
+if_any [] = []
+if_any (byte ∷ bytes) = (byte ∷ bytes) ∷ []
+
+-- the lines of a script: the last one may lack its line feed
+abbrev pub script_lines : List ℕ → List (List ℕ)
+script_lines input = whole_lines input ++ if_any (open_line input)
+
+-- no byte is a line feed
+abbrev pub HasNoFeed : List ℕ → Type 0
+HasNoFeed bytes = AllByRecursion (λ byte. (byte == 10) ≡ false) bytes

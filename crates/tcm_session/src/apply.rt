@@ -1,0 +1,84 @@
+//! What a command makes of an image.
+
+ghost use Rattle.std.specs.Prelude.{◌≡◌, ◌+◌, ◌-◌, ◌<◌, ◌≤◌, ◌^◌, length, IfOk, MatchResult};
+ghost use Rattle.transformations.specs.History.{empty_image as empty, image_after, next_image};
+ghost use Rattle.transformations.specs.declared.command.Command.TheVariants as command;
+
+use crate::commands::{empty_image, pairs_with};
+use cluster_terms::{Memory, Name, NodeId, NodeRow, Replication, Token, TryCopy};
+use std::alloc::Global;
+use transformations::{Command, Image, KeyspaceRow};
+
+/// Adds a node under the next id. Want of memory changes nothing.
+#[tactic(auto, unfolding(transformations::specs::History::next_image))]
+fn register(image: &mut Image, name: Name, dc: Name, rack: Name) -> Result<(), Memory>
+    requires epoch { image.old.epoch < 2 ^ 64 - 1 }
+    requires next { image.old.next < 2 ^ 32 - 1 }
+    ensures { MatchResult result (λ _. image.new ≡ next_image image.old (command.Register name dc rack)) (λ _. image.new ≡ image.old) }
+{
+    let row = NodeRow {
+        id: NodeId(image.next),
+        name,
+        dc,
+        rack,
+        left: false,
+    };
+    image.nodes.push(row)?;
+    image.next += 1;
+    image.epoch += 1;
+    Ok(())
+}
+
+/// Gives tokens to a node. Want of memory changes nothing.
+#[tactic(auto, unfolding(transformations::specs::History::next_image))]
+fn join(alloc: Global, image: &mut Image, node: NodeId, tokens: &[Token]) -> Result<(), Memory>
+    requires epoch { image.old.epoch < 2 ^ 64 - 1 }
+    ensures { MatchResult result (λ _. image.new ≡ next_image image.old (command.UnsafeJoin node tokens.now)) (λ _. image.new ≡ image.old) }
+{
+    let pairs = pairs_with(alloc, node, tokens)?;
+    let mut ring = image.tokens.copy()?;
+    ring.put_all(&pairs)?;
+    image.tokens = ring;
+    image.epoch += 1;
+    Ok(())
+}
+
+/// Makes a keyspace, or gives it another replication. Want of memory changes nothing.
+#[tactic(auto, unfolding(transformations::specs::History::next_image))]
+fn set_keyspace(image: &mut Image, name: Name, replication: Replication) -> Result<(), Memory>
+    requires epoch { image.old.epoch < 2 ^ 64 - 1 }
+    ensures { MatchResult result (λ _. image.new ≡ next_image image.old (command.Keyspace name replication)) (λ _. image.new ≡ image.old) }
+{
+    image.keyspaces.put(KeyspaceRow { name, replication })?;
+    image.epoch += 1;
+    Ok(())
+}
+
+/// Applies a command to an image. Want of memory changes nothing.
+pub fn apply(alloc: Global, image: &mut Image, command: &Command) -> Result<(), Memory>
+    requires epoch { image.old.epoch < 2 ^ 64 - 1 }
+    requires next { image.old.next < 2 ^ 32 - 1 }
+    ensures { MatchResult result (λ _. image.new ≡ next_image image.old command.now) (λ _. image.new ≡ image.old) }
+{
+    match command {
+        Command::Register { name, dc, rack } => {
+            register(image, name.copy()?, dc.copy()?, rack.copy()?)
+        }
+        Command::UnsafeJoin { node, tokens } => join(alloc, image, *node, tokens.as_slice()),
+        Command::Keyspace { name, replication } => {
+            set_keyspace(image, name.copy()?, replication.copy()?)
+        }
+    }
+}
+
+/// The image after some commands from the empty one on.
+pub fn image_of(alloc: Global, commands: &[Command]) -> Result<Image, Memory>
+    requires { length commands.now < 2 ^ 32 - 2 }
+    ensures { IfOk result (λ image. image ≡ image_after empty commands.now) }
+{
+    let mut image = empty_image(alloc);
+    for command in commands {
+        apply(alloc, &mut image, command)?;
+    }
+    Ok(image)
+}

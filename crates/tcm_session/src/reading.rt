@@ -1,0 +1,113 @@
+ghost use Rattle.std.specs.Prelude.{◌≡◌, ℕ, ◌+◌, ◌<◌, ◌-◌, ◌^◌, ◌≤◌, [], length, vec_len, IfOk, IfErr, OnOk, OnErr, IsErrOf};
+ghost use Rattle.std.specs.Io.KnownBytes.{Keeps};
+ghost use Rattle.tcm_session.specs.Lines.{HasNoFeed};
+ghost use Rattle.tcm_session.specs.Outcome.{input_limit};
+ghost use Rattle.tcm_session.specs.Runs.{HasRunCause, Reads, ReadsOnce, ReadsPast, ReadsTo, ReadsWhole};
+ghost use Rattle.tcm_session.specs.declared.fault.RunFault.TheVariants as fault;
+
+use crate::fault::RunFault;
+use crate::script::feed;
+use crate::session::Session;
+use std::alloc::Global;
+use tcm_edges::{Sink, Source};
+
+/// How many bytes of an input are read, but for one more that tells that there are too many.
+const INPUT_LIMIT: usize = 536_870_912;
+
+/// How many bytes are read at once at most.
+const PIECE: usize = 65_536;
+
+/// How the reading of a script ends.
+#[derive(Clone, Copy, Debug, PartialEq, Eq)]
+pub enum ReadEnd {
+    /// The input was read to its end.
+    AtEnd,
+    /// A byte past the limit was read.
+    PastLimit,
+}
+
+/// Reads once, and takes the bytes that came: 0 only at the end of the input.
+fn read_piece<S: Source, K: Sink>(
+    alloc: Global,
+    session: &mut Session,
+    begun: &mut Vec<u8>,
+    buffer: &mut [u8],
+    input: &mut S,
+    out: &mut K,
+) -> Result<usize, RunFault>
+    requires buffer { 0 < length buffer.old }
+    requires room { length session.old + length buffer.old < 2 ^ 32 - 2 }
+    requires begun { HasNoFeed begun.old.items }
+    ensures ok { IfOk result (λ n. ReadsOnce n (S.left input.old) (S.left input.new)
+        session.old begun.old.items (K.written out.old) session.new begun.new.items (K.written out.new)) }
+    ensures bound { IfOk result (λ n. n ≤ length buffer.old) }
+    ensures begun { OnOk result (HasNoFeed begun.new.items) }
+    ensures room { IfOk result (λ n. length session.new ≤ length session.old + n) }
+    ensures part { Reads (length buffer.old) (S.left input.old) (S.left input.new)
+        session.old begun.old.items (K.written out.old) (K.written out.new) }
+    ensures source { IsErrOf result fault.Source → ReadsWhole (S.left input.old) (S.left input.new)
+        session.old begun.old.items (K.written out.old) (K.written out.new) }
+    ensures cause { HasRunCause (S.faults input.old) (S.faults input.new) (K.faults out.old) (K.faults out.new) result }
+{
+    let count = input.read(buffer)?;
+    feed(alloc, session, begun, &buffer[..count], out)?;
+    Ok(count)
+}
+
+/// So many bytes, for a read to fill.
+fn zeros(alloc: Global, len: usize) -> Result<Vec<u8>, RunFault>
+    ensures len { IfOk result (λ bytes. vec_len bytes ≡ len) }
+    ensures memory { IfErr result (λ e. e ≡ fault.Memory) }
+{
+    let bytes = vec![in alloc; 0u8; len]?;
+    Ok(bytes)
+}
+
+/// Reads one byte more, to see whether the input goes on past the limit.
+fn read_past<S: Source>(input: &mut S) -> Result<ReadEnd, RunFault>
+    ensures ok { IfOk result (λ ending. ReadsPast ending (S.left input.old) (S.left input.new)) }
+    ensures err { OnErr result (Keeps (S.left input.old) (S.left input.new)) }
+    ensures cause { HasRunCause (S.faults input.old) (S.faults input.new) 0 0 result }
+{
+    let mut byte = [0u8; 1];
+    match input.read(&mut byte)? {
+        0 => Ok(ReadEnd::AtEnd),
+        _ => Ok(ReadEnd::PastLimit),
+    }
+}
+
+/// Reads a script to its end, or up to the limit, and answers each line that a line feed ends before it
+/// reads on. At an error the answers that are written are a prefix of those that are due; at a fault of the
+/// source they are all of them.
+pub fn read_script<S: Source, K: Sink>(
+    alloc: Global,
+    session: &mut Session,
+    begun: &mut Vec<u8>,
+    input: &mut S,
+    out: &mut K,
+) -> Result<ReadEnd, RunFault>
+    requires room { length session.old + input_limit < 2 ^ 32 - 2 }
+    requires begun { HasNoFeed begun.old.items }
+    ensures ok { IfOk result (λ ending. ReadsTo ending (S.left input.old) (S.left input.new)
+        session.old begun.old.items (K.written out.old) session.new begun.new.items (K.written out.new)) }
+    ensures begun { OnOk result (HasNoFeed begun.new.items) }
+    ensures room { OnOk result (length session.new ≤ length session.old + input_limit) }
+    ensures part { Reads input_limit (S.left input.old) (S.left input.new)
+        session.old begun.old.items (K.written out.old) (K.written out.new) }
+    ensures source { IsErrOf result fault.Source → ReadsWhole (S.left input.old) (S.left input.new)
+        session.old begun.old.items (K.written out.old) (K.written out.new) }
+    ensures cause { HasRunCause (S.faults input.old) (S.faults input.new) (K.faults out.old) (K.faults out.new) result }
+{
+    let mut buffer = zeros(alloc, PIECE)?;
+    let mut taken = 0;
+    while taken < INPUT_LIMIT {
+        let room = PIECE.min(INPUT_LIMIT - taken);
+        let count = read_piece(alloc, session, begun, &mut buffer[..room], input, out)?;
+        if count == 0 {
+            return Ok(ReadEnd::AtEnd);
+        }
+        taken += count;
+    }
+    let ending = read_past(input)?;
+    Ok(ending)
+}
