@@ -1,12 +1,11 @@
 -- The counting rule of the one group of all nodes: a node is chosen at its first token where fewer than rf others are met before it.
-use Rattle.std.proofs.Common.{◌≡◌, ℕ, suc, ◌+◌, ◌-◌, ◌<◌, ◌≤◌, min, Bool, true, false, cond, not, ◌&&◌, ◌||◌, nat_eq, nat_lt, List, [], ◌∷◌, ◌++◌, length, map, filter, filter_map, Option, Some, None, is_some, refl, sym, ap, ◌∙◌, arith}
+use Rattle.std.proofs.Common.{◌≡◌, ℕ, ◌+◌, ◌-◌, ◌<◌, ◌≤◌, min, Bool, true, false, not, ◌&&◌, ◌||◌, nat_eq, nat_lt, List, [], ◌∷◌, filter, filter_map, is_some, refl, ap, ◌∙◌, arith}
 use Rattle.std.proofs.lemmas.Bool.{false≢true}
 use Rattle.std.proofs.lemmas.Bool.Decides.{nat_tests}
 use Rattle.std.specs.Cmp.{nat_eq_equiv}
-use Rattle.std.specs.List.{list_any}
-use Rattle.std.specs.Set.{is_member, distinct_count, unique_keys}
+use Rattle.std.specs.Set.{is_member, distinct_count}
 use Rattle.std.specs.Str.{bytes_eq}
-use Rattle.cluster_terms.proofs.DistinctCounts.{distinct_count-less, distinct_count-within}
+use Rattle.cluster_terms.proofs.DistinctCounts.{distinct_count-less}
 use Rattle.cluster_terms.specs.Group.{Group, node_count, rack_count, wanted, spare, is_chosen_rack}
 use Rattle.cluster_terms.specs.Replication.{whole_group}
 

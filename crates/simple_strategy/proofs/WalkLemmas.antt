@@ -1,63 +1,33 @@
 -- The walk takes the nodes that the counting rule chooses.
-use Rattle.std.proofs.Common.{◌≡◌, ℕ, suc, ◌+◌, ◌-◌, ◌<◌, ◌≤◌, min, Bool, true, false, cond, not, ◌&&◌, ◌||◌, nat_eq, nat_lt, List, [], ◌∷◌, ◌++◌, length, refl, sym, ap, ◌∙◌, arith, length-append}
-use Rattle.std.proofs.lemmas.Bool.{false≢true}
-use Rattle.std.proofs.lemmas.Bool.Decides.{nat_tests}
+use Rattle.std.proofs.Common.{◌≡◌, ℕ, ◌<◌, ◌≤◌, min, Bool, true, false, cond, not, ◌&&◌, ◌||◌, nat_eq, nat_lt, List, [], ◌∷◌, ◌++◌, length, refl, sym, ap, ◌∙◌, arith}
+use Rattle.std.proofs.Math.Bool.{or-false, or_assoc}
+use Rattle.std.proofs.lemmas.Bool.{false≢true, and_from, le-ltb, lt-ltb, ltb-false, ltb-true, or_left, or_right}
 use Rattle.std.proofs.lemmas.List.{length_push}
 use Rattle.std.specs.Cmp.{nat_eq_equiv}
-use Rattle.std.specs.List.{list_any}
-use Rattle.std.specs.Set.{is_member, distinct_count}
+use Rattle.std.specs.Set.{distinct_count}
 use Rattle.cluster_terms.proofs.DistinctCounts.{is_member-alike, is_member-push, distinct_count-new, distinct_count-old}
+use Rattle.token_ring.proofs.GroupLemmas.{has, or_elim}
 use Rattle.simple_strategy.specs.Walk.{taken_with, taken_after}
 
 -- ---- what the fold takes, by what was met
-
-abbrev has : List ℕ → ℕ → Bool
-has ns v = is_member nat_eq ns v
 
 abbrev count : List ℕ → ℕ
 count ns = distinct_count nat_eq ns
 
 -- whether a node is taken when n is met, where `ahead` was met before
-abbrev taken_here : ℕ → List ℕ → ℕ → ℕ → Bool
-taken_here rf ahead n v = nat_eq v n && (not (has ahead v) && nat_lt (count ahead) rf)
+abbrev pub takes_at : ℕ → List ℕ → ℕ → ℕ → Bool
+takes_at rf ahead n v = nat_eq v n && (not (has ahead v) && nat_lt (count ahead) rf)
 
 -- whether a node is taken from what is met on, where `ahead` was met before
-abbrev pub finds : ℕ → List ℕ → List ℕ → ℕ → Bool
-finds rf ahead [] v = false
-finds rf ahead (n ∷ ns) v = taken_here rf ahead n v || finds rf (ahead ++ n ∷ []) ns v
+abbrev pub takes : ℕ → List ℕ → List ℕ → ℕ → Bool
+takes rf ahead [] v = false
+takes rf ahead (n ∷ ns) v = takes_at rf ahead n v || takes rf (ahead ++ n ∷ []) ns v
 
 -- of the nodes that were met, the first rf distinct ones are taken
 record Walked (rf : ℕ) (ahead taken : List ℕ) : Type 0 where
   size : length taken ≡ min rf (count ahead)
   some : (v : ℕ) → has taken v ≡ true → has ahead v ≡ true
   all : count ahead < rf → (v : ℕ) → has ahead v ≡ true → has taken v ≡ true
-
-and_true : (a b : Bool) → a ≡ true → b ≡ true → (a && b) ≡ true
-and_true true true p q = refl
-and_true true false p q = q
-and_true false b p q = p
-
-or_left : (a b : Bool) → a ≡ true → (a || b) ≡ true
-or_left true b p = refl
-or_left false b p = absurd (false≢true p)
-
-or_right : (a b : Bool) → b ≡ true → (a || b) ≡ true
-or_right true b p = refl
-or_right false b p = p
-
-or_elim : {P : Type 0} (a b : Bool) → (a || b) ≡ true → (a ≡ true → P) → (b ≡ true → P) → P
-or_elim true b h l r = l refl
-or_elim false b h l r = r h
-
-or_none : (a : Bool) → (a || false) ≡ a
-or_none true = refl
-or_none false = refl
-
-same_bool : (a b : Bool) → (a ≡ true → b ≡ true) → (b ≡ true → a ≡ true) → a ≡ b
-same_bool true true f g = refl
-same_bool true false f g = sym (f refl)
-same_bool false true f g = g refl
-same_bool false false f g = refl
 
 -- ---- one node is met
 
@@ -98,49 +68,37 @@ module _ (rf : ℕ) (ahead taken : List ℕ) (w : Walked rf ahead taken) (n : �
 -- what meeting a node does to those that are taken
 record Met (rf : ℕ) (ahead taken : List ℕ) (n : ℕ) : Type 0 where
   next : Walked rf (ahead ++ n ∷ []) (taken_with rf taken n)
-  members : (v : ℕ) → has (taken_with rf taken n) v ≡ (has taken v || taken_here rf ahead n v)
+  members : (v : ℕ) → has (taken_with rf taken n) v ≡ (has taken v || takes_at rf ahead n v)
 
-lt_true : (m n : ℕ) → m < n → nat_lt m n ≡ true
-lt_true m n h = grind (arith, nat_tests)
-
-lt_false : (m n : ℕ) → n ≤ m → nat_lt m n ≡ false
-lt_false m n h = grind (arith, nat_tests)
-
-lt_from : (m n : ℕ) → nat_lt m n ≡ true → m < n
-lt_from m n h = grind (arith, nat_tests)
-
-le_from : (m n : ℕ) → nat_lt m n ≡ false → n ≤ m
-le_from m n h = grind (arith, nat_tests)
-
--- taken_here where the test of the node has a value
-here_old : (rf : ℕ) (ahead : List ℕ) (n v : ℕ) → has ahead n ≡ true → taken_here rf ahead n v ≡ false
+-- takes_at where the test of the node has a value
+here_old : (rf : ℕ) (ahead : List ℕ) (n v : ℕ) → has ahead n ≡ true → takes_at rf ahead n v ≡ false
 here_old rf ahead n v old = by (nat_eq v n) refl
   where
     by : (b : Bool) → nat_eq v n ≡ b → (b && (not (has ahead v) && nat_lt (count ahead) rf)) ≡ false
     by false e = refl
     by true e = ap (λ b. not b && nat_lt (count ahead) rf) (is_member-alike nat_eq_equiv ahead v n e ∙ old)
 
-here_full : (rf : ℕ) (ahead : List ℕ) (n v : ℕ) → rf ≤ count ahead → taken_here rf ahead n v ≡ false
-here_full rf ahead n v full = by (nat_eq v n) (not (has ahead v)) (lt_false (count ahead) rf full)
+here_full : (rf : ℕ) (ahead : List ℕ) (n v : ℕ) → rf ≤ count ahead → takes_at rf ahead n v ≡ false
+here_full rf ahead n v full = by (nat_eq v n) (not (has ahead v)) (le-ltb (count ahead) rf full)
   where
     by : (a b : Bool) → nat_lt (count ahead) rf ≡ false → (a && (b && nat_lt (count ahead) rf)) ≡ false
     by false b e = refl
     by true false e = refl
     by true true e = e
 
-here_new : (rf : ℕ) (ahead : List ℕ) (n v : ℕ) → has ahead n ≡ false → count ahead < rf → taken_here rf ahead n v ≡ nat_eq v n
+here_new : (rf : ℕ) (ahead : List ℕ) (n v : ℕ) → has ahead n ≡ false → count ahead < rf → takes_at rf ahead n v ≡ nat_eq v n
 here_new rf ahead n v new room = by (nat_eq v n) refl
   where
     by : (b : Bool) → nat_eq v n ≡ b → (b && (not (has ahead v) && nat_lt (count ahead) rf)) ≡ b
     by false e = refl
-    by true e = ap (λ b. not b && nat_lt (count ahead) rf) (is_member-alike nat_eq_equiv ahead v n e ∙ new) ∙ lt_true (count ahead) rf room
+    by true e = ap (λ b. not b && nat_lt (count ahead) rf) (is_member-alike nat_eq_equiv ahead v n e ∙ new) ∙ lt-ltb (count ahead) rf room
 
 module _ (rf : ℕ) (ahead taken : List ℕ) (n : ℕ) where
   abbrev choice : Bool → List ℕ
   choice b = cond b (taken ++ n ∷ []) taken
 
   met_taken : (nat_lt (length taken) rf && not (has taken n)) ≡ true → Walked rf (ahead ++ n ∷ []) (taken ++ n ∷ [])
-      → ((v : ℕ) → taken_here rf ahead n v ≡ nat_eq v n) → Met rf ahead taken n
+      → ((v : ℕ) → takes_at rf ahead n v ≡ nat_eq v n) → Met rf ahead taken n
   met_taken test next here =
       let e : taken_with rf taken n ≡ taken ++ n ∷ [] = ap choice test in
       record {
@@ -149,12 +107,12 @@ module _ (rf : ℕ) (ahead taken : List ℕ) (n : ℕ) where
       }
 
   met_passed : (nat_lt (length taken) rf && not (has taken n)) ≡ false → Walked rf (ahead ++ n ∷ []) taken
-      → ((v : ℕ) → taken_here rf ahead n v ≡ false) → Met rf ahead taken n
+      → ((v : ℕ) → takes_at rf ahead n v ≡ false) → Met rf ahead taken n
   met_passed test next here =
       let e : taken_with rf taken n ≡ taken = ap choice test in
       record {
         next = rw e next;
-        members = λ v. ap (λ l. has l v) e ∙ sym (or_none (has taken v)) ∙ ap (λ b. has taken v || b) (sym (here v));
+        members = λ v. ap (λ l. has l v) e ∙ sym (or-false (has taken v)) ∙ ap (λ b. has taken v || b) (sym (here v));
       }
 
   met : Walked rf ahead taken → Met rf ahead taken n
@@ -167,41 +125,37 @@ module _ (rf : ℕ) (ahead taken : List ℕ) (n : ℕ) where
 
       by : (old room : Bool) → has ahead n ≡ old → nat_lt (count ahead) rf ≡ room → Met rf ahead taken n
       by true room e r =
-          met_passed (passed (nat_lt (length taken) rf) (has taken n) (λ less. let size = w.size in let below = lt_from (length taken) rf less in w.all (omega arith) n e))
+          met_passed (passed (nat_lt (length taken) rf) (has taken n) (λ less. let size = w.size in let below = ltb-true (length taken) rf less in w.all (omega arith) n e))
           (walked_again rf ahead taken w n e) (λ v. here_old rf ahead n v e)
       by false true e r =
-          let room = lt_from (count ahead) rf r in
+          let room = ltb-true (count ahead) rf r in
           let size = w.size in
           let out : has taken n ≡ false = out_by (has taken n) refl e in
-          met_taken (and_true _ _ (lt_true (length taken) rf (omega arith)) (ap not out)) (walked_taken rf ahead taken w n e room out) (λ v. here_new rf ahead n v e room)
+          met_taken (and_from _ _ (lt-ltb (length taken) rf (omega arith)) (ap not out)) (walked_taken rf ahead taken w n e room out) (λ v. here_new rf ahead n v e room)
         where
           out_by : (b : Bool) → has taken n ≡ b → has ahead n ≡ false → b ≡ false
           out_by false h new = refl
           out_by true h new = absurd (false≢true (sym new ∙ w.some n h))
       by false false e r =
-          let full = le_from (count ahead) rf r in
+          let full = ltb-false (count ahead) rf r in
           let size = w.size in
-          met_passed (ap (λ b. b && not (has taken n)) (lt_false (length taken) rf (omega arith))) (walked_full rf ahead taken w n e full) (λ v. here_full rf ahead n v full)
+          met_passed (ap (λ b. b && not (has taken n)) (le-ltb (length taken) rf (omega arith))) (walked_full rf ahead taken w n e full) (λ v. here_full rf ahead n v full)
 
 -- ---- all nodes are met
 
-or_assoc : (a b c : Bool) → ((a || b) || c) ≡ (a || (b || c))
-or_assoc true b c = refl
-or_assoc false b c = refl
-
-has-taken_after : (rf : ℕ) (ahead taken ns : List ℕ) → Walked rf ahead taken → (v : ℕ) → has (taken_after rf taken ns) v ≡ (has taken v || finds rf ahead ns v)
-has-taken_after rf ahead taken [] w v = sym (or_none (has taken v))
+has-taken_after : (rf : ℕ) (ahead taken ns : List ℕ) → Walked rf ahead taken → (v : ℕ) → has (taken_after rf taken ns) v ≡ (has taken v || takes rf ahead ns v)
+has-taken_after rf ahead taken [] w v = sym (or-false (has taken v))
 has-taken_after rf ahead taken (n ∷ ns) w v =
     let m = met rf ahead taken n w in
     has-taken_after rf (ahead ++ n ∷ []) (taken_with rf taken n) ns m.next v
-    ∙ ap (λ b. b || finds rf (ahead ++ n ∷ []) ns v) (m.members v)
-    ∙ or_assoc (has taken v) (taken_here rf ahead n v) (finds rf (ahead ++ n ∷ []) ns v)
+    ∙ ap (λ b. b || takes rf (ahead ++ n ∷ []) ns v) (m.members v)
+    ∙ or_assoc (has taken v) (takes_at rf ahead n v) (takes rf (ahead ++ n ∷ []) ns v)
 
 -- at first nothing is met and nothing taken
 walked_none : (rf : ℕ) → Walked rf [] []
 walked_none rf = record { size = omega arith; some = λ v h. h; all = λ less v h. h }
 
-pub has-walked : (rf : ℕ) (ns : List ℕ) (v : ℕ) → has (taken_after rf [] ns) v ≡ finds rf [] ns v
+pub has-walked : (rf : ℕ) (ns : List ℕ) (v : ℕ) → has (taken_after rf [] ns) v ≡ takes rf [] ns v
 has-walked rf ns v = has-taken_after rf [] [] ns (walked_none rf) v
 
 -- ---- the walk in parts
@@ -211,7 +165,7 @@ pub taken_full : (rf : ℕ) (taken ns : List ℕ) → rf ≤ length taken → ta
 taken_full rf taken [] full = refl
 taken_full rf taken (n ∷ ns) full =
     let choice : Bool → List ℕ = λ b. cond (b && not (has taken n)) (taken ++ n ∷ []) taken in
-    let none : taken_with rf taken n ≡ taken = ap choice (lt_false (length taken) rf full) in
+    let none : taken_with rf taken n ≡ taken = ap choice (le-ltb (length taken) rf full) in
     ap (λ l. taken_after rf l ns) none ∙ taken_full rf taken ns full
 
 pub taken_after-append : (rf : ℕ) (taken ms ns : List ℕ) → taken_after rf taken (ms ++ ns) ≡ taken_after rf (taken_after rf taken ms) ns

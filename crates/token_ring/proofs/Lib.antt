@@ -1,2 +1,4 @@
 pub mod OrderLemmas
 pub mod RingLemmas
+pub mod GroupLemmas
+pub mod PlaceLemmas

@@ -1,16 +1,17 @@
-use Rattle.std.proofs.Common.{◌≡◌, ℕ, ◌≤◌, [], ◌∷◌, List, refl, sym, ap, ◌∙◌, subst, arith, take, drop}
+use Rattle.std.proofs.Common.{◌≡◌, ◌≤◌, [], ◌∷◌, refl, sym, ap, ◌∙◌, arith, take, drop}
 use Rattle.std.specs.Ordering.{nat_cmp}
 use Rattle.cluster_terms.specs.Ascending.{ascending}
 use Rattle.cluster_terms.specs.Group.{nodes_of, place}
 use Rattle.cluster_terms.specs.Replication.{whole_group}
 use Rattle.simple_strategy.specs.Walk.{taken_after}
-use Rattle.simple_strategy.proofs.PlaceLemmas.{placed_by_walk, placed_nowhere}
+use Rattle.token_ring.proofs.PlaceLemmas.{placed_nowhere}
+use Rattle.simple_strategy.proofs.PlaceLemmas.{placed_by_walk}
 use Rattle.simple_strategy.proofs.walk.walk.Goals as goal
 
 pub returns-in_default : goal.returns-in_default
 returns-in_default c =
     let empty : c.args.ring.now ≡ [] = c.in_default.ensures.empty.0 refl in
-    ap (λ ring. place (whole_group c.args.rf ∷ []) c.args.t ring) empty ∙ placed_nowhere (whole_group c.args.rf) c.args.t
+    ap (λ ring. place (whole_group c.args.rf ∷ []) c.args.t ring) empty ∙ placed_nowhere (whole_group c.args.rf ∷ []) c.args.t
     ∙ ap (ascending nat_cmp) (sym c.in_ok-taken.ensures.items)
 
 pub returns : goal.returns

@@ -1,0 +1,5 @@
+pub mod CountLemmas
+pub mod WalkLemmas
+pub mod ListLemmas
+pub mod TallyLemmas
+pub mod PlaceLemmas

@@ -1,0 +1,4 @@
+pub mod Datacenter
+pub mod GroupedRing
+pub mod Shape
+pub mod Walk

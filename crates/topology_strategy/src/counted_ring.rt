@@ -1,0 +1,124 @@
+ghost use Rattle.std.specs.Prelude.{◌≡◌, ◌+◌, ◌++◌, IfOk};
+ghost use Rattle.std.specs.Ordering.{nat_cmp};
+ghost use Rattle.cluster_terms.specs.Ascending.{ascending};
+ghost use Rattle.cluster_terms.specs.Group.{nodes_of, place};
+ghost use Rattle.cluster_terms.specs.Replication.{groups_of};
+ghost use Rattle.topology_strategy.specs.Walk.{taken_in_all};
+
+use crate::datacenter::Datacenter;
+use crate::shape::{Shape, count_all};
+use crate::walk::Walk;
+use cluster_terms::{Factors, Memory, Name, NodeId, Pair, Replication, Rf, Steps, Token};
+use node_directory::Directory;
+use node_sets::NodeSet;
+use std::alloc::Global;
+use std::marker::Model;
+use std::sync::ledger::Ledger;
+use token_ring::Ring;
+
+/// A ring, the registered nodes, and the datacenters that are to have replicas there, with the nodes and the racks that
+/// each of these has in the ring.
+///
+/// The counts are the same at every token of a ring. Whoever asks at many makes this once, and then pays for the walks
+/// alone.
+#[derive(Drop)]
+pub struct CountedRing<'a> {
+    ring: &'a Ring,
+    dir: &'a Directory,
+    factors: &'a Factors,
+    shapes: Vec<Shape>,
+}
+
+impl<'a> Model for CountedRing<'a> {
+    ghost use Rattle.cluster_terms.specs.Group.{nodes_of};
+    ghost use Rattle.std.specs.Prelude.{◌≡◌};
+    ghost use Rattle.topology_strategy.specs.GroupedRing.{GroupedRing};
+    ghost use Rattle.topology_strategy.specs.Shape.{shapes_of};
+
+    ghost Value = { GroupedRing };
+
+    ghost view = { λ c. record { ring = c.ring.now; nodes = c.dir.now.rows; factors = c.factors.now } };
+
+    ghost invariant = { λ c. c.shapes.items ≡ shapes_of c.dir.now.rows c.factors.now (nodes_of c.ring.now) };
+}
+
+/// The nodes that are taken in some datacenters of these shapes, on a walk along the pairs from some place on and then
+/// along those in front of it.
+fn take_in_all(
+    alloc: Global,
+    dir: &Directory,
+    factors: &[(Name, Rf)],
+    shapes: &[Shape],
+    rest: &[Pair],
+    front: &[Pair],
+) -> Result<Vec<NodeId>, Memory>
+    ensures { IfOk result (λ taken. taken.items ≡ taken_in_all (nodes_of rest.now ++ nodes_of front.now) dir.now.rows factors.now shapes.now) }
+{
+    let mut taken = Vec::new(alloc);
+    for ((name, rf), shape) in factors.iter().zip(shapes) {
+        let datacenter = Datacenter { dir, name, rf: *rf };
+        let mut walk = Walk::begin(alloc, *shape)?;
+        walk.go_along(&datacenter, shape.wanted, rest)?;
+        walk.go_along(&datacenter, shape.wanted, front)?;
+        taken.extend_from_slice(&walk.taken)?;
+    }
+    Ok(taken)
+}
+
+impl<'a> CountedRing<'a> {
+    /// The ring with the datacenters that the factors name, whose nodes and racks are counted.
+    ///
+    /// Costs one pass over the nodes that have tokens for each named datacenter. A node costs a look-up in the
+    /// directory and, in its own datacenter, a look at no more racks than there are to be replicas.
+    pub fn new(
+        alloc: Global,
+        ring: &'a Ring,
+        dir: &'a Directory,
+        factors: &'a Factors,
+    ) -> Result<CountedRing<'a>, Memory>
+        ensures { IfOk result (λ c. c ≡ record { ring = ring.now; nodes = dir.now.rows; factors = factors.now }) }
+    {
+        let shapes = count_all(alloc, ring.pairs(), dir, factors.rows())?;
+        Ok(CountedRing {
+            ring,
+            dir,
+            factors,
+            shapes,
+        })
+    }
+
+    /// The nodes that the walks from a token take.
+    fn taken_at(&self, t: Token) -> Result<Vec<NodeId>, Memory>
+        ensures { IfOk result (λ taken. place (groups_of self.now.nodes (Replication.Topology self.now.factors)) t self.now.ring ≡ ascending nat_cmp taken.items) }
+    {
+        let alloc = *self.shapes.allocator();
+        let Some(first) = self.ring.first_at(t) else {
+            return Ok(Vec::new(alloc));
+        };
+        let (front, rest) = self.ring.pairs().split_at(first);
+        take_in_all(
+            alloc,
+            self.dir,
+            self.factors.rows(),
+            &self.shapes,
+            rest,
+            front,
+        )
+    }
+
+    /// The replicas of a token by NetworkTopologyStrategy: the nodes that the walks from the token take in the named
+    /// datacenters. See [`replicas`](crate::replicas).
+    ///
+    /// Costs one walk for each named datacenter, and no counting. A walk ends where its datacenter has all its
+    /// replicas, and goes round the ring at most once. A token that it meets costs a look-up in the directory and, in
+    /// its own datacenter, a look at no more nodes and racks than there are to be replicas. Counts one step of `walks`,
+    /// whatever it answers.
+    pub fn replicas<L: Ledger>(&self, t: Token, walks: &mut Steps<L>) -> Result<NodeSet, Memory>
+        ensures placement { IfOk result (λ replicas. replicas ≡ place (groups_of self.now.nodes (Replication.Topology self.now.factors)) t self.now.ring) }
+        ensures counted { walks.new ≡ walks.old + 1 }
+    {
+        walks.tick();
+        let taken = self.taken_at(t)?;
+        NodeSet::from_ids(*self.shapes.allocator(), &taken)
+    }
+}

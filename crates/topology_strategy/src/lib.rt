@@ -1,0 +1,11 @@
+//! Replicas by NetworkTopologyStrategy.
+#![tactic(auto)]
+
+mod counted_ring;
+mod datacenter;
+mod shape;
+mod strategy;
+mod walk;
+
+pub use counted_ring::CountedRing;
+pub use strategy::replicas;
