@@ -1,5 +1,7 @@
 ghost use Rattle.std.specs.Prelude.{◌≡◌, ◌<◌, ◌≤◌, List, [], ◌∷◌, ◌++◌, length, slice_set, IfOk, MatchResult};
+ghost use Rattle.std.specs.Fn.{CalledAt};
 ghost use Rattle.std.specs.List.{insert};
+ghost use Rattle.std.specs.List.Retain.{IsFiltered};
 
 use crate::memory::Memory;
 use crate::token::{Pair, Token};
@@ -92,6 +94,14 @@ impl<T: Drop> SmallList<T> {
         ensures { self.new ≡ slice_set self.old at item }
     {
         self.items[at] = item;
+    }
+
+    /// Keeps the items that a test accepts, in their order.
+    pub fn retain<F: FnMut(&T) -> bool>(&mut self, keep: F)
+        requires { F.IsAlwaysCallable keep }
+        ensures { IsFiltered (CalledAt F.FnMut) keep self.old self.new }
+    {
+        self.items.retain(keep);
     }
 }
 

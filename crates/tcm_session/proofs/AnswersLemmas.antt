@@ -4,11 +4,11 @@ use Rattle.transformations.specs.History.{empty_image, image_after}
 use Rattle.transformations.specs.Refusals.{refusal_of}
 use Rattle.transformations.specs.declared.command.Command.{Command}
 use Rattle.transformations.specs.declared.refusal.Refusal.{Refusal}
-use Rattle.tcm_session.specs.Grammar.{line_of}
+use Rattle.script_lang.specs.Grammar.{line_of}
 use Rattle.tcm_session.specs.Machine.{reply, reply_to, decided, answers, history_after}
-use Rattle.tcm_session.specs.declared.script_line.ScriptLine.{ScriptLine}
-use Rattle.tcm_session.specs.declared.script_line.ScriptLine.TheVariants.{Commit, Place}
-use Rattle.tcm_session.specs.declared.script_line.Target.TheVariants.{Epoch}
+use Rattle.script_lang.specs.declared.script_line.ScriptLine.{ScriptLine}
+use Rattle.script_lang.specs.declared.script_line.ScriptLine.TheVariants.{Commit, Place}
+use Rattle.script_lang.specs.declared.script_line.Target.TheVariants.{Epoch}
 
 -- lines and more lines
 pub answers-append : (h : List Command) (a b : List (List ℕ)) → answers h (a ++ b) ≡ answers h a ++ answers (history_after h a) b
@@ -20,20 +20,6 @@ answers-append h (l ∷ a) b =
 pub history_after-append : (h : List Command) (a b : List (List ℕ)) → history_after h (a ++ b) ≡ history_after (history_after h a) b
 history_after-append h [] b = refl
 history_after-append h (l ∷ a) b = history_after-append (reply h l).history a b
-
--- a line adds at most one command
-decided-grows : (h : List Command) (c : Command) (r : Option Refusal) → length (decided h c r).history ≤ length h + 1
-decided-grows h c (Some r) = omega arith
-decided-grows h c None = omega (arith, length-append h (c ∷ []))
-
-reply_to-grows : (h : List Command) (l : Option ScriptLine) → length (reply_to h l).history ≤ length h + 1
-reply_to-grows h None = omega arith
-reply_to-grows h (Some (Commit id command)) = decided-grows h command (refusal_of (image_after empty_image h) command)
-reply_to-grows h (Some (Place (Epoch e) name)) = omega arith
-
-pub reply-grows : (h : List Command) (bytes : List ℕ) → length (reply h bytes).history ≤ length h + 1
-unfolding reply
-reply-grows h bytes = reply_to-grows h (line_of bytes)
 
 -- the reply to a line is the reply to what it says
 pub reply-said : (h : List Command) (bytes : List ℕ) (said : Option ScriptLine) → said ≡ line_of bytes → reply_to h said ≡ reply h bytes

@@ -7,7 +7,6 @@ use Rattle.transformations.specs.declared.command.Command.{Command}
 use Rattle.tcm_session.specs.Lines.{HasNoFeed, whole_lines, open_line}
 use Rattle.tcm_session.specs.Machine.{reply, answers, history_after}
 use Rattle.tcm_session.specs.Runs.{Takes}
-use Rattle.tcm_session.proofs.AnswersLemmas.{reply-grows}
 use Rattle.tcm_session.proofs.LinesLemmas.{whole_lines-line, open_line-line, whole_lines-none, open_line-none, HasNoFeed-append}
 
 -- what the whole piece makes is what the rest makes from here
@@ -16,7 +15,6 @@ pub record Feeds (h : List Command) (o : List ℕ) (w : Option (List ℕ)) (piec
   pub accepted : history_after h (whole_lines (o ++ piece)) ≡ history_after h' (whole_lines (o' ++ rest))
   pub begun : open_line (o ++ piece) ≡ open_line (o' ++ rest)
   pub plain : HasNoFeed o'
-  pub room : length h' + length rest ≤ length h + length piece
 
 -- the lines of a line that has begun, its end, and what follows
 one_line : (o l more : List ℕ) → HasNoFeed o → HasNoFeed l → whole_lines (o ++ (l ++ 10 ∷ more)) ≡ (o ++ l) ∷ whole_lines more
@@ -33,15 +31,11 @@ module _ (h : List Command) (o : List ℕ) (w : Option (List ℕ)) (piece : List
       let lines : whole_lines (o₁ ++ rest) ≡ (o₁ ++ l) ∷ whole_lines more = ap (λ x. whole_lines (o₁ ++ x)) e ∙ one_line o₁ l more f.plain plain in
       let due : answers h₁ (whole_lines (o₁ ++ rest)) ≡ (reply h₁ (o₁ ++ l)).text ++ answers h₂ (whole_lines more) =
       ap (answers h₁) lines ∙ ap (λ x. (reply h₁ (o₁ ++ l)).text ++ answers x (whole_lines more)) (sym next) in
-      let grows = reply-grows h₁ (o₁ ++ l) in
-      let size : length rest ≡ length l + (length more + 1) = ap length e ∙ length-append l (10 ∷ more) ∙ omega arith in
-      let grown : length h₂ ≤ length h₁ + 1 = subst (λ x. length x ≤ length h₁ + 1) (sym next) grows in
       record {
         owes = Owes-write w w₁ w₂ (answers h (whole_lines (o ++ piece))) (reply h₁ (o₁ ++ l)).text (answers h₂ (whole_lines more)) (subst (Owes w w₁ (answers h (whole_lines (o ++ piece)))) due f.owes) wrote;
         accepted = f.accepted ∙ ap (history_after h₁) lines ∙ ap (λ x. history_after x (whole_lines more)) (sym next);
         begun = f.begun ∙ ap (λ x. open_line (o₁ ++ x)) e ∙ one_begun o₁ l more f.plain plain;
         plain = tt;
-        room = omega (arith, f.room);
       }
 
   -- of the answer to the next line a prefix is written

@@ -1,12 +1,7 @@
 pub mod AnswersLemmas
 pub mod CauseLemmas
-pub mod CommandLemmas
-pub mod Counts
+pub mod HistoryLemmas
 pub mod FeedLemmas
 pub mod LinesLemmas
-pub mod NameTexts
-pub mod Numerals
 pub mod OutcomeLemmas
 pub mod ReadLemmas
-pub mod RegisterTexts
-pub mod TokenTexts

@@ -1,10 +1,9 @@
 pub mod Endings
 pub mod Faults
-pub mod Grammar
-pub mod Groups
 pub mod Lines
 pub mod Machine
 pub mod Outcome
+pub mod Placers
 pub mod RingKinds
 pub mod Runs
-pub mod Texts
+pub mod Serving

@@ -1,17 +1,16 @@
 -- The session machine: what a line is answered, and which commands are accepted after it.
 use Rattle.std.specs.Prelude.{ℕ, ◌+◌, if◌then◌else◌, List, [], ◌∷◌, ◌++◌, length, Option, Some, None, nat_le, find, codes, decimal}
 use Rattle.std.specs.Str.{bytes_eq}
-use Rattle.transformations.specs.History.{empty_image, image_after, state_after}
-use Rattle.transformations.specs.Refusals.{refusal_of}
+use Rattle.transformations.specs.History.{commit_refusal, state_after}
 use Rattle.transformations.specs.declared.command.Command.{Command}
 use Rattle.transformations.specs.declared.image.Image.{Image}
 use Rattle.transformations.specs.declared.keyspace.KeyspaceRow.{KeyspaceRow}
 use Rattle.transformations.specs.declared.refusal.Refusal.{Refusal}
-use Rattle.tcm_session.specs.Grammar.{line_of}
-use Rattle.tcm_session.specs.Texts.{ok_text, no_text, refusal_text, place_text}
-use Rattle.tcm_session.specs.declared.script_line.ScriptLine.{ScriptLine}
-use Rattle.tcm_session.specs.declared.script_line.ScriptLine.TheVariants.{Commit, Place}
-use Rattle.tcm_session.specs.declared.script_line.Target.TheVariants.{Epoch}
+use Rattle.script_lang.specs.Grammar.{line_of}
+use Rattle.script_lang.specs.Texts.{ok_text, no_text, refusal_text, place_text, nodes_text}
+use Rattle.script_lang.specs.declared.script_line.ScriptLine.{ScriptLine}
+use Rattle.script_lang.specs.declared.script_line.ScriptLine.TheVariants.{Commit, Place, Nodes}
+use Rattle.script_lang.specs.declared.script_line.Target.TheVariants.{Epoch}
 
 -- the answer to a line, and the history after it
 pub record Reply : Type 0 where
@@ -24,28 +23,35 @@ decided history command (Some refusal) = record { text = no_text (refusal_text r
 decided history command None = record { text = ok_text (length history + 1); history = history ++ command ∷ [] }
 
 abbrev pub commit_reply : List Command → Command → Reply
-commit_reply history command = decided history command (refusal_of (image_after empty_image history) command)
+commit_reply history command = decided history command (commit_refusal history command)
 
 -- the keyspace of a name
 abbrev pub keyspace_named : Image → List ℕ → Option KeyspaceRow
 keyspace_named image name = find (λ row. bytes_eq row.name name) image.keyspaces
 
--- placements are those of the keyspace in the image of the epoch that was asked for
+-- a query is answered from the image of its epoch, where the history has come so far
+abbrev pub query_answer : List Command → ℕ → (Image → List ℕ) → List ℕ
+query_answer history epoch answer =
+    if nat_le epoch (length history) then answer (state_after history epoch) else no_text (codes "EPOCH " ++ decimal (length history))
+
+-- the placements of a keyspace, and those at an epoch
 abbrev pub placements : Image → Option KeyspaceRow → List ℕ
 placements image None = no_text (codes "KEYSPACE")
 placements image (Some keyspace) = place_text image keyspace
 
 abbrev pub place_answer : List Command → ℕ → List ℕ → List ℕ
-place_answer history epoch name =
-    if nat_le epoch (length history)
-    then (let image = state_after history epoch in placements image (keyspace_named image name))
-    else no_text (codes "EPOCH " ++ decimal (length history))
+place_answer history epoch name = query_answer history epoch (λ image. placements image (keyspace_named image name))
+
+-- the nodes at an epoch
+abbrev pub nodes_answer : List Command → ℕ → List ℕ
+nodes_answer history epoch = query_answer history epoch nodes_text
 
 -- the reply to what a line says; bytes that are in no form change nothing, and neither does a query
 abbrev pub reply_to : List Command → Option ScriptLine → Reply
 reply_to history None = record { text = no_text (codes "BAD-LINE"); history = history }
 reply_to history (Some (Commit id command)) = commit_reply history command
 reply_to history (Some (Place (Epoch epoch) name)) = record { text = place_answer history epoch name; history = history }
+reply_to history (Some (Nodes (Epoch epoch))) = record { text = nodes_answer history epoch; history = history }
 
 -- the reply to a line
 unfoldable pub reply : List Command → List ℕ → Reply

@@ -5,7 +5,7 @@ use Rattle.std.specs.Str.{bytes_eq}
 use Rattle.tcm_edges.specs.Owed.{WritesPrefix}
 use Rattle.tcm_session.specs.Lines.{whole_lines, script_lines}
 use Rattle.tcm_session.specs.Machine.{answers}
-use Rattle.tcm_session.specs.Texts.{line}
+use Rattle.script_lang.specs.Texts.{line}
 
 pub record Outcome : Type 0 where
   pub status : ℕ

@@ -1,13 +1,29 @@
 //! What a command makes of an image.
 
-ghost use Rattle.std.specs.Prelude.{◌≡◌, ◌+◌, ◌-◌, ◌<◌, ◌≤◌, ◌^◌, length, IfOk, MatchResult};
-ghost use Rattle.transformations.specs.History.{empty_image as empty, image_after, next_image};
+ghost use Rattle.std.specs.Prelude.{◌≡◌, ◌==◌, ◌+◌, ◌-◌, ◌<◌, ◌≤◌, ◌^◌, filter, length, not, IfOk, MatchResult};
+ghost use Rattle.std.specs.Str.{bytes_eq};
+ghost use Rattle.transformations.specs.History.{empty_image as empty, image_after, next_image, pairs_of};
 ghost use Rattle.transformations.specs.declared.command.Command.TheVariants as command;
 
-use crate::commands::{empty_image, pairs_with};
-use cluster_terms::{Memory, Name, NodeId, NodeRow, Replication, Token, TryCopy};
+use cluster_terms::{
+    Memory, Name, NodeId, NodeRow, NodeRows, Pair, Replication, SmallList, Token, TryCopy,
+};
 use std::alloc::Global;
-use transformations::{Command, Image, KeyspaceRow};
+use transformations::{Command, Image, KeyspaceRow, KeyspaceRows};
+
+/// The image before the first command.
+pub fn empty_image(alloc: Global) -> Image
+    ensures { result ≡ empty }
+{
+    Image {
+        epoch: 0,
+        next: 1,
+        nodes: SmallList::empty(alloc),
+        tokens: SmallList::empty(alloc),
+        keyspaces: SmallList::empty(alloc),
+        sequences: SmallList::empty(alloc),
+    }
+}
 
 /// Adds a node under the next id. Want of memory changes nothing.
 #[tactic(auto, unfolding(transformations::specs::History::next_image))]
@@ -27,6 +43,37 @@ fn register(image: &mut Image, name: Name, dc: Name, rack: Name) -> Result<(), M
     image.next += 1;
     image.epoch += 1;
     Ok(())
+}
+
+/// Keeps the rows of the other nodes.
+fn remove_node(rows: &mut NodeRows, node: NodeId)
+    ensures { rows.new ≡ filter (λ row. not (row.id == node)) rows.old }
+{
+    rows.retain(|row| row.id != node);
+}
+
+/// Removes a node.
+#[tactic(auto, unfolding(transformations::specs::History::next_image))]
+fn unregister(image: &mut Image, node: NodeId)
+    requires epoch { image.old.epoch < 2 ^ 64 - 1 }
+    ensures { image.new ≡ next_image image.old (command.Unregister node) }
+{
+    remove_node(&mut image.nodes, node);
+    image.epoch += 1;
+}
+
+/// The pairs of a node and its tokens.
+fn pairs_with(alloc: Global, node: NodeId, tokens: &[Token]) -> Result<Vec<Pair>, Memory>
+    ensures { IfOk result (λ pairs. pairs.items ≡ pairs_of node tokens.now) }
+{
+    let pairs = tokens
+        .iter()
+        .map(|token| Pair {
+            token: *token,
+            node,
+        })
+        .collect(alloc)?;
+    Ok(pairs)
 }
 
 /// Gives tokens to a node. Want of memory changes nothing.
@@ -54,6 +101,23 @@ fn set_keyspace(image: &mut Image, name: Name, replication: Replication) -> Resu
     Ok(())
 }
 
+/// Keeps the keyspaces of other names.
+fn remove_keyspace(rows: &mut KeyspaceRows, name: &Name)
+    ensures { rows.new ≡ filter (λ row. not (bytes_eq row.name name.now)) rows.old }
+{
+    rows.retain(|row| row.name.as_str() != name.as_str());
+}
+
+/// Removes a keyspace.
+#[tactic(auto, unfolding(transformations::specs::History::next_image))]
+fn drop_keyspace(image: &mut Image, name: &Name)
+    requires epoch { image.old.epoch < 2 ^ 64 - 1 }
+    ensures { image.new ≡ next_image image.old (command.DropKeyspace name.now) }
+{
+    remove_keyspace(&mut image.keyspaces, name);
+    image.epoch += 1;
+}
+
 /// Applies a command to an image. Want of memory changes nothing.
 pub fn apply(alloc: Global, image: &mut Image, command: &Command) -> Result<(), Memory>
     requires epoch { image.old.epoch < 2 ^ 64 - 1 }
@@ -64,9 +128,17 @@ pub fn apply(alloc: Global, image: &mut Image, command: &Command) -> Result<(), 
         Command::Register { name, dc, rack } => {
             register(image, name.copy()?, dc.copy()?, rack.copy()?)
         }
+        Command::Unregister { node } => {
+            unregister(image, *node);
+            Ok(())
+        }
         Command::UnsafeJoin { node, tokens } => join(alloc, image, *node, tokens.as_slice()),
         Command::Keyspace { name, replication } => {
             set_keyspace(image, name.copy()?, replication.copy()?)
+        }
+        Command::DropKeyspace { name } => {
+            drop_keyspace(image, name);
+            Ok(())
         }
     }
 }

@@ -2,25 +2,20 @@
 #![tactic(auto)]
 
 mod apply;
-mod arc;
-mod commands;
-mod count;
 mod fault;
-mod grammar;
-mod group;
+#[cfg(test)]
+mod fault_tests;
+#[cfg(test)]
+mod limit_tests;
 mod lines;
-mod number;
 mod place_text;
 mod placement;
 mod program;
 mod reading;
-mod replica;
 mod rings;
 mod script;
-mod script_line;
 mod session;
 #[cfg(test)]
 mod tests;
-mod texts;
 
-pub use program::{Status, run};
+pub use program::{Status, run, run_surely};

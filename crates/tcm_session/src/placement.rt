@@ -1,122 +1,130 @@
-//! The placement that a ring gives at a token.
+//! The placements that the rings of an image give.
 
-ghost use Rattle.std.specs.Prelude.{◌≡◌, ◌<◌, [], ◌∷◌, filter, map, IfOk};
-ghost use Rattle.std.specs.List.{list_any};
-ghost use Rattle.cluster_terms.specs.Group.{is_replica as replica_of, is_replica_of_any, nodes_of as nodes_in, place as placed};
-ghost use Rattle.cluster_terms.specs.Replication.{datacenter_group, groups_of, whole_group};
+ghost use Rattle.std.specs.Prelude.{◌≡◌, ◌<◌, ℤ, [], ◌∷◌, IfOk};
+ghost use Rattle.cluster_terms.specs.Group.{place as placed};
+ghost use Rattle.cluster_terms.specs.Replication.{groups_of, whole_group};
+ghost use Rattle.transformations.specs.Rings.{high_ring, low_ring, read_ring, reads_at as reads_of, writes_at as writes_of};
+ghost use Rattle.tcm_session.specs.Placers.{IsPlacing, placed_by};
 
-use crate::group::Group;
-use crate::replica::is_replica;
-use cluster_terms::{Memory, Name, NodeId, NodeRow, Pair, Replication, Rf, Steps, Token};
+use crate::rings::Rings;
+use cluster_terms::{Memory, Replication, Rf, Steps, Token};
+use node_directory::Directory;
 use node_sets::NodeSet;
 use std::alloc::Global;
 use std::marker::Brand;
 use std::sync::ledger::{Blank, Ledger};
 use token_ring::Ring;
+use topology_strategy::CountedRing;
+use transformations::Image;
 
-/// The placement at a token: the replicas of all groups of a replication. Of SimpleStrategy they are walked, of
-/// NetworkTopologyStrategy they are counted, node by node.
-pub fn place(
-    alloc: Global,
-    nodes: &[NodeRow],
-    replication: &Replication,
-    ring: &Ring,
-    at: Token,
-) -> Result<NodeSet, Memory>
-    ensures { IfOk result (λ ids. ids ≡ placed (groups_of nodes.now replication.now) at ring.now) }
-{
-    match replication {
-        Replication::Simple(rf) => walked::<Brand>(alloc, ring, *rf, at, Blank::new(1)),
-        Replication::Topology(factors) => counted(alloc, nodes, factors.rows(), ring.pairs(), at),
-    }
+/// A ring, with the strategy that places replicas on it.
+#[derive(Drop)]
+pub enum Placer<'a> {
+    /// SimpleStrategy, with its factor.
+    Simple(&'a Ring, Rf),
+    /// NetworkTopologyStrategy, with its datacenters counted.
+    Topology(CountedRing<'a>),
 }
 
-/// The replicas by SimpleStrategy.
-fn walked<L: Ledger>(
-    alloc: Global,
-    ring: &Ring,
-    rf: Rf,
-    at: Token,
-    blank: Blank,
-) -> Result<NodeSet, Memory>
-    requires name { blank.name ≡ L.name }
-    requires parts { blank.parts ≡ L.parts }
-    requires some { 0 < blank.parts }
-    ensures { IfOk result (λ ids. ids ≡ placed (whole_group rf ∷ []) at ring.now) }
-{
-    let mut walks = Steps::<L>::begin(blank);
-    simple_strategy::replicas(alloc, ring, rf, at, &mut walks)
-}
-
-/// The replicas by NetworkTopologyStrategy.
-#[tactic(auto, unfolding(cluster_terms::specs::Group::place))]
-fn counted(
-    alloc: Global,
-    nodes: &[NodeRow],
-    factors: &[(Name, Rf)],
-    pairs: &[Pair],
-    at: Token,
-) -> Result<NodeSet, Memory>
-    ensures { IfOk result (λ ids. ids ≡ placed (map (datacenter_group nodes.now) factors.now) at pairs.now) }
-{
-    let replicas = replicas_among(alloc, nodes, factors, pairs, at)?;
-    NodeSet::from_ids(alloc, &replicas)
-}
-
-/// The nodes of some pairs that are replicas at a token, as often as they stand there.
-fn replicas_among(
-    alloc: Global,
-    nodes: &[NodeRow],
-    factors: &[(Name, Rf)],
-    pairs: &[Pair],
-    at: Token,
-) -> Result<Vec<NodeId>, Memory>
-    ensures { IfOk result (λ replicas. replicas.items ≡ filter (is_replica_of_any (map (datacenter_group nodes.now) factors.now) at pairs.now) (nodes_in pairs.now)) }
-{
-    let mut replicas = Vec::new(alloc);
-    for pair in pairs {
-        if has_replica(alloc, nodes, factors, pairs, at, pair.node)? {
-            replicas.push(pair.node)?;
+impl<'a> Placer<'a> {
+    /// The placer of a replication on a ring.
+    fn new(
+        alloc: Global,
+        ring: &'a Ring,
+        dir: &'a Directory,
+        replication: &'a Replication,
+    ) -> Result<Placer<'a>, Memory>
+        ensures { IfOk result (λ placer. (x : ℤ) → placed_by placer x ≡ placed (groups_of dir.now.rows replication.now) x ring.now) }
+    {
+        match replication {
+            Replication::Simple(rf) => Ok(Placer::Simple(ring, *rf)),
+            Replication::Topology(factors) => {
+                let counted = CountedRing::new(alloc, ring, dir, factors)?;
+                Ok(Placer::Topology(counted))
+            }
         }
     }
-    Ok(replicas)
-}
 
-/// Whether a node is a replica of some datacenter.
-#[tactic(auto, using(crate::proofs::Counts::any_of_mapped))]
-fn has_replica(
-    alloc: Global,
-    nodes: &[NodeRow],
-    factors: &[(Name, Rf)],
-    pairs: &[Pair],
-    at: Token,
-    node: NodeId,
-) -> Result<bool, Memory>
-    ensures { IfOk result (λ has. has ≡ is_replica_of_any (map (datacenter_group nodes.now) factors.now) at pairs.now node) }
-{
-    has_replica_in(alloc, nodes, factors, pairs, at, node)
-}
+    /// The replicas at a token.
+    fn place(&self, alloc: Global, at: Token) -> Result<NodeSet, Memory>
+        ensures { IfOk result (λ nodes. nodes ≡ placed_by self.now at) }
+    {
+        self.walked::<Brand>(alloc, at, Blank::new(1))
+    }
 
-/// The same, factor by factor.
-fn has_replica_in(
-    alloc: Global,
-    nodes: &[NodeRow],
-    factors: &[(Name, Rf)],
-    pairs: &[Pair],
-    at: Token,
-    node: NodeId,
-) -> Result<bool, Memory>
-    ensures { IfOk result (λ has. has ≡ list_any (λ f. replica_of (datacenter_group nodes.now f) at pairs.now node) factors.now) }
-{
-    for (name, rf) in factors {
-        let group = Group {
-            name,
-            nodes,
-            rf: *rf,
-        };
-        if is_replica(alloc, &group, pairs, at, node)? {
-            return Ok(true);
+    fn walked<L: Ledger>(&self, alloc: Global, at: Token, blank: Blank) -> Result<NodeSet, Memory>
+        requires name { blank.name ≡ L.name }
+        requires parts { blank.parts ≡ L.parts }
+        requires some { 0 < blank.parts }
+        ensures { IfOk result (λ nodes. nodes ≡ placed_by self.now at) }
+    {
+        let mut walks = Steps::<L>::begin(blank);
+        match self {
+            Placer::Simple(ring, rf) => simple_strategy::replicas(alloc, ring, *rf, at, &mut walks),
+            Placer::Topology(counted) => counted.replicas(at, &mut walks),
         }
     }
-    Ok(false)
+}
+
+/// The placers of the rings of an image.
+#[derive(Drop)]
+pub struct Placers<'a> {
+    low: Placer<'a>,
+    read: Placer<'a>,
+    high: Placer<'a>,
+}
+
+impl<'a> Placers<'a> {
+    /// The placers of a replication on the rings of an image, whose nodes are those of the directory.
+    pub fn new(
+        alloc: Global,
+        image: &Image,
+        rings: &'a Rings,
+        dir: &'a Directory,
+        replication: &'a Replication,
+    ) -> Result<Placers<'a>, Memory>
+        requires low { rings.now.low ≡ low_ring image.now }
+        requires read { rings.now.read ≡ read_ring image.now }
+        requires high { rings.now.high ≡ high_ring image.now }
+        requires nodes { dir.now.rows ≡ image.now.nodes }
+        ensures { IfOk result (λ placers. IsPlacing image.now replication.now placers) }
+    {
+        Ok(Placers {
+            low: Placer::new(alloc, &rings.low, dir, replication)?,
+            read: Placer::new(alloc, &rings.read, dir, replication)?,
+            high: Placer::new(alloc, &rings.high, dir, replication)?,
+        })
+    }
+
+    /// The nodes that are read at a token.
+    #[tactic(auto, unfolding(transformations::specs::Rings::reads_at))]
+    pub fn reads_at(
+        &self,
+        alloc: Global,
+        image: &Image,
+        replication: &Replication,
+        at: Token,
+    ) -> Result<NodeSet, Memory>
+        requires { IsPlacing image.now replication.now self.now }
+        ensures { IfOk result (λ nodes. nodes ≡ reads_of image.now replication.now at) }
+    {
+        self.read.place(alloc, at)
+    }
+
+    /// The nodes that are written at a token: on the ring before the movements, or on the one that writes see.
+    #[tactic(auto, unfolding(transformations::specs::Rings::writes_at))]
+    pub fn writes_at(
+        &self,
+        alloc: Global,
+        image: &Image,
+        replication: &Replication,
+        at: Token,
+    ) -> Result<NodeSet, Memory>
+        requires { IsPlacing image.now replication.now self.now }
+        ensures { IfOk result (λ nodes. nodes ≡ writes_of image.now replication.now at) }
+    {
+        let before = self.low.place(alloc, at)?;
+        let after = self.high.place(alloc, at)?;
+        before.union(&after)
+    }
 }

@@ -1,4 +1,4 @@
-ghost use Rattle.std.specs.Prelude.{◌≡◌, ◌≢◌, ◌⊎◌, ℕ, ◌+◌, ◌<◌, ◌-◌, ◌^◌, ◌≤◌, [], false, map, string_bytes, length, IfOk, OnOk, IsErrOf};
+ghost use Rattle.std.specs.Prelude.{◌≡◌, ◌≢◌, ◌⊎◌, ℕ, ◌+◌, ◌<◌, ◌-◌, ◌^◌, ◌≤◌, [], Some, false, map, string_bytes, length, IfOk, OnOk, IsErrOf};
 ghost use Rattle.std.specs.Io.KnownBytes.{Appends, IsAtEnd};
 ghost use Rattle.tcm_edges.specs.Causes.{HasWriteCause, Rose};
 ghost use Rattle.tcm_edges.specs.Owed.{WritesPrefix};
@@ -12,7 +12,7 @@ use crate::reading::{ReadEnd, read_script};
 use crate::script::answer_line;
 use crate::session::Session;
 use std::alloc::Global;
-use tcm_edges::{Sink, Source, Store, write_all};
+use tcm_edges::{Sink, Source, Store, SureSink, SureSource, SureStore, write_all};
 
 const USAGE: &str = "usage: tcm commit [LOG] | replay FILE.. | snapshot LOG E | gen START N\n";
 
@@ -61,7 +61,6 @@ fn finish<K: Sink>(
     ending: ReadEnd,
     out: &mut K,
 ) -> Result<Status, RunFault>
-    requires { length session.old < 2 ^ 32 - 2 }
     ensures ok { OnOk result (Appends (K.written out.old) (K.written out.new) (ending_text ending session.old begun.now)) }
     ensures status { IfOk result (λ status. status.0 ≡ ending_status ending) }
     ensures part { WritesPrefix (K.written out.old) (K.written out.new) (ending_text ending session.old begun.now) }
@@ -169,6 +168,10 @@ pub fn run<S: Source, K: Sink, D: Store>(
     ensures read_fault { result.0 ≡ 4
         → AnswersWhatIsRead (S.left input.old) (S.left input.new) (K.written out.old) (K.written out.new) }
 
+    // Where no count of faults rises, only memory can be wanting.
+    ensures complete { (Rose (S.faults input.old) (S.faults input.new) → ⊥) → (Rose (K.faults out.old) (K.faults out.new) → ⊥)
+        → (result.0 ≡ 1) ⊎ HasOutcome (outcome (map string_bytes words.now)) (S.left input.old) (K.written out.old) (K.written out.new) result.0 }
+
     // What each status shows.
     ensures statuses { IsStatus result.0 }
     ensures source_cause { result.0 ≡ 4 → Rose (S.faults input.old) (S.faults input.new) }
@@ -186,4 +189,17 @@ pub fn run<S: Source, K: Sink, D: Store>(
         Ok(status) => status,
         Err(fault) => fault_status(fault),
     }
+}
+
+/// Runs over objects that never fail: the status and the bytes are those of the outcome, or memory was wanting.
+pub fn run_surely(
+    alloc: Global,
+    words: &[String],
+    input: &mut SureSource,
+    out: &mut SureSink,
+    store: &mut SureStore,
+) -> Status
+    ensures { (result.0 ≡ 1) ⊎ HasOutcome (outcome (map string_bytes words.now)) (Some input.old.bytes) (Some out.old) (Some out.new) result.0 }
+{
+    run(alloc, words, input, out, store)
 }

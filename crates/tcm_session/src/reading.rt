@@ -36,13 +36,11 @@ fn read_piece<S: Source, K: Sink>(
     out: &mut K,
 ) -> Result<usize, RunFault>
     requires buffer { 0 < length buffer.old }
-    requires room { length session.old + length buffer.old < 2 ^ 32 - 2 }
     requires begun { HasNoFeed begun.old.items }
     ensures ok { IfOk result (λ n. ReadsOnce n (S.left input.old) (S.left input.new)
         session.old begun.old.items (K.written out.old) session.new begun.new.items (K.written out.new)) }
     ensures bound { IfOk result (λ n. n ≤ length buffer.old) }
     ensures begun { OnOk result (HasNoFeed begun.new.items) }
-    ensures room { IfOk result (λ n. length session.new ≤ length session.old + n) }
     ensures part { Reads (length buffer.old) (S.left input.old) (S.left input.new)
         session.old begun.old.items (K.written out.old) (K.written out.new) }
     ensures source { IsErrOf result fault.Source → ReadsWhole (S.left input.old) (S.left input.new)
@@ -86,12 +84,10 @@ pub fn read_script<S: Source, K: Sink>(
     input: &mut S,
     out: &mut K,
 ) -> Result<ReadEnd, RunFault>
-    requires room { length session.old + input_limit < 2 ^ 32 - 2 }
     requires begun { HasNoFeed begun.old.items }
     ensures ok { IfOk result (λ ending. ReadsTo ending (S.left input.old) (S.left input.new)
         session.old begun.old.items (K.written out.old) session.new begun.new.items (K.written out.new)) }
     ensures begun { OnOk result (HasNoFeed begun.new.items) }
-    ensures room { OnOk result (length session.new ≤ length session.old + input_limit) }
     ensures part { Reads input_limit (S.left input.old) (S.left input.new)
         session.old begun.old.items (K.written out.old) (K.written out.new) }
     ensures source { IsErrOf result fault.Source → ReadsWhole (S.left input.old) (S.left input.new)

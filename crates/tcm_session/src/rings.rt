@@ -1,15 +1,15 @@
-//! The rings of an image, and the reads and writes that they give.
+//! The rings and the directory of an image.
 
-ghost use Rattle.std.specs.Prelude.{◌≡◌, ◌++◌, filter, flat_map, map, not, IfOk, OnOk};
+ghost use Rattle.std.specs.Prelude.{◌≡◌, ◌++◌, filter, flat_map, map, not, IfOk, IsTrue, OnOk};
 ghost use Rattle.std.specs.Set.{is_member};
 ghost use Rattle.transformations.specs.Orders.{same_pair};
-ghost use Rattle.transformations.specs.Rings.{cuts as cuts_of, high_ring, incoming, low_ring, outgoing, read_ring, reads_at as reads_of, ring_at, widest as widest_of, writes_at as writes_of};
+ghost use Rattle.transformations.specs.Rings.{cuts as cuts_of, high_ring, incoming, low_ring, outgoing, read_ring, ring_at, widest as widest_of};
+ghost use Rattle.node_directory.specs.Directory.{is_directory};
 ghost use Rattle.token_ring.specs.Ring.{IsRing};
 ghost use Rattle.tcm_session.specs.RingKinds.{sees, seen_rows};
 
-use crate::placement::place;
-use cluster_terms::{Memory, Pair, PairList, Replication, Token, TokenList, TryCopy};
-use node_sets::NodeSet;
+use cluster_terms::{Memory, Pair, PairList, Token, TokenList, TryCopy};
+use node_directory::Directory;
 use std::alloc::Global;
 use token_ring::Ring;
 use transformations::{Image, Phase, SeqRow};
@@ -155,36 +155,13 @@ pub fn rings_of(alloc: Global, image: &Image) -> Result<Rings, Memory>
     })
 }
 
-/// The nodes that are read at a token.
-#[tactic(auto, unfolding(transformations::specs::Rings::reads_at))]
-pub fn reads_at(
-    alloc: Global,
-    image: &Image,
-    rings: &Rings,
-    replication: &Replication,
-    at: Token,
-) -> Result<NodeSet, Memory>
-    requires { rings.now.read ≡ read_ring image.now }
-    ensures { IfOk result (λ nodes. nodes ≡ reads_of image.now replication.now at) }
+/// The directory of an image's nodes.
+pub fn directory_of(alloc: Global, image: &Image) -> Result<Directory, Memory>
+    requires { IsTrue (is_directory 1 image.now.nodes image.now.next) }
+    ensures { IfOk result (λ dir. dir.rows ≡ image.now.nodes) }
 {
-    place(alloc, image.nodes.as_slice(), replication, &rings.read, at)
-}
-
-/// The nodes that are written at a token: on the ring before the movements, or on the one that writes see.
-#[tactic(auto, unfolding(transformations::specs::Rings::writes_at))]
-pub fn writes_at(
-    alloc: Global,
-    image: &Image,
-    rings: &Rings,
-    replication: &Replication,
-    at: Token,
-) -> Result<NodeSet, Memory>
-    requires low { rings.now.low ≡ low_ring image.now }
-    requires high { rings.now.high ≡ high_ring image.now }
-    ensures { IfOk result (λ nodes. nodes ≡ writes_of image.now replication.now at) }
-{
-    let nodes = image.nodes.as_slice();
-    let before = place(alloc, nodes, replication, &rings.low, at)?;
-    let after = place(alloc, nodes, replication, &rings.high, at)?;
-    before.union(&after)
+    match Directory::from_rows(alloc, image.nodes.as_slice(), image.next)? {
+        Some(dir) => Ok(dir),
+        None => unreachable!(),
+    }
 }

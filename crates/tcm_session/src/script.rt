@@ -19,11 +19,9 @@ pub fn answer_line<K: Sink>(
     line: &[u8],
     out: &mut K,
 ) -> Result<(), RunFault>
-    requires { length session.old < 2 ^ 32 - 2 }
     ensures written { OnOk result (Appends (K.written out.old) (K.written out.new) (reply session.old line.now).text) }
     ensures history { OnOk result (session.new ≡ (reply session.old line.now).history) }
     ensures part { WritesPrefix (K.written out.old) (K.written out.new) (reply session.old line.now).text }
-    ensures room { OnOk result (length session.new ≤ length session.old + 1) }
     ensures cause { HasRunCause 0 0 (K.faults out.old) (K.faults out.new) result }
 {
     let mut text = ByteText::empty(alloc);
@@ -41,12 +39,10 @@ pub fn feed<K: Sink>(
     piece: &[u8],
     out: &mut K,
 ) -> Result<(), RunFault>
-    requires room { length session.old + length piece.now < 2 ^ 32 - 2 }
     requires begun { HasNoFeed begun.old.items }
     ensures ok { OnOk result (Takes piece.now session.old begun.old.items (K.written out.old) session.new begun.new.items (K.written out.new)) }
     ensures begun { OnOk result (HasNoFeed begun.new.items) }
     ensures part { WritesPrefix (K.written out.old) (K.written out.new) (answers session.old (whole_lines (begun.old.items ++ piece.now))) }
-    ensures room { OnOk result (length session.new ≤ length session.old + length piece.now) }
     ensures cause { HasRunCause 0 0 (K.faults out.old) (K.faults out.new) result }
 {
     let mut rest = piece;

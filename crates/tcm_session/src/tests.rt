@@ -42,7 +42,7 @@ fn ran(alloc: Global, word: &str, script: &[u8], piece: usize) -> Result<(Status
 }
 
 /// Names of worked scripts, with the scripts and their answers.
-const SCRIPTS: [(&str, &str, &str); 8] = [
+const SCRIPTS: [(&str, &str, &str); 14] = [
     (
         "one-node",
         "commit 1 register a dc1 r1\ncommit 2 unsafe-join 1 0\ncommit 3 keyspace ks simple 1\nplace @3 ks\n",
@@ -66,14 +66,44 @@ const SCRIPTS: [(&str, &str, &str); 8] = [
         "OK 1\nPLACE 1 ks 1\n(min,max] read - write -\n",
     ),
     (
-        "unknown-things",
-        "place @1 ks\nplace @0 ks\n",
-        "NO EPOCH 0\nNO KEYSPACE\n",
-    ),
-    (
         "four nodes",
         "commit 1 register a dc1 r1\ncommit 2 register b dc1 r1\ncommit 3 register c dc1 r1\ncommit 4 register d dc1 r1\ncommit 5 unsafe-join 4 300\ncommit 6 unsafe-join 3 200\ncommit 7 unsafe-join 2 100\ncommit 8 unsafe-join 1 0\ncommit 9 keyspace ks simple 3\ncommit 10 keyspace ks simple 2\nplace @9 ks\nplace @10 ks\nplace @7 ks\n",
         "OK 1\nOK 2\nOK 3\nOK 4\nOK 5\nOK 6\nOK 7\nOK 8\nOK 9\nOK 10\nPLACE 9 ks 5\n(min,0] read 1,2,3 write 1,2,3\n(0,100] read 2,3,4 write 2,3,4\n(100,200] read 1,3,4 write 1,3,4\n(200,300] read 1,2,4 write 1,2,4\n(300,max] read 1,2,3 write 1,2,3\nPLACE 10 ks 5\n(min,0] read 1,2 write 1,2\n(0,100] read 2,3 write 2,3\n(100,200] read 3,4 write 3,4\n(200,300] read 1,4 write 1,4\n(300,max] read 1,2 write 1,2\nNO KEYSPACE\n",
+    ),
+    (
+        "racks-and-repeats",
+        "commit 1 register a dc1 a\ncommit 2 register b dc1 a\ncommit 3 register c dc1 a\ncommit 4 register d dc1 b\ncommit 5 unsafe-join 1 0\ncommit 6 unsafe-join 2 100\ncommit 7 unsafe-join 3 200\ncommit 8 unsafe-join 4 300\ncommit 9 keyspace kt topology dc1:3\nplace @9 kt\n",
+        "OK 1\nOK 2\nOK 3\nOK 4\nOK 5\nOK 6\nOK 7\nOK 8\nOK 9\nPLACE 9 kt 5\n(min,0] read 1,2,4 write 1,2,4\n(0,100] read 2,3,4 write 2,3,4\n(100,200] read 1,3,4 write 1,3,4\n(200,300] read 1,2,4 write 1,2,4\n(300,max] read 1,2,4 write 1,2,4\n",
+    ),
+    (
+        "two-datacenters",
+        "commit 1 register a dc1 r1\ncommit 2 register b dc1 r1\ncommit 3 register c dc1 r1\ncommit 4 register d dc2 r1\ncommit 5 register e dc2 r1\ncommit 6 unsafe-join 1 0\ncommit 7 unsafe-join 2 100\ncommit 8 unsafe-join 3 200\ncommit 9 unsafe-join 4 300\ncommit 10 unsafe-join 5 400\ncommit 11 keyspace kt topology dc2:2 dc1:3\ncommit 12 keyspace one topology dc2:1 dc3:3 dc1:1\nplace @11 kt\nplace @12 one\n",
+        "OK 1\nOK 2\nOK 3\nOK 4\nOK 5\nOK 6\nOK 7\nOK 8\nOK 9\nOK 10\nOK 11\nOK 12\nPLACE 11 kt 6\n(min,0] read 1,2,3,4,5 write 1,2,3,4,5\n(0,100] read 1,2,3,4,5 write 1,2,3,4,5\n(100,200] read 1,2,3,4,5 write 1,2,3,4,5\n(200,300] read 1,2,3,4,5 write 1,2,3,4,5\n(300,400] read 1,2,3,4,5 write 1,2,3,4,5\n(400,max] read 1,2,3,4,5 write 1,2,3,4,5\nPLACE 12 one 6\n(min,0] read 1,4 write 1,4\n(0,100] read 2,4 write 2,4\n(100,200] read 3,4 write 3,4\n(200,300] read 1,4 write 1,4\n(300,400] read 1,5 write 1,5\n(400,max] read 1,4 write 1,4\n",
+    ),
+    (
+        "ids-never-reused",
+        "commit 1 register a dc1 r1\ncommit 2 unsafe-join 1 0\ncommit 3 keyspace ks simple 1\nnodes @3\ncommit 4 register b dc1 r1\ncommit 5 unregister 2\ncommit 6 register b dc1 r1\nnodes @6\nnodes @4\n",
+        "OK 1\nOK 2\nOK 3\nNODES 3 1 0\n1 a dc1 r1 JOINED 0\nOK 4\nOK 5\nOK 6\nNODES 6 2 0\n1 a dc1 r1 JOINED 0\n3 b dc1 r1 REGISTERED -\nNODES 4 2 0\n1 a dc1 r1 JOINED 0\n2 b dc1 r1 REGISTERED -\n",
+    ),
+    (
+        "unknown-things",
+        "place @1 ks\nplace @0 ks\nnodes @1\nnodes @0\nnodes f\ncommit 1 drop-keyspace ks\ncommit 1 unregister 1\ncommit 1 unsafe-join 1 5 5\ncommit 01 register a dc1 r1\n",
+        "NO EPOCH 0\nNO KEYSPACE\nNO EPOCH 0\nNODES 0 0 0\nNO BAD-LINE\nNO NO-KEYSPACE\nNO NO-NODE\nNO BAD-LINE\nNO BAD-LINE\n",
+    ),
+    (
+        "tokens in any order",
+        "commit 1 register a dc1 r1\ncommit 2 register b dc2 r2\ncommit 3 unsafe-join 1 5 -5 9223372036854775807 0\nnodes @3\ncommit 4 unsafe-join 1 7\ncommit 5 unsafe-join 2 7 5 0\ncommit 6 unsafe-join 2 7\ncommit 7 unregister 1\nnodes @4\n",
+        "OK 1\nOK 2\nOK 3\nNODES 3 2 0\n1 a dc1 r1 JOINED -5,0,5,9223372036854775807\n2 b dc2 r2 REGISTERED -\nNO NODE-STATE JOINED\nNO TOKEN-TAKEN 0\nOK 4\nNO NODE-STATE JOINED\nNODES 4 2 0\n1 a dc1 r1 JOINED -5,0,5,9223372036854775807\n2 b dc2 r2 JOINED 7\n",
+    ),
+    (
+        "keyspaces come and go",
+        "commit 1 register a dc1 r1\ncommit 2 unsafe-join 1 0\ncommit 3 keyspace ks simple 2\ncommit 4 keyspace ks topology dc2:3\ncommit 5 drop-keyspace ks\ncommit 6 drop-keyspace ks\ncommit 7 keyspace ks topology dc1:1 dc2:1\nplace @3 ks\nplace @4 ks\nplace @5 ks\nplace @6 ks\n",
+        "OK 1\nOK 2\nOK 3\nOK 4\nOK 5\nNO NO-KEYSPACE\nOK 6\nPLACE 3 ks 2\n(min,0] read 1 write 1\n(0,max] read 1 write 1\nPLACE 4 ks 2\n(min,0] read - write -\n(0,max] read - write -\nNO KEYSPACE\nPLACE 6 ks 2\n(min,0] read 1 write 1\n(0,max] read 1 write 1\n",
+    ),
+    (
+        "refusals in order",
+        "commit 1 register a dc1 r1\ncommit 2 register a dc9 r9\ncommit 3 register b dc1 r1\ncommit 4 unsafe-join 1 0\ncommit 5 unsafe-join 3 0\ncommit 6 unsafe-join 1 0\ncommit 7 unsafe-join 2 0\ncommit 8 unregister 1\ncommit 9 unregister 3\ncommit 10 unregister 2\ncommit 11 unregister 2\ncommit 12 unsafe-join 2 100\ncommit 13 keyspace ks simple 17\ncommit 14 drop-keyspace zz\nnodes @4\n",
+        "OK 1\nNO NAME-TAKEN 1\nOK 2\nOK 3\nNO NO-NODE\nNO NODE-STATE JOINED\nNO TOKEN-TAKEN 0\nNO NODE-STATE JOINED\nNO NO-NODE\nOK 4\nNO NO-NODE\nNO NO-NODE\nNO BAD-LINE\nNO NO-KEYSPACE\nNODES 4 1 0\n1 a dc1 r1 JOINED 0\n",
     ),
 ];
 

@@ -1,5 +1,5 @@
 -- Small clusters, and what the definitions say of them. Each fact is computed.
-use Rattle.std.specs.Prelude.{◌≡◌, ℕ, false, ℤ, pos, negsuc, List, [], ◌∷◌, Some, None, refl, codes}
+use Rattle.std.specs.Prelude.{◌≡◌, ℕ, false, true, ℤ, pos, negsuc, List, [], ◌∷◌, Some, None, refl, codes}
 use Rattle.cluster_terms.specs.Arc.{greatest_token}
 use Rattle.cluster_terms.specs.Group.{is_chosen_rack, is_replica, place}
 use Rattle.cluster_terms.specs.Row.{rows_between}
@@ -11,15 +11,17 @@ use Rattle.cluster_terms.specs.declared.token.RightEnd.TheVariants.{At, Max}
 use Rattle.transformations.specs.History.{next_image, state_after, IsHistory}
 use Rattle.transformations.specs.Refusals.{refusal_of}
 use Rattle.transformations.specs.Rings.{reads_at, writes_at, cuts}
+use Rattle.transformations.specs.States.{node_state, state_of_row}
 use Rattle.transformations.specs.declared.command.Command.{Command}
-use Rattle.transformations.specs.declared.command.Command.TheVariants.{Register, UnsafeJoin, Keyspace}
+use Rattle.transformations.specs.declared.command.Command.TheVariants.{Register, Unregister, UnsafeJoin, Keyspace, DropKeyspace}
 use Rattle.transformations.specs.declared.image.Image.{Image}
 use Rattle.transformations.specs.declared.keyspace.KeyspaceRow.{KeyspaceRow}
-use Rattle.transformations.specs.declared.refusal.Refusal.TheVariants.{NoNode, TokenTaken}
+use Rattle.transformations.specs.declared.refusal.Refusal.TheVariants.{NameTaken, NoNode, WrongState, TokenTaken, NoKeyspace}
 use Rattle.transformations.specs.declared.sequence.Kind.TheVariants.{Join}
 use Rattle.transformations.specs.declared.sequence.Phase.{Phase}
-use Rattle.transformations.specs.declared.sequence.Phase.TheVariants.{Started, Mid}
+use Rattle.transformations.specs.declared.sequence.Phase.TheVariants.{Prepared, Started, Mid}
 use Rattle.transformations.specs.declared.sequence.SeqRow.{SeqRow}
+use Rattle.transformations.specs.declared.state.NodeState.TheVariants.{Left, Bootstrapping, Joined, Registered}
 
 -- ---- how the clusters are written down
 
@@ -179,7 +181,7 @@ one_node_history = Register (codes "a") (codes "dc1") (codes "r1") ∷ UnsafeJoi
 
 -- they are accepted one after another, and make it
 pub one_node_after : IsHistory one_node_history × (state_after one_node_history 3 ≡ one_node_image)
-unfolding next_image refusal_of
+unfolding next_image refusal_of state_of_row
 one_node_after = (refl, refl)
 
 -- the commands that make the cluster of four nodes
@@ -193,15 +195,71 @@ four_nodes_history = register_in_r1 (codes "a") ∷ register_in_r1 (codes "b") �
 
 -- they are accepted one after another, and make it
 pub four_nodes_after : IsHistory four_nodes_history × (state_after four_nodes_history 11 ≡ four_nodes_image)
-unfolding next_image refusal_of
+unfolding next_image refusal_of state_of_row
 four_nodes_after = (refl, refl)
 
--- tokens for a node that is not registered are refused
-pub no_node : refusal_of one_node_image (UnsafeJoin 2 (pos 100 ∷ [])) ≡ Some NoNode
+-- a node of the cluster has the name that is to be registered
+pub name_taken : refusal_of one_node_image (Register (codes "a") (codes "dc2") (codes "r2")) ≡ Some (NameTaken 1)
 unfolding refusal_of
-no_node = refl
+name_taken = refl
 
--- the least token that stands in the ring already is refused
-pub token_taken : refusal_of four_nodes_image (UnsafeJoin 5 (negsuc 4 ∷ pos 0 ∷ pos 200 ∷ [])) ≡ Some (TokenTaken (pos 0))
+-- a node that isn't registered gets no tokens, and is not removed
+pub no_node : (refusal_of one_node_image (UnsafeJoin 2 (pos 0 ∷ [])) ≡ Some NoNode) × (refusal_of one_node_image (Unregister 2) ≡ Some NoNode)
 unfolding refusal_of
-token_taken = refl
+no_node = (refl, refl)
+
+-- a node that has tokens gets no others at once, whether they are taken or not, and is not removed
+pub joined_stays : (refusal_of one_node_image (UnsafeJoin 1 (pos 0 ∷ [])) ≡ Some (WrongState Joined))
+    × (refusal_of one_node_image (UnsafeJoin 1 (pos 7 ∷ [])) ≡ Some (WrongState Joined))
+    × (refusal_of one_node_image (Unregister 1) ≡ Some (WrongState Joined))
+unfolding refusal_of state_of_row
+joined_stays = (refl, refl, refl)
+
+-- the least token that stands in the ring already is refused, and so is one that a movement brings
+pub token_taken : (refusal_of four_nodes_image (UnsafeJoin 5 (negsuc 4 ∷ pos 0 ∷ pos 200 ∷ [])) ≡ Some (TokenTaken (pos 0)))
+    × (refusal_of (joining_image 12 Prepared) (UnsafeJoin 6 (pos 149 ∷ pos 150 ∷ [])) ≡ Some (TokenTaken (pos 150)))
+unfolding refusal_of state_of_row
+token_taken = (refl, refl)
+
+-- a node that is removed makes room for its name, and for its id never
+abbrev pub removed_history : List Command
+removed_history = register_in_r1 (codes "a") ∷ register_in_r1 (codes "b") ∷ Unregister 2 ∷ register_in_r1 (codes "b") ∷ []
+
+pub ids_are_not_used_again : IsHistory removed_history
+    × ((state_after removed_history 4).nodes ≡ dc1_node 1 (codes "a") (codes "r1") ∷ dc1_node 3 (codes "b") (codes "r1") ∷ [])
+    × (refusal_of (state_after removed_history 4) (Unregister 2) ≡ Some NoNode)
+unfolding next_image refusal_of state_of_row
+ids_are_not_used_again = (refl, refl, refl)
+
+-- a keyspace that is dropped is gone, and is not dropped again
+pub keyspace_dropped : (next_image one_node_image (DropKeyspace (codes "ks")) ≡ record one_node_image { epoch = 4; keyspaces = [] })
+    × (refusal_of one_node_image (DropKeyspace (codes "ks")) ≡ None)
+    × (refusal_of one_node_image (DropKeyspace (codes "kt")) ≡ Some NoKeyspace)
+    × (refusal_of (next_image one_node_image (DropKeyspace (codes "ks"))) (DropKeyspace (codes "ks")) ≡ Some NoKeyspace)
+unfolding next_image refusal_of
+keyspace_dropped = (refl, refl, refl, refl)
+
+-- ---- the states of nodes
+
+-- a node with tokens, one without, and one that isn't registered
+pub states_at_rest : (node_state four_nodes_image 1 ≡ Some Joined) × (node_state four_nodes_image 5 ≡ Some Registered) × (node_state four_nodes_image 7 ≡ None)
+unfolding state_of_row
+states_at_rest = (refl, refl, refl)
+
+-- a join shows once it has started, and at its node alone
+pub states_of_a_join : (node_state (joining_image 12 Prepared) 5 ≡ Some Registered)
+    × (node_state (joining_image 13 Started) 5 ≡ Some Bootstrapping)
+    × (node_state (joining_image 14 Mid) 5 ≡ Some Bootstrapping)
+    × (node_state (joining_image 13 Started) 1 ≡ Some Joined)
+unfolding state_of_row
+states_of_a_join = (refl, refl, refl, refl)
+
+-- a node that has left may be removed, and gets no tokens
+abbrev pub left_image : Image
+left_image = record one_node_image { nodes = record (dc1_node 1 (codes "a") (codes "r1")) { left = true } ∷ []; tokens = [] }
+
+pub left_node : (node_state left_image 1 ≡ Some Left)
+    × (refusal_of left_image (Unregister 1) ≡ None)
+    × (refusal_of left_image (UnsafeJoin 1 (pos 0 ∷ [])) ≡ Some (WrongState Left))
+unfolding refusal_of state_of_row
+left_node = (refl, refl, refl)

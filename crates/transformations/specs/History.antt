@@ -1,14 +1,17 @@
 -- What commands make of an image, one after another.
-use Rattle.std.specs.Prelude.{ℕ, ◌+◌, Bool, true, false, ◌&&◌, ℤ, List, [], ◌∷◌, ◌++◌, map, take, is_none, IsTrue}
+use Rattle.std.specs.Prelude.{ℕ, ◌+◌, Bool, true, false, not, ◌&&◌, if◌then◌else◌, ℤ, List, [], ◌∷◌, ◌++◌, map, filter, take, length, Option, Some, is_none, nat_le, ◌==◌, IsTrue}
+use Rattle.std.specs.Str.{bytes_eq}
 use Rattle.cluster_terms.specs.Ascending.{put, put_all}
 use Rattle.cluster_terms.specs.declared.node.NodeRow.{NodeRow}
 use Rattle.cluster_terms.specs.declared.token.Pair.{Pair}
 use Rattle.transformations.specs.Orders.{by_token, by_name}
 use Rattle.transformations.specs.Refusals.{refusal_of}
 use Rattle.transformations.specs.declared.command.Command.{Command}
-use Rattle.transformations.specs.declared.command.Command.TheVariants.{Register, UnsafeJoin, Keyspace}
+use Rattle.transformations.specs.declared.command.Command.TheVariants.{Register, Unregister, UnsafeJoin, Keyspace, DropKeyspace}
 use Rattle.transformations.specs.declared.image.Image.{Image}
 use Rattle.transformations.specs.declared.keyspace.KeyspaceRow.{KeyspaceRow}
+use Rattle.transformations.specs.declared.refusal.Refusal.{Refusal}
+use Rattle.transformations.specs.declared.refusal.Refusal.TheVariants.{EpochsFull}
 
 -- the image before the first command
 abbrev pub empty_image : Image
@@ -23,11 +26,15 @@ unfoldable pub next_image : Image → Command → Image
 next_image image (Register name dc rack) =
     let row : NodeRow = record { id = image.next; name = name; dc = dc; rack = rack; left = false } in
     record image { epoch = image.epoch + 1; next = image.next + 1; nodes = image.nodes ++ row ∷ [] }
+next_image image (Unregister node) =
+    record image { epoch = image.epoch + 1; nodes = filter (λ row. not (row.id == node)) image.nodes }
 next_image image (UnsafeJoin node tokens) =
     record image { epoch = image.epoch + 1; tokens = put_all by_token (pairs_of node tokens) image.tokens }
 next_image image (Keyspace name replication) =
     let row : KeyspaceRow = record { name = name; replication = replication } in
     record image { epoch = image.epoch + 1; keyspaces = put by_name row image.keyspaces }
+next_image image (DropKeyspace name) =
+    record image { epoch = image.epoch + 1; keyspaces = filter (λ row. not (bytes_eq row.name name)) image.keyspaces }
 
 -- the image after some commands from an image on, and after the first e commands of a history
 abbrev pub image_after : Image → List Command → Image
@@ -42,6 +49,14 @@ abbrev pub are_accepted : Image → List Command → Bool
 are_accepted image [] = true
 are_accepted image (command ∷ commands) = is_none (refusal_of image command) && are_accepted (next_image image command) commands
 
--- a history: commands that are each accepted in the image of those before
+-- a history: at most 65,536 commands, each accepted in the image of those before
+abbrev pub most_epochs : ℕ
+most_epochs = 65536
+
 abbrev pub IsHistory : List Command → Type 0
-IsHistory history = IsTrue (are_accepted empty_image history)
+IsHistory history = IsTrue (nat_le (length history) most_epochs && are_accepted empty_image history)
+
+-- the first refusal of a commit after a history: before all others that there are as many epochs as can be
+abbrev pub commit_refusal : List Command → Command → Option Refusal
+commit_refusal history command =
+    if nat_le most_epochs (length history) then Some EpochsFull else refusal_of (image_after empty_image history) command

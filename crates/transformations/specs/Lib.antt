@@ -2,3 +2,4 @@ pub mod History
 pub mod Orders
 pub mod Refusals
 pub mod Rings
+pub mod States

@@ -1,26 +1,100 @@
 -- When a command is refused.
-use Rattle.std.specs.Prelude.{ℕ, Bool, if◌then◌else◌, ℤ, Option, Some, None, is_some, option_map, find}
+use Rattle.std.specs.Prelude.{ℕ, Bool, true, false, ◌&&◌, not, if◌then◌else◌, ℤ, List, [], ◌∷◌, ◌++◌, map, length, Option, Some, None, is_some, option_map, option_and_then, find, nat_le, nat_lt}
 use Rattle.std.specs.List.{list_any}
 use Rattle.std.specs.Ordering.{int_eq}
+use Rattle.std.specs.Set.{distinct_count}
+use Rattle.std.specs.Str.{bytes_eq}
 use Rattle.cluster_terms.specs.NodeRow.{row_of}
 use Rattle.transformations.specs.Rings.{widest}
+use Rattle.transformations.specs.States.{node_state}
 use Rattle.transformations.specs.declared.command.Command.{Command}
-use Rattle.transformations.specs.declared.command.Command.TheVariants.{Register, UnsafeJoin, Keyspace}
+use Rattle.transformations.specs.declared.command.Command.TheVariants.{Register, Unregister, UnsafeJoin, Keyspace, DropKeyspace}
 use Rattle.transformations.specs.declared.image.Image.{Image}
 use Rattle.transformations.specs.declared.refusal.Refusal.{Refusal}
-use Rattle.transformations.specs.declared.refusal.Refusal.TheVariants.{NoNode, TokenTaken}
+use Rattle.transformations.specs.declared.refusal.Refusal.TheVariants.{NameTaken, NodesFull, NoNode, WrongState, TokenTaken, TokensFull, NoKeyspace, KeyspacesFull}
+use Rattle.transformations.specs.declared.state.NodeState.{NodeState}
+use Rattle.transformations.specs.declared.state.NodeState.TheVariants as state
 
--- whether a node is registered
+-- the most nodes, tokens and keyspaces that a cluster has
+abbrev pub most_nodes : ℕ
+most_nodes = 1024
+
+abbrev pub most_tokens : ℕ
+most_tokens = 16384
+
+abbrev pub most_keyspaces : ℕ
+most_keyspaces = 64
+
+-- a refusal, where a test says so
+abbrev pub refused_if : Bool → Refusal → Option Refusal
+refused_if test refusal = if test then Some refusal else None
+
+-- a node has the name
+abbrev pub name_taken : Image → List ℕ → Option Refusal
+name_taken image name = option_map (λ row. NameTaken row.id) (find (λ row. bytes_eq row.name name) image.nodes)
+
+-- as many nodes are registered as can be
+abbrev pub nodes_full : Image → Option Refusal
+nodes_full image = refused_if (nat_le most_nodes (length image.nodes)) NodesFull
+
+-- the node isn't registered
 abbrev pub is_registered : Image → ℕ → Bool
 is_registered image n = is_some (row_of image.nodes n)
 
--- whether a token stands in the ring, or a movement in flight brings it
+abbrev pub no_node : Image → ℕ → Option Refusal
+no_node image n = refused_if (not (is_registered image n)) NoNode
+
+-- the node's state isn't one that is allowed
+abbrev pub unless_allowed : (NodeState → Bool) → NodeState → Option Refusal
+unless_allowed allowed s = refused_if (not (allowed s)) (WrongState s)
+
+abbrev pub wrong_state : (NodeState → Bool) → Image → ℕ → Option Refusal
+wrong_state allowed image n = option_and_then (unless_allowed allowed) (node_state image n)
+
+abbrev pub is_idle : NodeState → Bool
+is_idle state.Registered = true
+is_idle _ = false
+
+abbrev pub is_idle_or_left : NodeState → Bool
+is_idle_or_left state.Registered = true
+is_idle_or_left state.Left = true
+is_idle_or_left _ = false
+
+-- a token stands in the ring, or a movement in flight brings it; the least such one of a command's is shown
 abbrev pub is_taken : Image → ℤ → Bool
 is_taken image t = list_any (λ p. int_eq p.token t) (widest image)
 
--- the first refusal of a command, if it is refused; a command's tokens ascend
+abbrev pub token_taken : Image → List ℤ → Option Refusal
+token_taken image tokens = option_map TokenTaken (find (is_taken image) tokens)
+
+-- there would be too many tokens
+abbrev pub tokens_with : Image → List ℤ → ℕ
+tokens_with image tokens = distinct_count int_eq (map (λ p. p.token) (widest image) ++ tokens)
+
+abbrev pub tokens_full : Image → List ℤ → Option Refusal
+tokens_full image tokens = refused_if (nat_lt most_tokens (tokens_with image tokens)) TokensFull
+
+-- no keyspace has the name; or none has it and as many are there as can be
+abbrev pub has_keyspace : Image → List ℕ → Bool
+has_keyspace image name = list_any (λ row. bytes_eq row.name name) image.keyspaces
+
+abbrev pub no_keyspace : Image → List ℕ → Option Refusal
+no_keyspace image name = refused_if (not (has_keyspace image name)) NoKeyspace
+
+abbrev pub keyspaces_full : Image → List ℕ → Option Refusal
+keyspaces_full image name = refused_if (nat_le most_keyspaces (length image.keyspaces) && not (has_keyspace image name)) KeyspacesFull
+
+-- the first of some refusals that comes
+abbrev pub first_of : List (Option Refusal) → Option Refusal
+first_of [] = None
+first_of (Some refusal ∷ later) = Some refusal
+first_of (None ∷ later) = first_of later
+
+-- the refusals of each command in their order, of which the first that comes is answered; a command's tokens ascend
 unfoldable pub refusal_of : Image → Command → Option Refusal
-refusal_of image (Register name dc rack) = None
+refusal_of image (Register name dc rack) = first_of (name_taken image name ∷ nodes_full image ∷ [])
+refusal_of image (Unregister node) = first_of (no_node image node ∷ wrong_state is_idle_or_left image node ∷ [])
 refusal_of image (UnsafeJoin node tokens) =
-    if is_registered image node then option_map TokenTaken (find (is_taken image) tokens) else Some NoNode
-refusal_of image (Keyspace name replication) = None
+    first_of (no_node image node ∷ wrong_state is_idle image node ∷ token_taken image tokens ∷ tokens_full image tokens ∷ [])
+refusal_of image (Keyspace name replication) = keyspaces_full image name
+refusal_of image (DropKeyspace name) = no_keyspace image name

@@ -11,6 +11,10 @@ pub enum Command {
         dc: Name,
         rack: Name,
     },
+    /// Removes a node that has no tokens. Its id is not used again.
+    Unregister {
+        node: NodeId,
+    },
     /// Gives tokens to a node at once, without a movement. The tokens ascend.
     UnsafeJoin {
         node: NodeId,
@@ -20,6 +24,10 @@ pub enum Command {
     Keyspace {
         name: Name,
         replication: Replication,
+    },
+    /// Removes a keyspace.
+    DropKeyspace {
+        name: Name,
     },
 }
 
@@ -31,6 +39,7 @@ impl TryCopy for Command {
                 dc: dc.copy()?,
                 rack: rack.copy()?,
             }),
+            Command::Unregister { node } => Ok(Command::Unregister { node: *node }),
             Command::UnsafeJoin { node, tokens } => Ok(Command::UnsafeJoin {
                 node: *node,
                 tokens: tokens.copy()?,
@@ -39,6 +48,7 @@ impl TryCopy for Command {
                 name: name.copy()?,
                 replication: replication.copy()?,
             }),
+            Command::DropKeyspace { name } => Ok(Command::DropKeyspace { name: name.copy()? }),
         }
     }
 }

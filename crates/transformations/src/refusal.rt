@@ -1,10 +1,25 @@
-use cluster_terms::Token;
+use crate::state::NodeState;
+use cluster_terms::{NodeId, Token};
 
 /// Why a command was refused.
 #[derive(Clone, Copy, Debug, PartialEq, Eq)]
 pub enum Refusal {
+    /// A node has the name that is to be registered.
+    NameTaken(NodeId),
+    /// 1,024 nodes are registered.
+    NodesFull,
     /// A named node isn't registered.
     NoNode,
+    /// The node is in a state in which the command can't act on it.
+    WrongState(NodeState),
     /// The command's least token that stands in the ring already or that a movement in flight brings.
     TokenTaken(Token),
+    /// With the command there would be more than 16,384 tokens.
+    TokensFull,
+    /// No keyspace has the name.
+    NoKeyspace,
+    /// 64 keyspaces are there, and none of them has the name.
+    KeyspacesFull,
+    /// 65,536 epochs are committed.
+    EpochsFull,
 }

@@ -1,5 +1,5 @@
 use Rattle.std.proofs.Common.{◌≡◌, ◌++◌, flat_map, take}
-use Rattle.tcm_session.specs.Texts.{row_text}
+use Rattle.script_lang.specs.Texts.{row_text}
 use Rattle.tcm_session.proofs.place_text.rows_text.Given as goal
 
 -- the rows so far are added

@@ -10,7 +10,6 @@ loop-taken-init g c =
     record {
       reads = ReadsSoFar-none _ _ _ _ c.requires.begun;
       plain = c.requires.begun;
-      room = omega arith;
       limit = omega arith;
       buffer = c.in_ok-buffer.ensures.len;
       source_later = omega arith;
@@ -51,7 +50,6 @@ loop-taken-preserved g c =
     record {
       reads = ReadsSoFar-more _ _ _ _ _ _ _ _ _ c.loop-taken.invariant.reads _ _ _ _ _ c.in_ok-count.ensures.ok;
       plain = c.in_ok-count.ensures.begun;
-      room = omega (arith, c.loop-taken.invariant.room, c.in_ok-count.ensures.room);
       limit = limit;
       buffer = c.loop-taken.invariant.buffer;
       source_later = omega (arith, c.loop-taken.invariant.source_later, c.in_ok-count.ensures.cause.source_later);

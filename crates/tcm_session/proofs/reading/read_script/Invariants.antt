@@ -10,7 +10,6 @@ invariant-loop-taken g l =
     record {
       reads : ReadsSoFar l.taken (left l.initial.input) (left l.input) l.initial.session l.initial.begun.items (written l.initial.out) l.session l.begun.items (written l.out);
       plain : HasNoFeed l.begun.items;
-      room : length l.session ≤ length l.initial.session + l.taken;
       limit : l.taken ≤ 536870912;
       buffer : vec_len l.buffer ≡ 65536;
       source_later : g.S.Source.faults l.initial.input ≤ g.S.Source.faults l.input;

@@ -1,0 +1,138 @@
+-- The texts of answers.
+use Rattle.std.specs.Prelude.{ℕ, ℤ, List, [], ◌∷◌, ◌++◌, length, flat_map, Option, Some, None, codes, decimal}
+use Rattle.std.specs.Fmt.{signed_decimal}
+use Rattle.cluster_terms.specs.Row.{rows_between, last_token}
+use Rattle.cluster_terms.specs.declared.node.NodeRow.{NodeRow}
+use Rattle.cluster_terms.specs.declared.replication.Replication.{Replication}
+use Rattle.cluster_terms.specs.declared.row.Row.{Row}
+use Rattle.cluster_terms.specs.declared.token.Pair.{Pair}
+use Rattle.cluster_terms.specs.declared.token.RightEnd.{RightEnd}
+use Rattle.cluster_terms.specs.declared.token.RightEnd.TheVariants.{At, Max}
+use Rattle.transformations.specs.Rings.{reads_at, writes_at, cuts}
+use Rattle.transformations.specs.States.{node_tokens, state_of_row}
+use Rattle.transformations.specs.declared.image.Image.{Image}
+use Rattle.transformations.specs.declared.keyspace.KeyspaceRow.{KeyspaceRow}
+use Rattle.transformations.specs.declared.refusal.Refusal.{Refusal}
+use Rattle.transformations.specs.declared.refusal.Refusal.TheVariants.{NameTaken, NodesFull, NoNode, WrongState, TokenTaken, TokensFull, NoKeyspace, KeyspacesFull, EpochsFull}
+use Rattle.transformations.specs.declared.sequence.Kind.{Kind}
+use Rattle.transformations.specs.declared.sequence.Kind.TheVariants as kind
+use Rattle.transformations.specs.declared.sequence.Phase.{Phase}
+use Rattle.transformations.specs.declared.sequence.Phase.TheVariants as phase
+use Rattle.transformations.specs.declared.sequence.SeqRow.{SeqRow}
+use Rattle.transformations.specs.declared.state.NodeState.{NodeState}
+use Rattle.transformations.specs.declared.state.NodeState.TheVariants as state
+
+-- a text and a line feed
+abbrev pub line : List ℕ → List ℕ
+line text = text ++ 10 ∷ []
+
+-- texts of some items parted by commas, or a dash where there are none
+abbrev pub listed : {X : Type 0} → (X → List ℕ) → List X → List ℕ
+listed text [] = codes "-"
+listed text (x ∷ xs) = text x ++ flat_map (λ y. codes "," ++ text y) xs
+
+-- LIST of node ids, LIST of tokens, and PAIRS
+abbrev pub list_text : List ℕ → List ℕ
+list_text ns = listed decimal ns
+
+abbrev pub tokens_text : List ℤ → List ℕ
+tokens_text ts = listed signed_decimal ts
+
+abbrev pub pair_text : Pair → List ℕ
+pair_text p = signed_decimal p.token ++ codes "@" ++ decimal p.node
+
+abbrev pub pairs_text : List Pair → List ℕ
+pairs_text ps = listed pair_text ps
+
+-- the words of states, kinds and phases
+abbrev pub state_text : NodeState → List ℕ
+state_text state.Left = codes "LEFT"
+state_text state.Bootstrapping = codes "BOOTSTRAPPING"
+state_text state.Moving = codes "MOVING"
+state_text state.Leaving = codes "LEAVING"
+state_text state.BootReplacing = codes "BOOT_REPLACING"
+state_text state.Joined = codes "JOINED"
+state_text state.Registered = codes "REGISTERED"
+
+abbrev pub kind_text : Kind → List ℕ
+kind_text kind.Join = codes "join"
+kind_text kind.Move = codes "move"
+kind_text kind.Leave = codes "leave"
+kind_text kind.Replace = codes "replace"
+
+abbrev pub phase_text : Phase → List ℕ
+phase_text phase.Prepared = codes "PREPARED"
+phase_text phase.Started = codes "STARTED"
+phase_text phase.Mid = codes "MID"
+
+-- why a command was refused
+unfoldable pub refusal_text : Refusal → List ℕ
+refusal_text (NameTaken n) = codes "NAME-TAKEN " ++ decimal n
+refusal_text NodesFull = codes "NODES-FULL"
+refusal_text NoNode = codes "NO-NODE"
+refusal_text (WrongState s) = codes "NODE-STATE " ++ state_text s
+refusal_text (TokenTaken t) = codes "TOKEN-TAKEN " ++ signed_decimal t
+refusal_text TokensFull = codes "TOKENS-FULL"
+refusal_text NoKeyspace = codes "NO-KEYSPACE"
+refusal_text KeyspacesFull = codes "KEYSPACES-FULL"
+refusal_text EpochsFull = codes "EPOCHS-FULL"
+
+-- the answer to a commit that is accepted as an epoch, and to a line that is refused
+abbrev pub ok_text : ℕ → List ℕ
+ok_text epoch = line (codes "OK " ++ decimal epoch)
+
+abbrev pub no_text : List ℕ → List ℕ
+no_text reason = line (codes "NO " ++ reason)
+
+-- the ends of a row
+abbrev pub left_text : Option ℤ → List ℕ
+left_text None = codes "min"
+left_text (Some t) = signed_decimal t
+
+abbrev pub right_text : RightEnd → List ℕ
+right_text (At t) = signed_decimal t
+right_text Max = codes "max"
+
+-- a row with the nodes that are read and written in it
+unfoldable pub placed_text : Row → List ℕ → List ℕ → List ℕ
+placed_text row reads writes =
+    line (codes "(" ++ left_text row.left ++ codes "," ++ right_text row.right
+    ++ codes "] read " ++ list_text reads ++ codes " write " ++ list_text writes)
+
+-- a row, and the nodes that are read and written at its last token
+abbrev pub row_text : Image → Replication → Row → List ℕ
+row_text image replication row =
+    let x = last_token row.right in
+    placed_text row (reads_at image replication x) (writes_at image replication x)
+
+-- the placements of a keyspace: a head with the number of rows, and the rows between the cuts
+abbrev pub place_head : ℕ → List ℕ → ℕ → List ℕ
+place_head epoch keyspace rows = line (codes "PLACE " ++ decimal epoch ++ codes " " ++ keyspace ++ codes " " ++ decimal rows)
+
+unfoldable pub place_text : Image → KeyspaceRow → List ℕ
+place_text image keyspace =
+    let rows = rows_between (cuts image) in
+    place_head image.epoch keyspace.name (length rows) ++ flat_map (row_text image keyspace.replication) rows
+
+-- a node: its id and its name, and where it stands
+abbrev pub named_text : NodeRow → List ℕ
+named_text row = decimal row.id ++ codes " " ++ row.name ++ codes " " ++ row.dc ++ codes " " ++ row.rack
+
+-- the same with its state and its tokens
+unfoldable pub node_text : Image → NodeRow → List ℕ
+node_text image row =
+    line (named_text row ++ codes " " ++ state_text (state_of_row image row) ++ codes " " ++ tokens_text (node_tokens image row.id))
+
+-- a movement in flight
+unfoldable pub sequence_text : SeqRow → List ℕ
+sequence_text s =
+    line (codes "SEQ " ++ decimal s.node ++ codes " " ++ kind_text s.kind ++ codes " " ++ phase_text s.phase
+    ++ codes " out " ++ pairs_text s.out_pairs ++ codes " in " ++ pairs_text s.in_pairs)
+
+-- the nodes of a cluster: a head with how many nodes and movements there are, the nodes and the movements
+abbrev pub nodes_head : Image → List ℕ
+nodes_head image =
+    line (codes "NODES " ++ decimal image.epoch ++ codes " " ++ decimal (length image.nodes) ++ codes " " ++ decimal (length image.sequences))
+
+unfoldable pub nodes_text : Image → List ℕ
+nodes_text image = nodes_head image ++ flat_map (node_text image) image.nodes ++ flat_map sequence_text image.sequences

@@ -1,0 +1,338 @@
+//! The grammar of script lines: what a line says, and which bytes are no line.
+
+ghost use Rattle.std.specs.Prelude.{◌≡◌, ◌<◌, length, map, IfOk, IsOk};
+ghost use Rattle.script_lang.specs.Grammar as spec;
+
+use crate::command_words::command_of;
+use crate::number::number_of;
+use crate::script_line::{ScriptLine, Target};
+use crate::words::{is_word, words_of};
+use cluster_terms::{Memory, Name};
+use std::alloc::Global;
+
+/// The most bytes that a line has.
+const LINE_LIMIT: usize = 16_384;
+
+/// What a line says. `None` comes exactly for a line that is not in the grammar, and for one of more than
+/// 16,384 bytes, for which no memory is taken.
+#[tactic(auto, unfolding(crate::specs::Grammar::line_of))]
+pub fn parse_line(alloc: Global, bytes: &[u8]) -> Result<Option<ScriptLine>, Memory>
+    ensures meaning { IfOk result (λ found. found ≡ spec.line_of bytes.now) }
+    ensures long { 16384 < length bytes.now → IsOk result }
+{
+    if bytes.len() > LINE_LIMIT {
+        return Ok(None);
+    }
+    let words = words_of(alloc, bytes)?;
+    line_of_words(alloc, words.as_slice())
+}
+
+#[tactic(auto, unfolding(crate::specs::Grammar::line_of_words))]
+fn line_of_words(alloc: Global, words: &[&[u8]]) -> Result<Option<ScriptLine>, Memory>
+    ensures { IfOk result (λ found. found ≡ spec.line_of_words (map (λ word. word.now) words.now)) }
+{
+    match words {
+        [word, words @ ..] if is_word(word, b"commit") => commit_of(alloc, words),
+        [word, words @ ..] if is_word(word, b"place") => place_of(alloc, words),
+        [word, words @ ..] if is_word(word, b"nodes") => Ok(nodes_of(words)),
+        _ => Ok(None),
+    }
+}
+
+// ID COMMAND
+#[tactic(auto, unfolding(crate::specs::Grammar::commit_of))]
+fn commit_of(alloc: Global, words: &[&[u8]]) -> Result<Option<ScriptLine>, Memory>
+    ensures { IfOk result (λ found. found ≡ spec.commit_of (map (λ word. word.now) words.now)) }
+{
+    let [id, command @ ..] = words else {
+        return Ok(None);
+    };
+    let Some(id) = number_of(id) else {
+        return Ok(None);
+    };
+    let command = command_of(alloc, command)?;
+    Ok(command.map(|command| ScriptLine::Commit(id, command)))
+}
+
+// TARGET KS
+#[tactic(auto, unfolding(crate::specs::Grammar::place_of))]
+fn place_of(alloc: Global, words: &[&[u8]]) -> Result<Option<ScriptLine>, Memory>
+    ensures { IfOk result (λ found. found ≡ spec.place_of (map (λ word. word.now) words.now)) }
+{
+    let [target, keyspace] = words else {
+        return Ok(None);
+    };
+    let Some(target) = target_of(target) else {
+        return Ok(None);
+    };
+    let keyspace = Name::from_bytes(alloc, keyspace)?;
+    Ok(keyspace.map(|keyspace| ScriptLine::Place(target, keyspace)))
+}
+
+// TARGET
+#[tactic(auto, unfolding(crate::specs::Grammar::nodes_of))]
+fn nodes_of(words: &[&[u8]]) -> Option<ScriptLine>
+    ensures { result ≡ spec.nodes_of (map (λ word. word.now) words.now) }
+{
+    match words {
+        [target] => target_of(target).map(ScriptLine::Nodes),
+        _ => None,
+    }
+}
+
+// `@` and an epoch
+#[tactic(auto, unfolding(crate::specs::Grammar::target_of))]
+fn target_of(text: &[u8]) -> Option<Target>
+    ensures { result ≡ spec.target_of text.now }
+{
+    match text {
+        [b'@', epoch @ ..] => number_of(epoch).map(Target::Epoch),
+        _ => None,
+    }
+}
+
+#[cfg(test)]
+mod tests {
+    use super::*;
+    use cluster_terms::{ByteText, Replication, Token};
+    use std::test::Fail;
+    use transformations::Command;
+
+    const LINES: [&str; 19] = [
+        "commit 0 register n1 dc-1 Rack_2.b",
+        "commit 18446744073709551615 register a b c",
+        "commit 5 unregister 1",
+        "commit 6 unregister 4294967295",
+        "commit 7 unsafe-join 1 0",
+        "commit 8 unsafe-join 4294967295 9223372036854775807",
+        "commit 9 unsafe-join 2 -9223372036854775808",
+        "commit 9 unsafe-join 2 -9223372036854775808 -10 -9 0 7 10 9223372036854775807",
+        "commit 10 keyspace ks simple 1",
+        "commit 11 keyspace aaaaaaaaaaaaaaaaaaaaaaaaaaaaaaaa simple 16",
+        "commit 12 keyspace ks topology dc1:3",
+        "commit 13 keyspace ks topology a:16 b:1 c:1 d:1 e:1 f:1 g:1 h:1 i:1 j:1 k:1 l:1 m:1 n:1 o:1 p:1",
+        "commit 14 drop-keyspace ks",
+        "commit 15 drop-keyspace aaaaaaaaaaaaaaaaaaaaaaaaaaaaaaaa",
+        "commit 16 keyspace simple simple 3",
+        "place @0 ks",
+        "place @18446744073709551615 ks",
+        "nodes @0",
+        "nodes @18446744073709551615",
+    ];
+
+    // Lines that may be written in several orders, each with the one that ascends.
+    const REORDERED: [(&str, &str); 2] = [
+        (
+            "commit 7 unsafe-join 1 5 -3 0 -9223372036854775808 9223372036854775807 4 -30",
+            "commit 7 unsafe-join 1 -9223372036854775808 -30 -3 0 4 5 9223372036854775807",
+        ),
+        (
+            "commit 7 keyspace ks topology dc2:1 dc10:16 Dc2:12 dc:2",
+            "commit 7 keyspace ks topology Dc2:12 dc:2 dc10:16 dc2:1",
+        ),
+    ];
+
+    const NO_LINES: [&[u8]; 78] = [
+        b"",
+        b" ",
+        b"place",
+        b"place @0",
+        b"place @0 ks ",
+        b" place @0 ks",
+        b"place  @0 ks",
+        b"place\t@0 ks",
+        b"place @0 ks\r",
+        b"place @0 k\0s",
+        b"place @0 k\xffs",
+        b"place @0 k\xc3\xa9",
+        b"place @0 a/b",
+        b"place @0 aaaaaaaaaaaaaaaaaaaaaaaaaaaaaaaaa",
+        b"place @0 ks ks",
+        b"place 3 ks",
+        b"place @ ks",
+        b"place @-1 ks",
+        b"place @01 ks",
+        b"place @18446744073709551616 ks",
+        b"Place @0 ks",
+        b"nodes",
+        b"nodes ",
+        b"nodes @",
+        b"nodes 0",
+        b"nodes @00",
+        b"nodes @0 ",
+        b"nodes @0 ks",
+        b"nodes @18446744073709551616",
+        b"node @0",
+        b"commit",
+        b"commit 1",
+        b"commit 1 ",
+        b"commit 1 nodes @0",
+        b"commit 1 place @0 ks",
+        b"commit 01 register a b c",
+        b"commit +1 register a b c",
+        b"commit -1 register a b c",
+        b"commit 1x register a b c",
+        b"commit 18446744073709551616 register a b c",
+        b"commit 1 register a b",
+        b"commit 1 register a b c d",
+        b"commit 1 register a b \xff",
+        b"commit 1 unregister",
+        b"commit 1 unregister ",
+        b"commit 1 unregister n1",
+        b"commit 1 unregister 01",
+        b"commit 1 unregister 1 2",
+        b"commit 1 unregister 4294967296",
+        b"commit 1 unsafe-join",
+        b"commit 1 unsafe-join 1",
+        b"commit 1 unsafe-join 1 ",
+        b"commit 1 unsafe-join 1 5 ",
+        b"commit 1 unsafe-join 1 5  6",
+        b"commit 1 unsafe-join 1 5 5",
+        b"commit 1 unsafe-join 1 5 6 -7 5",
+        b"commit 1 unsafe-join 1 5 x",
+        b"commit 1 unsafe-join 4294967296 5",
+        b"commit 1 unsafe-join 1 9223372036854775808",
+        b"commit 1 unsafe-join 1 -9223372036854775809",
+        b"commit 1 unsafe-join 1 -0",
+        b"commit 1 unsafe-join 1 05",
+        b"commit 1 keyspace",
+        b"commit 1 keyspace ks",
+        b"commit 1 keyspace ks simple",
+        b"commit 1 keyspace ks simple 0",
+        b"commit 1 keyspace ks simple 17",
+        b"commit 1 keyspace ks simple 01",
+        b"commit 1 keyspace ks simple 1 2",
+        b"commit 1 keyspace ks topology",
+        b"commit 1 keyspace ks topology 3",
+        b"commit 1 keyspace ks topology a:0",
+        b"commit 1 keyspace ks topology a:1 a:2",
+        b"commit 1 keyspace ks topology a:1 b:1 c:1 d:1 e:1 f:1 g:1 h:1 i:1 j:1 k:1 l:1 m:1 n:1 o:1 p:1 q:1",
+        b"commit 1 keyspace k/s simple 1",
+        b"commit 1 drop-keyspace",
+        b"commit 1 drop-keyspace a/b",
+        b"commit 1 drop-keyspace ks ks",
+    ];
+
+    fn tokens_text(alloc: Global, tokens: &[Token]) -> Result<String, Fail> {
+        let mut text = String::new(alloc);
+        for token in tokens {
+            let word = format!(in alloc; " {}", token.value())?;
+            text.push_str(word.as_str())?;
+        }
+        Ok(text)
+    }
+
+    fn keyspace_text(
+        alloc: Global,
+        name: &Name,
+        replication: &Replication,
+    ) -> Result<String, Fail> {
+        let mut out = ByteText::empty(alloc);
+        replication.write(&mut out)?;
+        let replication = std::str::from_utf8(out.as_slice())?;
+        let text = format!(in alloc; "keyspace {} {replication}", name.as_str())?;
+        Ok(text)
+    }
+
+    // A command, written as in a line.
+    fn command_text(alloc: Global, command: &Command) -> Result<String, Fail> {
+        let text = match command {
+            Command::Register { name, dc, rack } => {
+                format!(in alloc;
+                    "register {} {} {}",
+                    name.as_str(),
+                    dc.as_str(),
+                    rack.as_str()
+                )?
+            }
+            Command::Unregister { node } => format!(in alloc; "unregister {}", node.0)?,
+            Command::UnsafeJoin { node, tokens } => {
+                let tokens = tokens_text(alloc, tokens.as_slice())?;
+                format!(in alloc; "unsafe-join {}{tokens}", node.0)?
+            }
+            Command::Keyspace { name, replication } => keyspace_text(alloc, name, replication)?,
+            Command::DropKeyspace { name } => format!(in alloc; "drop-keyspace {}", name.as_str())?,
+        };
+        Ok(text)
+    }
+
+    // A line, written again from what it says.
+    fn line_text(alloc: Global, line: &ScriptLine) -> Result<String, Fail> {
+        let text = match line {
+            ScriptLine::Commit(id, command) => {
+                let command = command_text(alloc, command)?;
+                format!(in alloc; "commit {id} {command}")?
+            }
+            ScriptLine::Place(Target::Epoch(epoch), keyspace) => {
+                format!(in alloc; "place @{epoch} {}", keyspace.as_str())?
+            }
+            ScriptLine::Nodes(Target::Epoch(epoch)) => format!(in alloc; "nodes @{epoch}")?,
+        };
+        Ok(text)
+    }
+
+    // What a line says, written again.
+    fn written_again(alloc: Global, line: &str) -> Result<String, Fail> {
+        let said = parse_line(alloc, line.as_bytes())?.ok_or("no line")?;
+        line_text(alloc, &said)
+    }
+
+    // A line with so many tokens, in descending order.
+    fn join_line(alloc: Global, count: i64) -> Result<String, Fail> {
+        let mut line = String::from_str(alloc, "commit 1 unsafe-join 1")?;
+        for token in (0..count).rev() {
+            let word = format!(in alloc; " {token}")?;
+            line.push_str(word.as_str())?;
+        }
+        Ok(line)
+    }
+
+    // The tokens that a line gives to a node.
+    fn tokens_in(line: &ScriptLine) -> &[Token] {
+        match line {
+            ScriptLine::Commit(_, Command::UnsafeJoin { tokens, .. }) => tokens.as_slice(),
+            _ => &[],
+        }
+    }
+
+    #[test]
+    fn lines_say_themselves(rt: HostRuntime) -> Result<(), Fail> {
+        for line in LINES {
+            let again = written_again(rt.alloc(), line)?;
+            assert_eq!(rt; again.as_str(), line);
+        }
+        Ok(())
+    }
+
+    #[test]
+    fn what_comes_in_any_order_ascends(rt: HostRuntime) -> Result<(), Fail> {
+        for (line, ascending) in REORDERED {
+            let again = written_again(rt.alloc(), line)?;
+            assert_eq!(rt; again.as_str(), ascending);
+        }
+        Ok(())
+    }
+
+    #[test]
+    fn a_node_gets_at_most_256_tokens(rt: HostRuntime) -> Result<(), Fail> {
+        let most = join_line(rt.alloc(), 256)?;
+        let said = parse_line(rt.alloc(), most.as_bytes())?.ok_or("no line")?;
+        let tokens = tokens_in(&said);
+        assert_eq!(rt; tokens.len(), 256);
+        assert!(rt; tokens.is_sorted());
+        let more = join_line(rt.alloc(), 257)?;
+        assert!(rt; parse_line(rt.alloc(), more.as_bytes())?.is_none());
+        Ok(())
+    }
+
+    #[test]
+    fn other_bytes_say_nothing(rt: HostRuntime) -> Result<(), Fail> {
+        for bytes in NO_LINES {
+            let said = parse_line(rt.alloc(), bytes)?;
+            assert!(rt; said.is_none(), "{bytes:?} is a line");
+        }
+        let long = vec![in rt.alloc(); b'a'; 16_385]?;
+        assert!(rt; parse_line(rt.alloc(), &long)?.is_none());
+        Ok(())
+    }
+}

@@ -1,0 +1,23 @@
+//! The language of scripts: what a line says, and the texts that answer it.
+#![tactic(auto)]
+
+mod answers;
+mod command_words;
+mod grammar;
+mod lists;
+mod nodes;
+mod number;
+mod placements;
+mod refusals;
+mod script_line;
+mod shown;
+mod tokens;
+mod words;
+
+pub use answers::{no_epoch_text, no_text, ok_text, refused_text};
+pub use grammar::parse_line;
+pub use nodes::nodes_text;
+pub use number::one_spelling;
+pub use placements::{place_head_text, placed_text};
+pub use refusals::refusal_text;
+pub use script_line::{ScriptLine, Target};

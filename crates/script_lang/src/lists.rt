@@ -1,0 +1,35 @@
+//! Lists in answers: texts parted by commas, or a dash where there are none.
+
+ghost use Rattle.std.specs.Prelude.{◌≡◌, ◌++◌, codes, take, length, OnOk};
+ghost use Rattle.std.specs.List.{flat_map};
+ghost use Rattle.script_lang.specs.Texts as spec;
+
+use crate::shown::Shown;
+use cluster_terms::{ByteText, Memory};
+
+/// Adds the texts of some items parted by commas, or a dash where there are none. After want of memory the output
+/// begins with what it held.
+pub fn list_text<T: Shown>(items: &[T], out: &mut ByteText) -> Result<(), Memory>
+    ensures added { OnOk result (out.new ≡ out.old ++ spec.listed T.text items.now) }
+    ensures kept { take (length out.old) out.new ≡ out.old }
+{
+    match items.split_first() {
+        None => out.extend(b"-"),
+        Some((first, others)) => {
+            first.show(out)?;
+            add_others(others, out)
+        }
+    }
+}
+
+// Adds the texts of some items, each after a comma.
+fn add_others<T: Shown>(items: &[T], out: &mut ByteText) -> Result<(), Memory>
+    ensures added { OnOk result (out.new ≡ out.old ++ flat_map (λ item. codes "," ++ T.text item) items.now) }
+    ensures kept { take (length out.old) out.new ≡ out.old }
+{
+    for item in items {
+        out.extend(b",")?;
+        item.show(out)?;
+    }
+    Ok(())
+}

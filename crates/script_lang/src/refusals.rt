@@ -1,0 +1,27 @@
+//! Why a command was refused.
+
+ghost use Rattle.std.specs.Prelude.{◌≡◌, ◌++◌, take, length, OnOk};
+ghost use Rattle.script_lang.specs.Texts as spec;
+
+use crate::shown::labelled;
+use cluster_terms::{ByteText, Memory};
+use transformations::Refusal;
+
+/// Adds why a command was refused. After want of memory the output begins with what it held.
+#[tactic(auto, unfolding(crate::specs::Texts::refusal_text))]
+pub fn refusal_text(refusal: &Refusal, out: &mut ByteText) -> Result<(), Memory>
+    ensures added { OnOk result (out.new ≡ out.old ++ spec.refusal_text refusal.now) }
+    ensures kept { take (length out.old) out.new ≡ out.old }
+{
+    match refusal {
+        Refusal::NameTaken(node) => labelled(b"NAME-TAKEN ", node, out),
+        Refusal::NodesFull => out.extend(b"NODES-FULL"),
+        Refusal::NoNode => out.extend(b"NO-NODE"),
+        Refusal::WrongState(state) => labelled(b"NODE-STATE ", state, out),
+        Refusal::TokenTaken(token) => labelled(b"TOKEN-TAKEN ", token, out),
+        Refusal::TokensFull => out.extend(b"TOKENS-FULL"),
+        Refusal::NoKeyspace => out.extend(b"NO-KEYSPACE"),
+        Refusal::KeyspacesFull => out.extend(b"KEYSPACES-FULL"),
+        Refusal::EpochsFull => out.extend(b"EPOCHS-FULL"),
+    }
+}

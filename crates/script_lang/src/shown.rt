@@ -1,0 +1,111 @@
+//! The texts of single things: numbers, tokens, pairs, and the words of states, kinds and phases.
+
+ghost use Rattle.std.specs.Prelude.{◌≡◌, ◌++◌, ℕ, List, decimal, take, length, OnOk};
+ghost use Rattle.std.specs.Fmt.{signed_decimal};
+ghost use Rattle.script_lang.specs.Texts as spec;
+
+use cluster_terms::{ByteText, Memory, Name, NodeId, Pair, Token};
+use itoa::Buffer;
+use transformations::{Kind, NodeState, Phase};
+
+/// What has one text in answers.
+pub trait Shown {
+    ghost text: { Self → List ℕ };
+
+    /// Adds the text. After want of memory the output begins with what it held.
+    fn show(&self, out: &mut ByteText) -> Result<(), Memory>
+        ensures added { OnOk result (out.new ≡ out.old ++ text self.now) }
+        ensures kept { take (length out.old) out.new ≡ out.old };
+}
+
+/// Adds a label and a text.
+pub fn labelled<T: Shown>(label: &[u8], item: &T, out: &mut ByteText) -> Result<(), Memory>
+    ensures added { OnOk result (out.new ≡ out.old ++ (label.now ++ T.text item.now)) }
+    ensures kept { take (length out.old) out.new ≡ out.old }
+{
+    out.extend(label)?;
+    item.show(out)
+}
+
+impl Shown for u64 {
+    ghost text = { decimal };
+
+    fn show(&self, out: &mut ByteText) -> Result<(), Memory> {
+        out.extend(Buffer::new().format(*self).as_bytes())
+    }
+}
+
+impl Shown for NodeId {
+    ghost text = { decimal };
+
+    fn show(&self, out: &mut ByteText) -> Result<(), Memory> {
+        out.extend(Buffer::new().format(self.0).as_bytes())
+    }
+}
+
+impl Shown for Token {
+    ghost text = { signed_decimal };
+
+    fn show(&self, out: &mut ByteText) -> Result<(), Memory> {
+        out.extend(Buffer::new().format(self.value()).as_bytes())
+    }
+}
+
+impl Shown for Name {
+    ghost text = { λ name. name };
+
+    fn show(&self, out: &mut ByteText) -> Result<(), Memory> {
+        out.extend(self.as_str().as_bytes())
+    }
+}
+
+impl Shown for Pair {
+    ghost text = { spec.pair_text };
+
+    fn show(&self, out: &mut ByteText) -> Result<(), Memory> {
+        self.token.show(out)?;
+        out.extend(b"@")?;
+        self.node.show(out)
+    }
+}
+
+impl Shown for NodeState {
+    ghost text = { spec.state_text };
+
+    fn show(&self, out: &mut ByteText) -> Result<(), Memory> {
+        match self {
+            NodeState::Left => out.extend(b"LEFT"),
+            NodeState::Bootstrapping => out.extend(b"BOOTSTRAPPING"),
+            NodeState::Moving => out.extend(b"MOVING"),
+            NodeState::Leaving => out.extend(b"LEAVING"),
+            NodeState::BootReplacing => out.extend(b"BOOT_REPLACING"),
+            NodeState::Joined => out.extend(b"JOINED"),
+            NodeState::Registered => out.extend(b"REGISTERED"),
+        }
+    }
+}
+
+impl Shown for Kind {
+    ghost text = { spec.kind_text };
+
+    fn show(&self, out: &mut ByteText) -> Result<(), Memory> {
+        match self {
+            Kind::Join => out.extend(b"join"),
+            Kind::Move => out.extend(b"move"),
+            Kind::Leave => out.extend(b"leave"),
+            Kind::Replace => out.extend(b"replace"),
+        }
+    }
+}
+
+impl Shown for Phase {
+    ghost text = { spec.phase_text };
+
+    fn show(&self, out: &mut ByteText) -> Result<(), Memory> {
+        match self {
+            Phase::Prepared => out.extend(b"PREPARED"),
+            Phase::Started => out.extend(b"STARTED"),
+            Phase::Mid => out.extend(b"MID"),
+        }
+    }
+}

@@ -1,0 +1,23 @@
+//! The words of a line.
+
+ghost use Rattle.std.specs.Prelude.{◌≡◌, map, IfOk};
+ghost use Rattle.std.specs.Str.{bytes_eq};
+ghost use Rattle.script_lang.specs.Grammar as spec;
+
+use cluster_terms::Memory;
+use std::alloc::Global;
+
+/// The words of a line, which are parted by single spaces.
+pub fn words_of(alloc: Global, bytes: &[u8]) -> Result<Vec<&[u8]>, Memory>
+    ensures { IfOk result (λ words. map (λ word. word.now) words.items ≡ spec.words_of bytes.now) }
+{
+    let words = bytes.split(|byte| *byte == b' ').collect(alloc)?;
+    Ok(words)
+}
+
+/// Whether a word is the wanted one.
+pub fn is_word(word: &[u8], wanted: &[u8]) -> bool
+    ensures { result ≡ bytes_eq word.now wanted.now }
+{
+    word == wanted
+}

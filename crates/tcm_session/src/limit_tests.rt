@@ -1,0 +1,111 @@
+//! Scripts that come to the limits of nodes, tokens, keyspaces and epochs, each a run over objects in memory.
+
+use crate::{Status, run_surely};
+use cluster_terms::ByteText;
+use std::alloc::Global;
+use std::test::Fail;
+use tcm_edges::{SureSink, SureSource, SureStore};
+
+/// What a script is answered.
+fn answers_to(alloc: Global, script: &String) -> Result<String, Fail> {
+    let mut text = ByteText::empty(alloc);
+    text.extend(script.as_bytes()).map_err(|_| "memory")?;
+    let mut words = Vec::new(alloc);
+    words.push(String::from_str(alloc, "commit")?)?;
+    let mut input = SureSource::new(text, 65_536);
+    let mut out = SureSink::new(alloc);
+    let mut store = SureStore::new(alloc);
+    let status = run_surely(alloc, &words, &mut input, &mut out, &mut store);
+    if status != Status(0) {
+        Err("the run did not end")?;
+    }
+    let printed = std::str::from_utf8(out.bytes()).map_err(|_| "no text")?;
+    Ok(String::from_str(alloc, printed)?)
+}
+
+/// The answers `OK` from the first epoch to the last.
+fn accepted(alloc: Global, first: u64, last: u64) -> Result<String, Fail> {
+    let mut text = String::new(alloc);
+    for epoch in first..=last {
+        text.push_str(&format!(in alloc; "OK {epoch}\n")?)?;
+    }
+    Ok(text)
+}
+
+#[test]
+fn nodes_end_at_1024(rt: HostRuntime) -> Result<(), Fail> {
+    let alloc = rt.alloc();
+    let mut script = String::new(alloc);
+    for i in 1..=1_025 {
+        script.push_str(&format!(in alloc; "commit {i} register n{i} dc1 r1\n")?)?;
+    }
+    script.push_str(
+        "commit 1 unregister 7\ncommit 2 register n8 dc1 r1\ncommit 3 register last dc1 r1\n",
+    )?;
+    let mut want = accepted(alloc, 1, 1_024)?;
+    want.push_str("NO NODES-FULL\nOK 1025\nNO NAME-TAKEN 8\nOK 1026\n")?;
+    let answers = answers_to(alloc, &script)?;
+    assert_eq!(rt; answers.as_str(), want.as_str());
+    Ok(())
+}
+
+#[test]
+fn keyspaces_end_at_64(rt: HostRuntime) -> Result<(), Fail> {
+    let alloc = rt.alloc();
+    let mut script = String::new(alloc);
+    for i in 1..=65 {
+        script.push_str(&format!(in alloc; "commit {i} keyspace k{i} simple 1\n")?)?;
+    }
+    script.push_str(
+        "commit 1 keyspace k64 topology dc1:3\ncommit 2 drop-keyspace k7\ncommit 3 keyspace k65 simple 1\n",
+    )?;
+    let mut want = accepted(alloc, 1, 64)?;
+    want.push_str("NO KEYSPACES-FULL\nOK 65\nOK 66\nOK 67\n")?;
+    let answers = answers_to(alloc, &script)?;
+    assert_eq!(rt; answers.as_str(), want.as_str());
+    Ok(())
+}
+
+/// A node with 256 tokens, and no token of another one.
+fn join(alloc: Global, script: &mut String, node: u32) -> Result<(), Fail> {
+    script.push_str(&format!(in alloc; "commit {node} unsafe-join {node}")?)?;
+    for i in 0..256u64 {
+        let token = i * 100 + u64::from(node);
+        script.push_str(&format!(in alloc; " {token}")?)?;
+    }
+    script.push_str("\n")?;
+    Ok(())
+}
+
+#[test]
+fn tokens_end_at_16384(rt: HostRuntime) -> Result<(), Fail> {
+    let alloc = rt.alloc();
+    let mut script = String::new(alloc);
+    for i in 1..=65 {
+        script.push_str(&format!(in alloc; "commit {i} register n{i} dc1 r1\n")?)?;
+    }
+    for node in 1..=64 {
+        join(alloc, &mut script, node)?;
+    }
+    script.push_str("commit 1 unsafe-join 65 -1\ncommit 2 unsafe-join 65 -1 64\n")?;
+    let mut want = accepted(alloc, 1, 129)?;
+    want.push_str("NO TOKENS-FULL\nNO TOKEN-TAKEN 64\n")?;
+    let answers = answers_to(alloc, &script)?;
+    assert_eq!(rt; answers.as_str(), want.as_str());
+    Ok(())
+}
+
+#[test]
+fn epochs_end_at_65536(rt: HostRuntime) -> Result<(), Fail> {
+    let alloc = rt.alloc();
+    let mut script = String::new(alloc);
+    for i in 1..=65_537 {
+        script.push_str(&format!(in alloc; "commit {i} keyspace ks simple 1\n")?)?;
+    }
+    script.push_str("commit 1 unsafe-join 7 0\n")?;
+    let mut want = accepted(alloc, 1, 65_536)?;
+    want.push_str("NO EPOCHS-FULL\nNO EPOCHS-FULL\n")?;
+    let answers = answers_to(alloc, &script)?;
+    assert_eq!(rt; answers.as_str(), want.as_str());
+    Ok(())
+}

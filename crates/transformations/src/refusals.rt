@@ -1,0 +1,199 @@
+ghost use Rattle.std.specs.Prelude.{◌≡◌, not, IfOk, MatchOption};
+ghost use Rattle.std.specs.List.{list_any};
+ghost use Rattle.std.specs.Ordering.{int_eq};
+ghost use Rattle.transformations.specs.Refusals.{has_keyspace, is_idle, is_idle_or_left, is_registered, is_taken, keyspaces_full, name_taken, no_keyspace, no_node, nodes_full, refusal_of, refused_if, token_taken, tokens_full, wrong_state};
+ghost use Rattle.transformations.specs.States.{node_state};
+
+use crate::command::Command;
+use crate::image::Image;
+use crate::refusal::Refusal;
+use crate::sequence::SeqRow;
+use crate::state::{NodeState, node_state, row_of};
+use crate::token_count::{count_all, tokens_with};
+use cluster_terms::{Memory, Name, NodeId, Pair, Token};
+use std::alloc::Global;
+
+/// The most nodes that a cluster has.
+const MOST_NODES: usize = 1_024;
+
+/// The most tokens.
+const MOST_TOKENS: usize = 16_384;
+
+/// The most keyspaces.
+const MOST_KEYSPACES: usize = 64;
+
+/// A refusal, where a test says so.
+fn refused_if(test: bool, refusal: Refusal) -> Option<Refusal>
+    ensures { result ≡ refused_if test refusal }
+{
+    if test { Some(refusal) } else { None }
+}
+
+/// A node has the name.
+fn name_taken(image: &Image, name: &Name) -> Option<Refusal>
+    ensures { result ≡ name_taken image.now name.now }
+{
+    image
+        .nodes
+        .as_slice()
+        .iter()
+        .find(|row| row.name.as_str() == name.as_str())
+        .map(|row| Refusal::NameTaken(row.id))
+}
+
+/// As many nodes are registered as can be.
+fn nodes_full(image: &Image) -> Option<Refusal>
+    ensures { result ≡ nodes_full image.now }
+{
+    refused_if(
+        MOST_NODES <= image.nodes.as_slice().len(),
+        Refusal::NodesFull,
+    )
+}
+
+/// Whether a node is registered.
+fn is_registered(image: &Image, n: NodeId) -> bool
+    ensures { result ≡ is_registered image.now n }
+{
+    row_of(image.nodes.as_slice(), n).is_some()
+}
+
+/// The node isn't registered.
+fn no_node(image: &Image, n: NodeId) -> Option<Refusal>
+    ensures { result ≡ no_node image.now n }
+{
+    refused_if(!is_registered(image, n), Refusal::NoNode)
+}
+
+/// Whether a node is registered, and nothing else.
+fn is_idle(state: NodeState) -> bool
+    ensures { result ≡ is_idle state }
+{
+    matches!(state, NodeState::Registered)
+}
+
+/// Whether a node is registered and nothing else, or has left.
+fn is_idle_or_left(state: NodeState) -> bool
+    ensures { result ≡ is_idle_or_left state }
+{
+    matches!(state, NodeState::Registered | NodeState::Left)
+}
+
+/// The node's state isn't one that is allowed.
+fn wrong_state<F: FnOnce(NodeState) -> bool>(
+    image: &Image,
+    n: NodeId,
+    allowed: F,
+) -> Option<Refusal>
+    requires { F.IsAlwaysCallable allowed }
+    ensures { MatchOption (node_state image.now n) (result ≡ None) (λ s. (b : _) × F.post allowed s b × (result ≡ refused_if (not b) (Refusal.WrongState s))) }
+{
+    let state = node_state(image, n)?;
+    refused_if(!allowed(state), Refusal::WrongState(state))
+}
+
+/// Whether one of some pairs has a token.
+fn has_token(pairs: &[Pair], token: Token) -> bool
+    ensures { result ≡ list_any (λ p. int_eq p.token token) pairs.now }
+{
+    pairs.iter().any(|pair| pair.token == token)
+}
+
+/// Whether a movement brings a token.
+fn is_brought(sequences: &[SeqRow], token: Token) -> bool
+    ensures { result ≡ list_any (λ s. list_any (λ p. int_eq p.token token) s.in_pairs) sequences.now }
+{
+    sequences
+        .iter()
+        .any(|row| has_token(row.in_pairs.as_slice(), token))
+}
+
+/// Whether a token stands in the ring, or a movement in flight brings it.
+fn is_taken(image: &Image, token: Token) -> bool
+    ensures { result ≡ is_taken image.now token }
+{
+    has_token(image.tokens.as_slice(), token) || is_brought(image.sequences.as_slice(), token)
+}
+
+/// One of some tokens is taken: the first such one is shown. For k tokens that is at most k passes over the pairs of
+/// the ring and those that movements bring.
+fn token_taken(image: &Image, tokens: &[Token]) -> Option<Refusal>
+    ensures { result ≡ token_taken image.now tokens.now }
+{
+    tokens
+        .iter()
+        .find(|token| is_taken(image, **token))
+        .map(|token| Refusal::TokenTaken(*token))
+}
+
+/// Whether a keyspace has the name.
+fn has_keyspace(image: &Image, name: &Name) -> bool
+    ensures { result ≡ has_keyspace image.now name.now }
+{
+    image
+        .keyspaces
+        .as_slice()
+        .iter()
+        .any(|row| row.name.as_str() == name.as_str())
+}
+
+/// No keyspace has the name.
+fn no_keyspace(image: &Image, name: &Name) -> Option<Refusal>
+    ensures { result ≡ no_keyspace image.now name.now }
+{
+    refused_if(!has_keyspace(image, name), Refusal::NoKeyspace)
+}
+
+/// None has it, and as many are there as can be.
+fn keyspaces_full(image: &Image, name: &Name) -> Option<Refusal>
+    ensures { result ≡ keyspaces_full image.now name.now }
+{
+    refused_if(
+        MOST_KEYSPACES <= image.keyspaces.as_slice().len() && !has_keyspace(image, name),
+        Refusal::KeyspacesFull,
+    )
+}
+
+/// There would be too many tokens. They are sorted and counted only where the pairs of the ring, those that movements
+/// bring and the tokens are together too many.
+#[tactic(auto, using(crate::proofs::RefusalLemmas::few_tokens))]
+fn tokens_full(alloc: Global, image: &Image, tokens: &[Token]) -> Result<Option<Refusal>, Memory>
+    ensures { IfOk result (λ found. found ≡ tokens_full image.now tokens.now) }
+{
+    if count_all(image, tokens) <= MOST_TOKENS {
+        return Ok(None);
+    }
+    let count = tokens_with(alloc, image, tokens)?;
+    Ok(refused_if(MOST_TOKENS < count, Refusal::TokensFull))
+}
+
+/// The first refusal of a command in an image, if it is refused there: the first that comes of the command's refusals
+/// in their order. None after it is looked for. A search for a node or a keyspace is one pass over the rows. For k
+/// tokens of `UnsafeJoin` the search for one that is taken is at most k passes over the pairs of the ring and those
+/// that movements bring. `Err` comes only where memory is wanting to count the tokens of such a command.
+#[tactic(auto, using(crate::proofs::RefusalLemmas::first_of_two), unfolding(crate::specs::Refusals::refusal_of))]
+pub fn early_refusal(
+    alloc: Global,
+    image: &Image,
+    command: &Command,
+) -> Result<Option<Refusal>, Memory>
+    ensures { IfOk result (λ found. found ≡ refusal_of image.now command.now) }
+{
+    match command {
+        Command::Register { name, .. } => Ok(name_taken(image, name).or_else(|| nodes_full(image))),
+        Command::Unregister { node } => {
+            Ok(no_node(image, *node).or_else(|| wrong_state(image, *node, is_idle_or_left)))
+        }
+        Command::UnsafeJoin { node, tokens } => {
+            let early = no_node(image, *node)
+                .or_else(|| wrong_state(image, *node, is_idle))
+                .or_else(|| token_taken(image, tokens.as_slice()));
+            match early {
+                Some(refusal) => Ok(Some(refusal)),
+                None => tokens_full(alloc, image, tokens.as_slice()),
+            }
+        }
+        Command::Keyspace { name, .. } => Ok(keyspaces_full(image, name)),
+        Command::DropKeyspace { name } => Ok(no_keyspace(image, name)),
+    }
+}

@@ -1,0 +1,99 @@
+ghost use Rattle.std.specs.Prelude.{◌≡◌, ◌==◌};
+ghost use Rattle.std.specs.List.{list_any};
+ghost use Rattle.std.specs.Option.{option_copied};
+ghost use Rattle.cluster_terms.specs.NodeRow.{row_of};
+ghost use Rattle.transformations.specs.Rings.{is_started};
+ghost use Rattle.transformations.specs.States.{node_state, started_of, state_in, state_of_row};
+
+use crate::image::Image;
+use crate::sequence::{Kind, Phase, SeqRow};
+use cluster_terms::{NodeId, NodeRow, Pair};
+
+/// What a node is doing: derived from its row, the movements in flight and the ring.
+#[derive(Clone, Copy, Debug, PartialEq, Eq)]
+pub enum NodeState {
+    /// It has left the cluster.
+    Left,
+    /// A join of the node has started.
+    Bootstrapping,
+    /// A move of the node has started.
+    Moving,
+    /// A leave of the node has started.
+    Leaving,
+    /// The node has started to replace another one.
+    BootReplacing,
+    /// It has a token in the ring.
+    Joined,
+    /// It is registered, and none of the others.
+    Registered,
+}
+
+/// What the node of a movement is doing.
+fn state_in(kind: Kind) -> NodeState
+    ensures { result ≡ state_in kind }
+{
+    match kind {
+        Kind::Join => NodeState::Bootstrapping,
+        Kind::Move => NodeState::Moving,
+        Kind::Leave => NodeState::Leaving,
+        Kind::Replace => NodeState::BootReplacing,
+    }
+}
+
+/// Whether a movement at a phase has started.
+fn is_started(phase: Phase) -> bool
+    ensures { result ≡ is_started phase }
+{
+    match phase {
+        Phase::Prepared => false,
+        Phase::Started | Phase::Mid => true,
+    }
+}
+
+/// The movement of a node that has started.
+fn started_of(image: &Image, n: NodeId) -> Option<&SeqRow>
+    ensures { option_copied result ≡ started_of image.now n }
+{
+    image
+        .sequences
+        .as_slice()
+        .iter()
+        .find(|row| row.node == n && is_started(row.phase))
+}
+
+/// Whether one of some pairs is the node's.
+fn has_pair(pairs: &[Pair], n: NodeId) -> bool
+    ensures { result ≡ list_any (λ p. p.node == n) pairs.now }
+{
+    pairs.iter().any(|pair| pair.node == n)
+}
+
+/// The row of a node, if it is registered.
+pub(crate) fn row_of(nodes: &[NodeRow], n: NodeId) -> Option<&NodeRow>
+    ensures { option_copied result ≡ row_of nodes.now n }
+{
+    nodes.iter().find(|row| row.id == n)
+}
+
+/// The state of the node of a row: LEFT where the row says so, else what its movement that has started does, else
+/// whether it has a token in the ring.
+#[tactic(auto, unfolding(crate::specs::States::state_of_row))]
+pub fn state_of(image: &Image, row: &NodeRow) -> NodeState
+    ensures { result ≡ state_of_row image.now row.now }
+{
+    if row.left {
+        return NodeState::Left;
+    }
+    match started_of(image, row.id) {
+        Some(movement) => state_in(movement.kind),
+        None if has_pair(image.tokens.as_slice(), row.id) => NodeState::Joined,
+        None => NodeState::Registered,
+    }
+}
+
+/// The state of a node. `None` comes exactly where it isn't registered.
+pub fn node_state(image: &Image, n: NodeId) -> Option<NodeState>
+    ensures { result ≡ node_state image.now n }
+{
+    row_of(image.nodes.as_slice(), n).map(|row| state_of(image, row))
+}

@@ -1,0 +1,58 @@
+ghost use Rattle.std.specs.Prelude.{◌≡◌, ◌+◌, length, map, min, IfOk};
+ghost use Rattle.std.specs.Ordering.{int_eq};
+ghost use Rattle.std.specs.Set.{distinct_count};
+ghost use Rattle.transformations.specs.Refusals.{tokens_with};
+ghost use Rattle.transformations.specs.Rings.{widest};
+
+use crate::image::Image;
+use cluster_terms::{Memory, Pair, PairList, Token, TryCopy};
+use std::alloc::Global;
+
+/// The pairs of the ring, and all that movements in flight put in.
+fn widest(image: &Image) -> Result<PairList, Memory>
+    ensures { IfOk result (λ pairs. pairs ≡ widest image.now) }
+{
+    let mut pairs = image.tokens.copy()?;
+    for row in image.sequences.as_slice() {
+        pairs.extend(row.in_pairs.as_slice())?;
+    }
+    Ok(pairs)
+}
+
+/// The tokens of some pairs.
+fn tokens_of(alloc: Global, pairs: &[Pair]) -> Result<Vec<Token>, Memory>
+    ensures { IfOk result (λ tokens. tokens.items ≡ map (λ p. p.token) pairs.now) }
+{
+    Ok(pairs.iter().map(|pair| pair.token).collect(alloc)?)
+}
+
+/// How many tokens there are, where equal ones count once.
+fn distinct(mut tokens: Vec<Token>) -> usize
+    ensures { result ≡ distinct_count int_eq tokens.items }
+{
+    tokens.sort_unstable();
+    tokens.dedup();
+    tokens.len()
+}
+
+/// How many pairs there are in the ring, how many movements bring, and how many tokens a command has: their sum, or
+/// the greatest number where the sum is greater.
+pub(crate) fn count_all(image: &Image, tokens: &[Token]) -> usize
+    ensures { result ≡ min (length (widest image.now) + length tokens.now) usize.MAX }
+{
+    let mut count = tokens.len().saturating_add(image.tokens.as_slice().len());
+    for row in image.sequences.as_slice() {
+        count = count.saturating_add(row.in_pairs.as_slice().len());
+    }
+    count
+}
+
+/// How many tokens there would be with those of a command.
+pub(crate) fn tokens_with(alloc: Global, image: &Image, tokens: &[Token]) -> Result<usize, Memory>
+    ensures { IfOk result (λ count. count ≡ tokens_with image.now tokens.now) }
+{
+    let pairs = widest(image)?;
+    let mut all = tokens_of(alloc, pairs.as_slice())?;
+    all.extend_from_slice(tokens)?;
+    Ok(distinct(all))
+}
