@@ -1,3 +1,4 @@
+pub mod LineTokens
 pub mod Numerals
 pub mod TokenLists
 pub mod TokenTexts

@@ -1,5 +1,5 @@
 -- The grammar of script lines.
-use Rattle.std.specs.Prelude.{ℕ, ◌+◌, ◌^◌, Bool, ◌&&◌, if◌then◌else◌, ℤ, pos, neg_ℤ, List, [], ◌∷◌, length, filter_map, Option, Some, None, is_some, option_map, option_and_then, nat_lt, nat_le, ◌==◌, codes, decimal}
+use Rattle.std.specs.Prelude.{ℕ, ◌+◌, ◌^◌, Bool, ◌&&◌, if◌then◌else◌, ℤ, pos, neg_ℤ, List, [], ◌∷◌, length, filter_map, Option, Some, None, is_some, option_map, option_and_then, nat_lt, nat_le, ◌==◌, codes, decimal, IsTrue}
 use Rattle.std.specs.List.{list_all, slice_split}
 use Rattle.std.specs.Ordering.{int_cmp, int_eq}
 use Rattle.std.specs.Set.{distinct_count}
@@ -9,7 +9,12 @@ use Rattle.cluster_terms.specs.Ascending.{ascending}
 use Rattle.cluster_terms.specs.Name.{is_name}
 use Rattle.cluster_terms.specs.ReplicationText.{replication_of_words}
 use Rattle.transformations.specs.declared.command.Command.{Command}
-use Rattle.transformations.specs.declared.command.Command.TheVariants.{Register, Unregister, UnsafeJoin, Keyspace, DropKeyspace}
+use Rattle.transformations.specs.declared.command.Command.TheVariants.{Register, Unregister, UnsafeJoin, Keyspace, DropKeyspace, PrepareJoin, Step}
+use Rattle.transformations.specs.declared.sequence.Goal.{Goal}
+use Rattle.transformations.specs.declared.sequence.Goal.TheVariants.{Start, Mid, Finish}
+use Rattle.transformations.specs.declared.sequence.Kind.{Kind}
+use Rattle.transformations.specs.declared.sequence.Kind.TheVariants.{Join}
+use Rattle.transformations.specs.History.{is_command}
 use Rattle.script_lang.specs.declared.script_line.ScriptLine.{ScriptLine}
 use Rattle.script_lang.specs.declared.script_line.ScriptLine.TheVariants.{Commit, Place, Nodes}
 use Rattle.script_lang.specs.declared.script_line.Target.{Target}
@@ -64,9 +69,16 @@ unregister_of (node ∷ []) = option_map Unregister (node_of node)
 unregister_of _ = None
 
 -- NODE TOKEN ..
+unfoldable pub node_and_tokens : List (List ℕ) → Option (ℕ × List ℤ)
+node_and_tokens [] = None
+node_and_tokens (node ∷ tokens) = option_and_then (λ n. option_map (λ ts. (n, ts)) (tokens_of tokens)) (node_of node)
+
+-- the commands that give a node tokens at once, and that prepare a join
 unfoldable pub unsafe_join_of : List (List ℕ) → Option Command
-unsafe_join_of [] = None
-unsafe_join_of (node ∷ tokens) = option_and_then (λ n. option_map (UnsafeJoin n) (tokens_of tokens)) (node_of node)
+unsafe_join_of words = option_map (λ (node, tokens). UnsafeJoin node tokens) (node_and_tokens words)
+
+unfoldable pub prepare_join_of : List (List ℕ) → Option Command
+prepare_join_of words = option_map (λ (node, tokens). PrepareJoin node tokens) (node_and_tokens words)
 
 -- NAME REPLICATION
 unfoldable pub keyspace_of : List (List ℕ) → Option Command
@@ -78,16 +90,33 @@ unfoldable pub drop_keyspace_of : List (List ℕ) → Option Command
 drop_keyspace_of (name ∷ []) = if is_name name then Some (DropKeyspace name) else None
 drop_keyspace_of _ = None
 
+-- the words of steps: what the movement comes to, and what kind of movement it is
+abbrev pub step_of_word : List ℕ → Option (Goal × Kind)
+step_of_word word =
+    if bytes_eq word (codes "start-join") then Some (Start, Join)
+    else if bytes_eq word (codes "mid-join") then Some (Mid, Join)
+    else if bytes_eq word (codes "finish-join") then Some (Finish, Join)
+    else None
+
+-- a step's word, and NODE
+unfoldable pub step_of : List ℕ → List (List ℕ) → Option Command
+step_of word (node ∷ []) = option_and_then (λ (goal, kind). option_map (Step goal kind) (node_of node)) (step_of_word word)
+step_of word _ = None
+
 -- a command: its first word, and what that word asks for
-unfoldable pub command_of : List (List ℕ) → Option Command
-command_of [] = None
-command_of (word ∷ words) =
+unfoldable pub command_named : List ℕ → List (List ℕ) → Option Command
+command_named word words =
     if bytes_eq word (codes "register") then register_of words
     else if bytes_eq word (codes "unregister") then unregister_of words
     else if bytes_eq word (codes "unsafe-join") then unsafe_join_of words
     else if bytes_eq word (codes "keyspace") then keyspace_of words
     else if bytes_eq word (codes "drop-keyspace") then drop_keyspace_of words
-    else None
+    else if bytes_eq word (codes "prepare-join") then prepare_join_of words
+    else step_of word words
+
+unfoldable pub command_of : List (List ℕ) → Option Command
+command_of [] = None
+command_of (word ∷ words) = command_named word words
 
 -- ID COMMAND
 unfoldable pub commit_of : List (List ℕ) → Option ScriptLine
@@ -121,3 +150,8 @@ line_of_words (word ∷ words) =
 -- what a line says, if it is in the grammar; a line has at most 16,384 bytes
 unfoldable pub line_of : List ℕ → Option ScriptLine
 line_of bytes = if nat_le (length bytes) 16384 then line_of_words (words_of bytes) else None
+
+-- where a line commits a command with tokens, there are 1 to 256 of them, and they ascend
+abbrev pub HasTokens : ScriptLine → Type 0
+HasTokens (Commit id command) = IsTrue (is_command command)
+HasTokens _ = Unit {0}

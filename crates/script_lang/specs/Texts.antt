@@ -13,7 +13,7 @@ use Rattle.transformations.specs.States.{node_tokens, state_of_row}
 use Rattle.transformations.specs.declared.image.Image.{Image}
 use Rattle.transformations.specs.declared.keyspace.KeyspaceRow.{KeyspaceRow}
 use Rattle.transformations.specs.declared.refusal.Refusal.{Refusal}
-use Rattle.transformations.specs.declared.refusal.Refusal.TheVariants.{NameTaken, NodesFull, NoNode, WrongState, TokenTaken, TokensFull, NoKeyspace, KeyspacesFull, EpochsFull}
+use Rattle.transformations.specs.declared.refusal.Refusal.TheVariants.{NameTaken, NodesFull, NoNode, WrongState, InSequence, NoSequence, WrongStep, TokenTaken, TokensFull, NotIdle, NoKeyspace, KeyspacesFull, EpochsFull}
 use Rattle.transformations.specs.declared.sequence.Kind.{Kind}
 use Rattle.transformations.specs.declared.sequence.Kind.TheVariants as kind
 use Rattle.transformations.specs.declared.sequence.Phase.{Phase}
@@ -65,14 +65,22 @@ phase_text phase.Prepared = codes "PREPARED"
 phase_text phase.Started = codes "STARTED"
 phase_text phase.Mid = codes "MID"
 
+-- how far a movement of a kind has come
+abbrev pub progress_text : Kind × Phase → List ℕ
+progress_text p = kind_text p.0 ++ codes " " ++ phase_text p.1
+
 -- why a command was refused
 unfoldable pub refusal_text : Refusal → List ℕ
 refusal_text (NameTaken n) = codes "NAME-TAKEN " ++ decimal n
 refusal_text NodesFull = codes "NODES-FULL"
 refusal_text NoNode = codes "NO-NODE"
 refusal_text (WrongState s) = codes "NODE-STATE " ++ state_text s
+refusal_text (InSequence n) = codes "IN-SEQUENCE " ++ decimal n
+refusal_text NoSequence = codes "NO-SEQUENCE"
+refusal_text (WrongStep k p) = codes "WRONG-STEP " ++ progress_text (k, p)
 refusal_text (TokenTaken t) = codes "TOKEN-TAKEN " ++ signed_decimal t
 refusal_text TokensFull = codes "TOKENS-FULL"
+refusal_text (NotIdle n) = codes "NOT-IDLE " ++ decimal n
 refusal_text NoKeyspace = codes "NO-KEYSPACE"
 refusal_text KeyspacesFull = codes "KEYSPACES-FULL"
 refusal_text EpochsFull = codes "EPOCHS-FULL"

@@ -52,9 +52,9 @@ mod tests {
     use super::*;
     use cluster_terms::{NodeId, Token};
     use std::test::Fail;
-    use transformations::NodeState;
+    use transformations::{Kind, NodeState, Phase};
 
-    const REFUSALS: [(Refusal, &[u8]); 9] = [
+    const REFUSALS: [(Refusal, &[u8]); 14] = [
         (
             Refusal::NameTaken(NodeId(4294967295)),
             b"NO NAME-TAKEN 4294967295\n",
@@ -69,7 +69,21 @@ mod tests {
             Refusal::WrongState(NodeState::Registered),
             b"NO NODE-STATE REGISTERED\n",
         ),
+        (Refusal::InSequence(NodeId(7)), b"NO IN-SEQUENCE 7\n"),
+        (Refusal::NoSequence, b"NO NO-SEQUENCE\n"),
+        (
+            Refusal::WrongStep(Kind::Join, Phase::Prepared),
+            b"NO WRONG-STEP join PREPARED\n",
+        ),
+        (
+            Refusal::WrongStep(Kind::Replace, Phase::Mid),
+            b"NO WRONG-STEP replace MID\n",
+        ),
         (Refusal::TokensFull, b"NO TOKENS-FULL\n"),
+        (
+            Refusal::NotIdle(NodeId(4294967295)),
+            b"NO NOT-IDLE 4294967295\n",
+        ),
         (Refusal::NoKeyspace, b"NO NO-KEYSPACE\n"),
         (Refusal::KeyspacesFull, b"NO KEYSPACES-FULL\n"),
         (Refusal::EpochsFull, b"NO EPOCHS-FULL\n"),

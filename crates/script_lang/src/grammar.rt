@@ -1,6 +1,6 @@
 //! The grammar of script lines: what a line says, and which bytes are no line.
 
-ghost use Rattle.std.specs.Prelude.{◌≡◌, ◌<◌, length, map, IfOk, IsOk};
+ghost use Rattle.std.specs.Prelude.{◌≡◌, ◌<◌, length, map, IfOk, IfSome, IsOk};
 ghost use Rattle.script_lang.specs.Grammar as spec;
 
 use crate::command_words::command_of;
@@ -14,10 +14,11 @@ use std::alloc::Global;
 const LINE_LIMIT: usize = 16_384;
 
 /// What a line says. `None` comes exactly for a line that is not in the grammar, and for one of more than
-/// 16,384 bytes, for which no memory is taken.
+/// 16,384 bytes, for which no memory is taken. A command that has tokens has 1 to 256 of them, ascending.
 #[tactic(auto, unfolding(crate::specs::Grammar::line_of))]
 pub fn parse_line(alloc: Global, bytes: &[u8]) -> Result<Option<ScriptLine>, Memory>
     ensures meaning { IfOk result (λ found. found ≡ spec.line_of bytes.now) }
+    ensures tokens { IfOk result (λ found. IfSome found spec.HasTokens) }
     ensures long { 16384 < length bytes.now → IsOk result }
 {
     if bytes.len() > LINE_LIMIT {
@@ -96,9 +97,9 @@ mod tests {
     use super::*;
     use cluster_terms::{ByteText, Replication, Token};
     use std::test::Fail;
-    use transformations::Command;
+    use transformations::{Command, Goal, Kind};
 
-    const LINES: [&str; 19] = [
+    const LINES: [&str; 24] = [
         "commit 0 register n1 dc-1 Rack_2.b",
         "commit 18446744073709551615 register a b c",
         "commit 5 unregister 1",
@@ -114,6 +115,11 @@ mod tests {
         "commit 14 drop-keyspace ks",
         "commit 15 drop-keyspace aaaaaaaaaaaaaaaaaaaaaaaaaaaaaaaa",
         "commit 16 keyspace simple simple 3",
+        "commit 17 prepare-join 1 0",
+        "commit 18 prepare-join 4294967295 -9223372036854775808 -1 9223372036854775807",
+        "commit 19 start-join 1",
+        "commit 20 mid-join 4294967295",
+        "commit 21 finish-join 2",
         "place @0 ks",
         "place @18446744073709551615 ks",
         "nodes @0",
@@ -121,10 +127,14 @@ mod tests {
     ];
 
     // Lines that may be written in several orders, each with the one that ascends.
-    const REORDERED: [(&str, &str); 2] = [
+    const REORDERED: [(&str, &str); 3] = [
         (
             "commit 7 unsafe-join 1 5 -3 0 -9223372036854775808 9223372036854775807 4 -30",
             "commit 7 unsafe-join 1 -9223372036854775808 -30 -3 0 4 5 9223372036854775807",
+        ),
+        (
+            "commit 7 prepare-join 2 40 -30 20",
+            "commit 7 prepare-join 2 -30 20 40",
         ),
         (
             "commit 7 keyspace ks topology dc2:1 dc10:16 Dc2:12 dc:2",
@@ -132,7 +142,7 @@ mod tests {
         ),
     ];
 
-    const NO_LINES: [&[u8]; 78] = [
+    const NO_LINES: [&[u8]; 96] = [
         b"",
         b" ",
         b"place",
@@ -211,6 +221,24 @@ mod tests {
         b"commit 1 drop-keyspace",
         b"commit 1 drop-keyspace a/b",
         b"commit 1 drop-keyspace ks ks",
+        b"commit 1 prepare-join",
+        b"commit 1 prepare-join 1",
+        b"commit 1 prepare-join 1 ",
+        b"commit 1 prepare-join 1 5 -0",
+        b"commit 1 prepare-join 1 5 4 5",
+        b"commit 1 prepare-join 1 9223372036854775808",
+        b"commit 1 prepare-join 4294967296 5",
+        b"commit 1 start-join",
+        b"commit 1 start-join 1 5",
+        b"commit 1 Start-join 1",
+        b"commit 1 start join 1",
+        b"commit 1 mid-join x",
+        b"commit 1 finish-join 4294967296",
+        b"commit 1 start-move 1",
+        b"commit 1 mid-leave 1",
+        b"commit 1 finish-replace 1",
+        b"commit 1 prepare-move 1 5",
+        b"commit 1 prepare-leave 1",
     ];
 
     fn tokens_text(alloc: Global, tokens: &[Token]) -> Result<String, Fail> {
@@ -234,6 +262,16 @@ mod tests {
         Ok(text)
     }
 
+    // The word of a step; none is written for a step that no line says.
+    fn step_word(goal: Goal, kind: Kind) -> &'static str {
+        match (goal, kind) {
+            (Goal::Start, Kind::Join) => "start-join",
+            (Goal::Mid, Kind::Join) => "mid-join",
+            (Goal::Finish, Kind::Join) => "finish-join",
+            _ => "",
+        }
+    }
+
     // A command, written as in a line.
     fn command_text(alloc: Global, command: &Command) -> Result<String, Fail> {
         let text = match command {
@@ -252,6 +290,13 @@ mod tests {
             }
             Command::Keyspace { name, replication } => keyspace_text(alloc, name, replication)?,
             Command::DropKeyspace { name } => format!(in alloc; "drop-keyspace {}", name.as_str())?,
+            Command::PrepareJoin { node, tokens } => {
+                let tokens = tokens_text(alloc, tokens.as_slice())?;
+                format!(in alloc; "prepare-join {}{tokens}", node.0)?
+            }
+            Command::Step { goal, kind, node } => {
+                format!(in alloc; "{} {}", step_word(*goal, *kind), node.0)?
+            }
         };
         Ok(text)
     }
@@ -277,9 +322,9 @@ mod tests {
         line_text(alloc, &said)
     }
 
-    // A line with so many tokens, in descending order.
-    fn join_line(alloc: Global, count: i64) -> Result<String, Fail> {
-        let mut line = String::from_str(alloc, "commit 1 unsafe-join 1")?;
+    // A line that gives a node so many tokens, in descending order.
+    fn join_line(alloc: Global, join: &str, count: i64) -> Result<String, Fail> {
+        let mut line = format!(in alloc; "commit 1 {join} 1")?;
         for token in (0..count).rev() {
             let word = format!(in alloc; " {token}")?;
             line.push_str(word.as_str())?;
@@ -291,6 +336,7 @@ mod tests {
     fn tokens_in(line: &ScriptLine) -> &[Token] {
         match line {
             ScriptLine::Commit(_, Command::UnsafeJoin { tokens, .. }) => tokens.as_slice(),
+            ScriptLine::Commit(_, Command::PrepareJoin { tokens, .. }) => tokens.as_slice(),
             _ => &[],
         }
     }
@@ -315,13 +361,15 @@ mod tests {
 
     #[test]
     fn a_node_gets_at_most_256_tokens(rt: HostRuntime) -> Result<(), Fail> {
-        let most = join_line(rt.alloc(), 256)?;
-        let said = parse_line(rt.alloc(), most.as_bytes())?.ok_or("no line")?;
-        let tokens = tokens_in(&said);
-        assert_eq!(rt; tokens.len(), 256);
-        assert!(rt; tokens.is_sorted());
-        let more = join_line(rt.alloc(), 257)?;
-        assert!(rt; parse_line(rt.alloc(), more.as_bytes())?.is_none());
+        for join in ["unsafe-join", "prepare-join"] {
+            let most = join_line(rt.alloc(), join, 256)?;
+            let said = parse_line(rt.alloc(), most.as_bytes())?.ok_or("no line")?;
+            let tokens = tokens_in(&said);
+            assert_eq!(rt; tokens.len(), 256);
+            assert!(rt; tokens.is_sorted());
+            let more = join_line(rt.alloc(), join, 257)?;
+            assert!(rt; parse_line(rt.alloc(), more.as_bytes())?.is_none());
+        }
         Ok(())
     }
 

@@ -109,3 +109,13 @@ impl Shown for Phase {
         }
     }
 }
+
+// A kind, and how far the movement has come.
+impl Shown for (Kind, Phase) {
+    ghost text = { spec.progress_text };
+
+    fn show(&self, out: &mut ByteText) -> Result<(), Memory> {
+        self.0.show(out)?;
+        labelled(b" ", &self.1, out)
+    }
+}

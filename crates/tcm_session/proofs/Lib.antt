@@ -1,5 +1,6 @@
 pub mod AnswersLemmas
 pub mod CauseLemmas
+pub mod CountLemmas
 pub mod HistoryLemmas
 pub mod FeedLemmas
 pub mod LinesLemmas

@@ -2,9 +2,11 @@
 
 ghost use Rattle.std.specs.Prelude.{◌≡◌, ◌==◌, ◌+◌, ◌-◌, ◌<◌, ◌≤◌, ◌^◌, filter, length, not, IfOk, MatchResult};
 ghost use Rattle.std.specs.Str.{bytes_eq};
-ghost use Rattle.transformations.specs.History.{empty_image as empty, image_after, next_image, pairs_of};
+ghost use Rattle.transformations.specs.History.{empty_image as empty, image_after, next_image};
+ghost use Rattle.transformations.specs.Steps.{pairs_of};
 ghost use Rattle.transformations.specs.declared.command.Command.TheVariants as command;
 
+use crate::movements::{prepare_join, take_step};
 use cluster_terms::{
     Memory, Name, NodeId, NodeRow, NodeRows, Pair, Replication, SmallList, Token, TryCopy,
 };
@@ -63,7 +65,7 @@ fn unregister(image: &mut Image, node: NodeId)
 }
 
 /// The pairs of a node and its tokens.
-fn pairs_with(alloc: Global, node: NodeId, tokens: &[Token]) -> Result<Vec<Pair>, Memory>
+pub fn pairs_with(alloc: Global, node: NodeId, tokens: &[Token]) -> Result<Vec<Pair>, Memory>
     ensures { IfOk result (λ pairs. pairs.items ≡ pairs_of node tokens.now) }
 {
     let pairs = tokens
@@ -140,6 +142,10 @@ pub fn apply(alloc: Global, image: &mut Image, command: &Command) -> Result<(), 
             drop_keyspace(image, name);
             Ok(())
         }
+        Command::PrepareJoin { node, tokens } => {
+            prepare_join(alloc, image, *node, tokens.as_slice())
+        }
+        Command::Step { goal, kind, node } => take_step(alloc, image, *goal, *kind, *node),
     }
 }
 

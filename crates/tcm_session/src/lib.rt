@@ -8,6 +8,7 @@ mod fault_tests;
 #[cfg(test)]
 mod limit_tests;
 mod lines;
+mod movements;
 mod place_text;
 mod placement;
 mod program;

@@ -3,8 +3,9 @@
 ghost use Rattle.std.specs.Prelude.{◌≡◌, ◌<◌, ℤ, [], ◌∷◌, IfOk};
 ghost use Rattle.cluster_terms.specs.Group.{place as placed};
 ghost use Rattle.cluster_terms.specs.Replication.{groups_of, whole_group};
-ghost use Rattle.transformations.specs.Rings.{high_ring, low_ring, read_ring, reads_at as reads_of, writes_at as writes_of};
+ghost use Rattle.transformations.specs.Rings.{reads_at as reads_of, writes_at as writes_of};
 ghost use Rattle.tcm_session.specs.Placers.{IsPlacing, placed_by};
+ghost use Rattle.tcm_session.specs.Serving.{AreRings};
 
 use crate::rings::Rings;
 use cluster_terms::{Memory, Replication, Rf, Steps, Token};
@@ -83,9 +84,7 @@ impl<'a> Placers<'a> {
         dir: &'a Directory,
         replication: &'a Replication,
     ) -> Result<Placers<'a>, Memory>
-        requires low { rings.now.low ≡ low_ring image.now }
-        requires read { rings.now.read ≡ read_ring image.now }
-        requires high { rings.now.high ≡ high_ring image.now }
+        requires rings { AreRings image.now rings.now }
         requires nodes { dir.now.rows ≡ image.now.nodes }
         ensures { IfOk result (λ placers. IsPlacing image.now replication.now placers) }
     {

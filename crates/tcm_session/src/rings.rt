@@ -3,10 +3,11 @@
 ghost use Rattle.std.specs.Prelude.{◌≡◌, ◌++◌, filter, flat_map, map, not, IfOk, IsTrue, OnOk};
 ghost use Rattle.std.specs.Set.{is_member};
 ghost use Rattle.transformations.specs.Orders.{same_pair};
-ghost use Rattle.transformations.specs.Rings.{cuts as cuts_of, high_ring, incoming, low_ring, outgoing, read_ring, ring_at, widest as widest_of};
-ghost use Rattle.node_directory.specs.Directory.{is_directory};
-ghost use Rattle.token_ring.specs.Ring.{IsRing};
+ghost use Rattle.std.specs.List.Sorted.{IsPermutation};
+ghost use Rattle.transformations.specs.Rings.{cuts as cuts_of, incoming, outgoing, ring_at, widest as widest_of};
+ghost use Rattle.token_ring.specs.Ring.{are_distinct, tokens_of as tokens_in};
 ghost use Rattle.tcm_session.specs.RingKinds.{sees, seen_rows};
+ghost use Rattle.tcm_session.specs.Serving.{AreRings, IsServing};
 
 use cluster_terms::{Memory, Pair, PairList, Token, TokenList, TryCopy};
 use node_directory::Directory;
@@ -37,7 +38,7 @@ impl RingKind {
 }
 
 /// Whether a pair is among some others.
-fn has_pair(pairs: &[Pair], pair: Pair) -> bool
+pub fn has_pair(pairs: &[Pair], pair: Pair) -> bool
     ensures { result ≡ is_member same_pair pairs.now pair }
 {
     pairs.iter().any(|other| pair == *other)
@@ -126,10 +127,10 @@ pub struct Rings {
     pub high: Ring,
 }
 
-/// The ring of some pairs that ascend.
+/// The ring of some pairs, in any order, in which no token comes twice.
 fn ring_of(alloc: Global, pairs: &[Pair]) -> Result<Ring, Memory>
-    requires { IsRing pairs.now }
-    ensures { IfOk result (λ ring. ring ≡ pairs.now) }
+    requires { IsTrue (are_distinct (tokens_in pairs.now)) }
+    ensures { IfOk result (λ ring. IsPermutation pairs.now ring) }
 {
     match Ring::from_pairs(alloc, pairs)? {
         Some(ring) => Ok(ring),
@@ -139,12 +140,8 @@ fn ring_of(alloc: Global, pairs: &[Pair]) -> Result<Ring, Memory>
 
 /// The rings of an image.
 pub fn rings_of(alloc: Global, image: &Image) -> Result<Rings, Memory>
-    requires low { IsRing (low_ring image.now) }
-    requires read { IsRing (read_ring image.now) }
-    requires high { IsRing (high_ring image.now) }
-    ensures low { IfOk result (λ rings. rings.low ≡ low_ring image.now) }
-    ensures read { IfOk result (λ rings. rings.read ≡ read_ring image.now) }
-    ensures high { IfOk result (λ rings. rings.high ≡ high_ring image.now) }
+    requires { IsServing image.now }
+    ensures { IfOk result (λ rings. AreRings image.now rings) }
 {
     let read = ring_with(alloc, image, RingKind::Read)?;
     let high = ring_with(alloc, image, RingKind::High)?;
@@ -157,7 +154,7 @@ pub fn rings_of(alloc: Global, image: &Image) -> Result<Rings, Memory>
 
 /// The directory of an image's nodes.
 pub fn directory_of(alloc: Global, image: &Image) -> Result<Directory, Memory>
-    requires { IsTrue (is_directory 1 image.now.nodes image.now.next) }
+    requires { IsServing image.now }
     ensures { IfOk result (λ dir. dir.rows ≡ image.now.nodes) }
 {
     match Directory::from_rows(alloc, image.nodes.as_slice(), image.next)? {

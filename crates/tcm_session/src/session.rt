@@ -1,6 +1,7 @@
-ghost use Rattle.std.specs.Prelude.{◌≡◌, ◌∷◌, ◌++◌, [], find, if◌then◌else◌, nat_le, length, option_copied, Some, None, OnOk, OnErr, IfOk, IfSome, MatchResult};
+ghost use Rattle.std.specs.Prelude.{◌≡◌, ◌∷◌, ◌++◌, [], find, if◌then◌else◌, nat_le, length, option_copied, Some, None, OnOk, OnErr, IfOk, IfSome, IsTrue, MatchResult};
 ghost use Rattle.std.specs.Str.{bytes_eq};
-ghost use Rattle.transformations.specs.History.{commit_refusal, state_after};
+ghost use Rattle.script_lang.specs.Grammar.{HasTokens};
+ghost use Rattle.transformations.specs.History.{commit_refusal, is_command, state_after};
 ghost use Rattle.tcm_session.specs.Machine.{commit_reply, keyspace_named, nodes_answer, place_answer, placements, reply, reply_to};
 ghost use Rattle.tcm_session.specs.Serving.{IsServing};
 
@@ -84,6 +85,7 @@ impl Session {
 
     /// Answers what a line says; bytes that are in no form say nothing.
     fn answer(&mut self, said: Option<ScriptLine>, out: &mut ByteText) -> Result<(), Memory>
+        requires { IfSome said (λ line. HasTokens line) }
         ensures text { OnOk result (out.new ≡ out.old ++ (reply_to self.old said).text) }
         ensures history { OnOk result (self.new ≡ (reply_to self.old said).history) }
         ensures err { OnErr result (self.new ≡ self.old) }
@@ -100,6 +102,7 @@ impl Session {
 
     /// Decides a command: it is refused, or becomes the next of the history.
     fn commit(&mut self, command: Command, out: &mut ByteText) -> Result<(), Memory>
+        requires { IsTrue (is_command command) }
         ensures text { OnOk result (out.new ≡ out.old ++ (commit_reply self.old command).text) }
         ensures history { OnOk result (self.new ≡ (commit_reply self.old command).history) }
         ensures err { OnErr result (self.new ≡ self.old) }
@@ -125,7 +128,8 @@ impl Session {
 
     /// Adds a command that isn't refused to the history. Want of memory changes nothing.
     fn accept(&mut self, command: Command) -> Result<(), Memory>
-        requires { commit_refusal self.old command ≡ None }
+        requires tokens { IsTrue (is_command command) }
+        requires accepted { commit_refusal self.old command ≡ None }
         ensures { MatchResult result (λ _. self.new ≡ self.old ++ command ∷ []) (λ _. self.new ≡ self.old) }
     {
         self.commands.reserve(1)?;

@@ -42,7 +42,7 @@ fn ran(alloc: Global, word: &str, script: &[u8], piece: usize) -> Result<(Status
 }
 
 /// Names of worked scripts, with the scripts and their answers.
-const SCRIPTS: [(&str, &str, &str); 14] = [
+const SCRIPTS: [(&str, &str, &str); 19] = [
     (
         "one-node",
         "commit 1 register a dc1 r1\ncommit 2 unsafe-join 1 0\ncommit 3 keyspace ks simple 1\nplace @3 ks\n",
@@ -104,6 +104,31 @@ const SCRIPTS: [(&str, &str, &str); 14] = [
         "refusals in order",
         "commit 1 register a dc1 r1\ncommit 2 register a dc9 r9\ncommit 3 register b dc1 r1\ncommit 4 unsafe-join 1 0\ncommit 5 unsafe-join 3 0\ncommit 6 unsafe-join 1 0\ncommit 7 unsafe-join 2 0\ncommit 8 unregister 1\ncommit 9 unregister 3\ncommit 10 unregister 2\ncommit 11 unregister 2\ncommit 12 unsafe-join 2 100\ncommit 13 keyspace ks simple 17\ncommit 14 drop-keyspace zz\nnodes @4\n",
         "OK 1\nNO NAME-TAKEN 1\nOK 2\nOK 3\nNO NO-NODE\nNO NODE-STATE JOINED\nNO TOKEN-TAKEN 0\nNO NODE-STATE JOINED\nNO NO-NODE\nOK 4\nNO NO-NODE\nNO NO-NODE\nNO BAD-LINE\nNO NO-KEYSPACE\nNODES 4 1 0\n1 a dc1 r1 JOINED 0\n",
+    ),
+    (
+        "join-started",
+        "commit 1 register a dc1 r1\ncommit 2 register b dc1 r1\ncommit 3 register c dc1 r1\ncommit 4 register d dc1 r1\ncommit 5 unsafe-join 1 0\ncommit 6 unsafe-join 2 100\ncommit 7 unsafe-join 3 200\ncommit 8 unsafe-join 4 300\ncommit 9 keyspace ks simple 3\ncommit 10 register e dc1 r1\ncommit 11 register f dc1 r1\ncommit 12 prepare-join 5 150\ncommit 13 start-join 5\nplace @12 ks\nplace @13 ks\n",
+        "OK 1\nOK 2\nOK 3\nOK 4\nOK 5\nOK 6\nOK 7\nOK 8\nOK 9\nOK 10\nOK 11\nOK 12\nOK 13\nPLACE 12 ks 6\n(min,0] read 1,2,3 write 1,2,3\n(0,100] read 2,3,4 write 2,3,4\n(100,150] read 1,3,4 write 1,3,4\n(150,200] read 1,3,4 write 1,3,4\n(200,300] read 1,2,4 write 1,2,4\n(300,max] read 1,2,3 write 1,2,3\nPLACE 13 ks 6\n(min,0] read 1,2,3 write 1,2,3,5\n(0,100] read 2,3,4 write 2,3,4,5\n(100,150] read 1,3,4 write 1,3,4,5\n(150,200] read 1,3,4 write 1,3,4\n(200,300] read 1,2,4 write 1,2,4\n(300,max] read 1,2,3 write 1,2,3,5\n",
+    ),
+    (
+        "join-to-finish",
+        "commit 1 register a dc1 r1\ncommit 2 register b dc1 r1\ncommit 3 register c dc1 r1\ncommit 4 register d dc1 r1\ncommit 5 unsafe-join 1 0\ncommit 6 unsafe-join 2 100\ncommit 7 unsafe-join 3 200\ncommit 8 unsafe-join 4 300\ncommit 9 keyspace ks simple 3\ncommit 10 register e dc1 r1\ncommit 11 register f dc1 r1\ncommit 12 prepare-join 5 150\ncommit 13 start-join 5\ncommit 14 prepare-join 6 250\nnodes @13\ncommit 15 mid-join 5\nplace @14 ks\ncommit 16 finish-join 5\nplace @15 ks\nnodes @15\ncommit 17 prepare-join 6 250\n",
+        "OK 1\nOK 2\nOK 3\nOK 4\nOK 5\nOK 6\nOK 7\nOK 8\nOK 9\nOK 10\nOK 11\nOK 12\nOK 13\nNO NOT-IDLE 5\nNODES 13 6 1\n1 a dc1 r1 JOINED 0\n2 b dc1 r1 JOINED 100\n3 c dc1 r1 JOINED 200\n4 d dc1 r1 JOINED 300\n5 e dc1 r1 BOOTSTRAPPING -\n6 f dc1 r1 REGISTERED -\nSEQ 5 join STARTED out - in 150@5\nOK 14\nPLACE 14 ks 6\n(min,0] read 1,2,5 write 1,2,3,5\n(0,100] read 2,3,5 write 2,3,4,5\n(100,150] read 3,4,5 write 1,3,4,5\n(150,200] read 1,3,4 write 1,3,4\n(200,300] read 1,2,4 write 1,2,4\n(300,max] read 1,2,5 write 1,2,3,5\nOK 15\nPLACE 15 ks 6\n(min,0] read 1,2,5 write 1,2,5\n(0,100] read 2,3,5 write 2,3,5\n(100,150] read 3,4,5 write 3,4,5\n(150,200] read 1,3,4 write 1,3,4\n(200,300] read 1,2,4 write 1,2,4\n(300,max] read 1,2,5 write 1,2,5\nNODES 15 6 0\n1 a dc1 r1 JOINED 0\n2 b dc1 r1 JOINED 100\n3 c dc1 r1 JOINED 200\n4 d dc1 r1 JOINED 300\n5 e dc1 r1 JOINED 150\n6 f dc1 r1 REGISTERED -\nOK 16\n",
+    ),
+    (
+        "steps in another order",
+        "commit 1 register a dc1 r1\ncommit 2 register b dc1 r1\ncommit 3 register c dc1 r1\ncommit 4 register d dc1 r1\ncommit 5 unsafe-join 1 0\ncommit 6 unsafe-join 2 100\ncommit 7 unsafe-join 3 200\ncommit 8 unsafe-join 4 300\ncommit 9 keyspace ks simple 3\ncommit 10 register e dc1 r1\ncommit 11 register f dc1 r1\ncommit 12 start-join 5\ncommit 13 prepare-join 5 150 -7\ncommit 14 mid-join 5\ncommit 15 start-join 5\ncommit 16 finish-join 5\ncommit 17 start-join 5\ncommit 18 mid-join 1\ncommit 19 mid-join 77\ncommit 20 start-move 5\ncommit 21 cancel 5\n",
+        "OK 1\nOK 2\nOK 3\nOK 4\nOK 5\nOK 6\nOK 7\nOK 8\nOK 9\nOK 10\nOK 11\nNO NO-SEQUENCE\nOK 12\nNO WRONG-STEP join PREPARED\nOK 13\nNO WRONG-STEP join STARTED\nNO WRONG-STEP join STARTED\nNO NO-SEQUENCE\nNO NO-NODE\nNO BAD-LINE\nNO BAD-LINE\n",
+    ),
+    (
+        "while a node joins",
+        "commit 1 register a dc1 r1\ncommit 2 register b dc1 r1\ncommit 3 register c dc1 r1\ncommit 4 register d dc1 r1\ncommit 5 unsafe-join 1 0\ncommit 6 unsafe-join 2 100\ncommit 7 unsafe-join 3 200\ncommit 8 unsafe-join 4 300\ncommit 9 keyspace ks simple 3\ncommit 10 register e dc1 r1\ncommit 11 register f dc1 r1\ncommit 12 prepare-join 5 150\ncommit 13 register a dc9 r9\ncommit 14 unregister 1\ncommit 15 unregister 5\ncommit 16 unsafe-join 6 250\ncommit 17 keyspace k2 simple 1\ncommit 18 drop-keyspace ks\ncommit 19 drop-keyspace zz\ncommit 20 prepare-join 6 150\ncommit 21 prepare-join 5 170\ncommit 22 prepare-join 1 170\ncommit 23 register g dc1 r2\ncommit 24 unregister 7\nnodes @14\n",
+        "OK 1\nOK 2\nOK 3\nOK 4\nOK 5\nOK 6\nOK 7\nOK 8\nOK 9\nOK 10\nOK 11\nOK 12\nNO NAME-TAKEN 1\nNO NODE-STATE JOINED\nNO IN-SEQUENCE 5\nNO NOT-IDLE 5\nNO NOT-IDLE 5\nNO NOT-IDLE 5\nNO NO-KEYSPACE\nNO TOKEN-TAKEN 150\nNO IN-SEQUENCE 5\nNO NODE-STATE JOINED\nOK 13\nOK 14\nNODES 14 6 1\n1 a dc1 r1 JOINED 0\n2 b dc1 r1 JOINED 100\n3 c dc1 r1 JOINED 200\n4 d dc1 r1 JOINED 300\n5 e dc1 r1 REGISTERED -\n6 f dc1 r1 REGISTERED -\nSEQ 5 join PREPARED out - in 150@5\n",
+    ),
+    (
+        "a join of two datacenters",
+        "commit 1 register a dc1 r1\ncommit 2 register b dc1 r2\ncommit 3 register c dc2 r1\ncommit 4 register d dc1 r1\ncommit 5 unsafe-join 1 0\ncommit 6 unsafe-join 2 100\ncommit 7 unsafe-join 3 50\ncommit 8 keyspace kt topology dc1:2 dc2:1\ncommit 9 prepare-join 4 -100 75\ncommit 10 start-join 4\nplace @10 kt\ncommit 11 mid-join 4\nplace @11 kt\ncommit 12 finish-join 4\nplace @12 kt\n",
+        "OK 1\nOK 2\nOK 3\nOK 4\nOK 5\nOK 6\nOK 7\nOK 8\nOK 9\nOK 10\nPLACE 10 kt 6\n(min,-100] read 1,2,3 write 1,2,3,4\n(-100,0] read 1,2,3 write 1,2,3\n(0,50] read 1,2,3 write 1,2,3,4\n(50,75] read 1,2,3 write 1,2,3,4\n(75,100] read 1,2,3 write 1,2,3,4\n(100,max] read 1,2,3 write 1,2,3,4\nOK 11\nPLACE 11 kt 6\n(min,-100] read 2,3,4 write 1,2,3,4\n(-100,0] read 1,2,3 write 1,2,3\n(0,50] read 2,3,4 write 1,2,3,4\n(50,75] read 2,3,4 write 1,2,3,4\n(75,100] read 2,3,4 write 1,2,3,4\n(100,max] read 2,3,4 write 1,2,3,4\nOK 12\nPLACE 12 kt 6\n(min,-100] read 2,3,4 write 2,3,4\n(-100,0] read 1,2,3 write 1,2,3\n(0,50] read 2,3,4 write 2,3,4\n(50,75] read 2,3,4 write 2,3,4\n(75,100] read 2,3,4 write 2,3,4\n(100,max] read 2,3,4 write 2,3,4\n",
     ),
 ];
 

@@ -102,3 +102,11 @@ module _ (g : Group) where
       is_chosen_rack-by ns xs rack
       ∙ (λ i. is_chosen_by (wanted g ns) (spare g ns) (node_count-same xs ys same i) (rack_count-same xs ys same i) (has_rack-same xs ys same rack i))
       ∙ sym (is_chosen_rack-by ns ys rack)
+
+  -- and alike where the ring has the same nodes
+  pub is_chosen-among : (ns ms ahead : List ℕ) → ((q : ℕ) → has ns q ≡ has ms q) → (o : Option (List ℕ)) → is_chosen g ns ahead o ≡ is_chosen g ms ahead o
+  is_chosen-among ns ms ahead same None = refl
+  is_chosen-among ns ms ahead same (Some rack) =
+      is_chosen_rack-by ns ahead rack
+      ∙ (λ i. is_chosen_by (wanted-same ns ms same i) (spare-same ns ms same i) (node_count g ahead) (rack_count g ahead) (has_rack g ahead rack))
+      ∙ sym (is_chosen_rack-by ms ahead rack)

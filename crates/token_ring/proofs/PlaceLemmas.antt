@@ -1,5 +1,5 @@
 -- The placement, as the order in which the pairs of a ring are met finds it.
-use Rattle.std.proofs.Common.{◌≡◌, ℕ, suc, ◌+◌, ◌<◌, Bool, true, false, not, ◌&&◌, ◌||◌, nat_eq, ℤ, List, [], ◌∷◌, ◌++◌, length, get_or, take, drop, filter, refl, sym, ap, ◌∙◌, subst, arith, append_assoc, length-append, take-append-drop}
+use Rattle.std.proofs.Common.{◌≡◌, ℕ, suc, ◌+◌, ◌<◌, Bool, true, false, not, ◌&&◌, ◌||◌, if◌then◌else◌, nat_eq, ℤ, List, [], ◌∷◌, ◌++◌, length, get_or, take, drop, filter, refl, sym, ap, ◌∙◌, subst, arith, append_assoc, length-append, take-append-drop}
 use Rattle.std.proofs.lemmas.Bool.{false≢true, or_right}
 use Rattle.std.proofs.lemmas.List.{take_at, get_or_at}
 use Rattle.std.proofs.lemmas.List.Sorted.{list_any-IsPermutation, IsPermutation-append_comm, length_permutation}
@@ -13,10 +13,11 @@ use Rattle.std.specs.Ordering.{nat_cmp, eq_by_cmp}
 use Rattle.std.specs.Set.{is_member}
 use Rattle.cluster_terms.proofs.AscendingLemmas.{ascending_from_members, ascending_sorted, member-ascending}
 use Rattle.cluster_terms.proofs.DistinctCounts.{is_member-alike}
+use Rattle.cluster_terms.specs.Arc.{in_arc}
 use Rattle.cluster_terms.specs.Ascending.{ascending}
 use Rattle.cluster_terms.specs.Group.{Group, nodes_of, ahead_of, is_first, is_chosen, is_chosen_at, is_replica, is_replica_of_any, place}
 use Rattle.cluster_terms.specs.declared.token.Pair.{Pair}
-use Rattle.token_ring.proofs.GroupLemmas.{has, is_chosen-same}
+use Rattle.token_ring.proofs.GroupLemmas.{has, is_chosen-among, is_chosen-same}
 use Rattle.token_ring.proofs.RingLemmas.{walk_from, ahead_of-walk}
 use Rattle.token_ring.specs.Ring.{IsRing, IsFirstAt}
 
@@ -134,22 +135,59 @@ module _ (x : ℤ) (ps : List Pair) where
   both false true f = refl
   both false false f = refl
 
+  -- the nodes that are kept for a placement are its replicas
+  placed-has : (gs : List Group) (v : ℕ) → has (filter (is_replica_of_any gs x ps) (nodes_of ps)) v ≡ is_replica_of_any gs x ps v
+  placed-has gs v =
+      is_member-filter nat_eq_equiv (is_replica_of_any gs x ps) v (λ q e. ap (is_replica_of_any gs x ps) (exact_unsigned_eq v q e)) (nodes_of ps)
+      ∙ sym (both (is_replica_of_any gs x ps v) (has (nodes_of ps) v) (replica-has gs v))
+
   -- nodes that are taken exactly where they are replicas are the placement
   pub placed_by : (gs : List Group) (taken : List ℕ) → ((v : ℕ) → has taken v ≡ is_replica_of_any gs x ps v) → place gs x ps ≡ ascending nat_cmp taken
   unfolding place
   placed_by gs taken same =
       sym (ascending_from_members nat_cmp nat_cmp_total exact_unsigned (ascending nat_cmp taken) (filter (is_replica_of_any gs x ps) (nodes_of ps)) (ascending_sorted nat_cmp nat_cmp_total taken)
-      (λ v. member-ascending nat_cmp nat_cmp_total taken v ∙ tied taken v ∙ kept v ∙ sym (tied (filter (is_replica_of_any gs x ps) (nodes_of ps)) v)))
-    where
-      alike : (v q : ℕ) → nat_eq v q ≡ true → is_replica_of_any gs x ps v ≡ is_replica_of_any gs x ps q
-      alike v q e = ap (is_replica_of_any gs x ps) (exact_unsigned_eq v q e)
-
-      kept : (v : ℕ) → has taken v ≡ has (filter (is_replica_of_any gs x ps) (nodes_of ps)) v
-      kept v =
-          same v ∙ both (is_replica_of_any gs x ps v) (has (nodes_of ps) v) (replica-has gs v)
-          ∙ sym (is_member-filter nat_eq_equiv (is_replica_of_any gs x ps) v (alike v) (nodes_of ps))
+      (λ v. member-ascending nat_cmp nat_cmp_total taken v ∙ tied taken v ∙ same v ∙ sym (placed-has gs v) ∙ sym (tied (filter (is_replica_of_any gs x ps) (nodes_of ps)) v)))
 
 -- a ring of nothing places nothing
 pub placed_nowhere : (gs : List Group) (x : ℤ) → place gs x [] ≡ []
 unfolding place
 placed_nowhere gs x = refl
+
+-- ---- pairs in another order
+
+any-filter : {X : Type 0} (f p : X → Bool) (xs : List X) → list_any f (filter p xs) ≡ list_any (λ q. p q && f q) xs
+any-filter f p [] = refl
+any-filter f p (y ∷ ys) = by (p y) (any-filter f p ys)
+  where
+    by : (b : Bool) → list_any f (filter p ys) ≡ list_any (λ q. p q && f q) ys → list_any f (if b then y ∷ filter p ys else filter p ys) ≡ ((b && f y) || list_any (λ q. p q && f q) ys)
+    by true rest = ap (λ b. f y || b) rest
+    by false rest = rest
+
+module _ (ps qs : List Pair) (moved : IsPermutation ps qs) (x : ℤ) where
+  -- the same nodes are ahead of a token
+  ahead-permuted : (y : ℤ) (v : ℕ) → has (nodes_of (ahead_of x y ps)) v ≡ has (nodes_of (ahead_of x y qs)) v
+  ahead-permuted y v =
+      has-nodes_of (ahead_of x y ps) v ∙ any-filter (λ (q : Pair). nat_eq v q.node) (λ (q : Pair). in_arc x y q.token) ps
+      ∙ list_any-IsPermutation (λ (q : Pair). in_arc x y q.token && nat_eq v q.node) ps qs moved
+      ∙ sym (any-filter (λ (q : Pair). nat_eq v q.node) (λ (q : Pair). in_arc x y q.token) qs) ∙ sym (has-nodes_of (ahead_of x y qs) v)
+
+  first-permuted : (p : Pair) → is_first x ps p ≡ is_first x qs p
+  first-permuted p =
+      ap not (sym (has-nodes_of (ahead_of x p.token ps) p.node) ∙ ahead-permuted p.token p.node ∙ has-nodes_of (ahead_of x p.token qs) p.node)
+
+  chosen-permuted : (g : Group) (v : ℕ) (p : Pair) → is_chosen_at g x ps v p ≡ is_chosen_at g x qs v p
+  chosen-permuted g v p =
+      let rule = is_chosen-same g (nodes_of ps) (nodes_of (ahead_of x p.token ps)) (nodes_of (ahead_of x p.token qs)) (ahead-permuted p.token) (g.rack_of v)
+      ∙ is_chosen-among g (nodes_of ps) (nodes_of qs) (nodes_of (ahead_of x p.token qs)) (has-permuted ps qs moved) (g.rack_of v) in
+      λ i. nat_eq v p.node && (first-permuted p i && rule i)
+
+  replica-permuted : (g : Group) (v : ℕ) → is_replica g x ps v ≡ is_replica g x qs v
+  unfolding is_replica
+  replica-permuted g v = list_any-IsPermutation (is_chosen_at g x ps v) ps qs moved ∙ (λ i. list_any (λ p. chosen-permuted g v p i) qs)
+
+  -- a placement depends on which pairs there are, and not on their order
+  pub place-permuted : (gs : List Group) → place gs x ps ≡ place gs x qs
+  unfolding place
+  place-permuted gs =
+      placed_by x ps gs (filter (is_replica_of_any gs x qs) (nodes_of qs))
+      (λ v. placed-has x qs gs v ∙ sym (λ i. list_any (λ g. replica-permuted g v i) gs))

@@ -13,11 +13,12 @@ use Rattle.transformations.specs.Refusals.{refusal_of}
 use Rattle.transformations.specs.Rings.{reads_at, writes_at, cuts}
 use Rattle.transformations.specs.States.{node_state, state_of_row}
 use Rattle.transformations.specs.declared.command.Command.{Command}
-use Rattle.transformations.specs.declared.command.Command.TheVariants.{Register, Unregister, UnsafeJoin, Keyspace, DropKeyspace}
+use Rattle.transformations.specs.declared.command.Command.TheVariants.{Register, Unregister, UnsafeJoin, Keyspace, DropKeyspace, PrepareJoin, Step}
 use Rattle.transformations.specs.declared.image.Image.{Image}
 use Rattle.transformations.specs.declared.keyspace.KeyspaceRow.{KeyspaceRow}
-use Rattle.transformations.specs.declared.refusal.Refusal.TheVariants.{NameTaken, NoNode, WrongState, TokenTaken, NoKeyspace}
-use Rattle.transformations.specs.declared.sequence.Kind.TheVariants.{Join}
+use Rattle.transformations.specs.declared.refusal.Refusal.TheVariants.{NameTaken, NoNode, WrongState, TokenTaken, NoKeyspace, InSequence, NoSequence, WrongStep, NotIdle}
+use Rattle.transformations.specs.declared.sequence.Goal.TheVariants as goal
+use Rattle.transformations.specs.declared.sequence.Kind.TheVariants.{Join, Move}
 use Rattle.transformations.specs.declared.sequence.Phase.{Phase}
 use Rattle.transformations.specs.declared.sequence.Phase.TheVariants.{Prepared, Started, Mid}
 use Rattle.transformations.specs.declared.sequence.SeqRow.{SeqRow}
@@ -217,7 +218,7 @@ joined_stays = (refl, refl, refl)
 
 -- the least token that stands in the ring already is refused, and so is one that a movement brings
 pub token_taken : (refusal_of four_nodes_image (UnsafeJoin 5 (negsuc 4 ∷ pos 0 ∷ pos 200 ∷ [])) ≡ Some (TokenTaken (pos 0)))
-    × (refusal_of (joining_image 12 Prepared) (UnsafeJoin 6 (pos 149 ∷ pos 150 ∷ [])) ≡ Some (TokenTaken (pos 150)))
+    × (refusal_of (joining_image 12 Prepared) (PrepareJoin 6 (pos 149 ∷ pos 150 ∷ [])) ≡ Some (TokenTaken (pos 150)))
 unfolding refusal_of state_of_row
 token_taken = (refl, refl)
 
@@ -263,3 +264,35 @@ pub left_node : (node_state left_image 1 ≡ Some Left)
     × (refusal_of left_image (UnsafeJoin 1 (pos 0 ∷ [])) ≡ Some (WrongState Left))
 unfolding refusal_of state_of_row
 left_node = (refl, refl, refl)
+
+-- ---- a join, step by step
+
+-- the four commands of a join lead from the ring without the node to the ring with it
+pub join_steps : (next_image four_nodes_image (PrepareJoin 5 (pos 150 ∷ [])) ≡ joining_image 12 Prepared)
+    × (next_image (joining_image 12 Prepared) (Step goal.Start Join 5) ≡ joining_image 13 Started)
+    × (next_image (joining_image 13 Started) (Step goal.Mid Join 5) ≡ joining_image 14 Mid)
+    × (next_image (joining_image 14 Mid) (Step goal.Finish Join 5)
+    ≡ record four_nodes_image { epoch = 15; tokens = pair (pos 0) 1 ∷ pair (pos 100) 2 ∷ pair (pos 150) 5 ∷ pair (pos 200) 3 ∷ pair (pos 300) 4 ∷ [] })
+unfolding next_image
+join_steps = (refl, refl, refl, refl)
+
+-- a step that isn't the next one is refused with where the movement is; other steps have no movement to go on
+pub wrong_steps : (refusal_of (joining_image 13 Started) (Step goal.Finish Join 5) ≡ Some (WrongStep Join Started))
+    × (refusal_of (joining_image 13 Started) (Step goal.Start Join 5) ≡ Some (WrongStep Join Started))
+    × (refusal_of (joining_image 13 Started) (Step goal.Mid Move 5) ≡ Some (WrongStep Join Started))
+    × (refusal_of (joining_image 13 Started) (Step goal.Mid Join 1) ≡ Some NoSequence)
+    × (refusal_of (joining_image 13 Started) (Step goal.Mid Join 77) ≡ Some NoNode)
+    × (refusal_of (joining_image 13 Started) (Step goal.Mid Join 5) ≡ None)
+unfolding refusal_of
+wrong_steps = (refl, refl, refl, refl, refl, refl)
+
+-- while a node joins, it is left alone, and the ring and the keyspaces stay as they are
+pub while_joining : (refusal_of (joining_image 12 Prepared) (Unregister 5) ≡ Some (InSequence 5))
+    × (refusal_of (joining_image 12 Prepared) (UnsafeJoin 6 (pos 150 ∷ [])) ≡ Some (NotIdle 5))
+    × (refusal_of (joining_image 12 Prepared) (PrepareJoin 6 (pos 250 ∷ [])) ≡ Some (NotIdle 5))
+    × (refusal_of (joining_image 12 Prepared) (Keyspace (codes "k2") (Simple 1)) ≡ Some (NotIdle 5))
+    × (refusal_of (joining_image 12 Prepared) (DropKeyspace (codes "ks")) ≡ Some (NotIdle 5))
+    × (refusal_of (joining_image 12 Prepared) (DropKeyspace (codes "zz")) ≡ Some NoKeyspace)
+    × (refusal_of (joining_image 12 Prepared) (Unregister 6) ≡ None)
+unfolding refusal_of state_of_row
+while_joining = (refl, refl, refl, refl, refl, refl, refl)

@@ -1,13 +1,13 @@
 -- What commands make of an image, one after another.
-use Rattle.std.specs.Prelude.{ℕ, ◌+◌, Bool, true, false, not, ◌&&◌, if◌then◌else◌, ℤ, List, [], ◌∷◌, ◌++◌, map, filter, take, length, Option, Some, is_none, nat_le, ◌==◌, IsTrue}
+use Rattle.std.specs.Prelude.{ℕ, ◌+◌, Bool, true, false, not, ◌&&◌, if◌then◌else◌, ℤ, int_lt, List, [], ◌∷◌, ◌++◌, filter, take, length, Option, Some, is_none, nat_le, ◌==◌, IsTrue}
 use Rattle.std.specs.Str.{bytes_eq}
 use Rattle.cluster_terms.specs.Ascending.{put, put_all}
 use Rattle.cluster_terms.specs.declared.node.NodeRow.{NodeRow}
-use Rattle.cluster_terms.specs.declared.token.Pair.{Pair}
-use Rattle.transformations.specs.Orders.{by_token, by_name}
+use Rattle.transformations.specs.Orders.{by_token, by_name, by_node}
 use Rattle.transformations.specs.Refusals.{refusal_of}
+use Rattle.transformations.specs.Steps.{pairs_of, join_of, stepped}
 use Rattle.transformations.specs.declared.command.Command.{Command}
-use Rattle.transformations.specs.declared.command.Command.TheVariants.{Register, Unregister, UnsafeJoin, Keyspace, DropKeyspace}
+use Rattle.transformations.specs.declared.command.Command.TheVariants.{Register, Unregister, UnsafeJoin, Keyspace, DropKeyspace, PrepareJoin, Step}
 use Rattle.transformations.specs.declared.image.Image.{Image}
 use Rattle.transformations.specs.declared.keyspace.KeyspaceRow.{KeyspaceRow}
 use Rattle.transformations.specs.declared.refusal.Refusal.{Refusal}
@@ -16,10 +16,6 @@ use Rattle.transformations.specs.declared.refusal.Refusal.TheVariants.{EpochsFul
 -- the image before the first command
 abbrev pub empty_image : Image
 empty_image = record { epoch = 0; next = 1; nodes = []; tokens = []; keyspaces = []; sequences = [] }
-
--- the pairs of a node and its tokens
-abbrev pub pairs_of : ℕ → List ℤ → List Pair
-pairs_of node tokens = map (λ t. record { token = t; node = node }) tokens
 
 -- the image after a command
 unfoldable pub next_image : Image → Command → Image
@@ -35,6 +31,9 @@ next_image image (Keyspace name replication) =
     record image { epoch = image.epoch + 1; keyspaces = put by_name row image.keyspaces }
 next_image image (DropKeyspace name) =
     record image { epoch = image.epoch + 1; keyspaces = filter (λ row. not (bytes_eq row.name name)) image.keyspaces }
+next_image image (PrepareJoin node tokens) =
+    record image { epoch = image.epoch + 1; sequences = put by_node (join_of node tokens) image.sequences }
+next_image image (Step goal kind node) = (let after : Image = stepped image goal node in record after { epoch = image.epoch + 1 })
 
 -- the image after some commands from an image on, and after the first e commands of a history
 abbrev pub image_after : Image → List Command → Image
@@ -44,10 +43,26 @@ image_after image (command ∷ commands) = image_after (next_image image command
 abbrev pub state_after : List Command → ℕ → Image
 state_after history e = image_after empty_image (take e history)
 
+-- whether tokens ascend, each below the next
+abbrev pub ascend : List ℤ → Bool
+ascend [] = true
+ascend (t ∷ []) = true
+ascend (t ∷ u ∷ ts) = int_lt t u && ascend (u ∷ ts)
+
+-- whether tokens may be a command's: there are 1 to 256, and they ascend; and whether a command has such tokens, where it has any
+abbrev pub are_tokens : List ℤ → Bool
+are_tokens tokens = nat_le 1 (length tokens) && (nat_le (length tokens) 256 && ascend tokens)
+
+abbrev pub is_command : Command → Bool
+is_command (UnsafeJoin node tokens) = are_tokens tokens
+is_command (PrepareJoin node tokens) = are_tokens tokens
+is_command _ = true
+
 -- whether some commands are each accepted, one after another from an image on
 abbrev pub are_accepted : Image → List Command → Bool
 are_accepted image [] = true
-are_accepted image (command ∷ commands) = is_none (refusal_of image command) && are_accepted (next_image image command) commands
+are_accepted image (command ∷ commands) =
+    (is_command command && is_none (refusal_of image command)) && are_accepted (next_image image command) commands
 
 -- a history: at most 65,536 commands, each accepted in the image of those before
 abbrev pub most_epochs : ℕ

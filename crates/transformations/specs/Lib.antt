@@ -3,3 +3,5 @@ pub mod Orders
 pub mod Refusals
 pub mod Rings
 pub mod States
+pub mod Steps
+pub mod Valid

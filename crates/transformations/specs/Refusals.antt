@@ -7,11 +7,15 @@ use Rattle.std.specs.Str.{bytes_eq}
 use Rattle.cluster_terms.specs.NodeRow.{row_of}
 use Rattle.transformations.specs.Rings.{widest}
 use Rattle.transformations.specs.States.{node_state}
+use Rattle.transformations.specs.Steps.{movement_of, takes_part, is_next_step}
 use Rattle.transformations.specs.declared.command.Command.{Command}
-use Rattle.transformations.specs.declared.command.Command.TheVariants.{Register, Unregister, UnsafeJoin, Keyspace, DropKeyspace}
+use Rattle.transformations.specs.declared.command.Command.TheVariants.{Register, Unregister, UnsafeJoin, Keyspace, DropKeyspace, PrepareJoin, Step}
 use Rattle.transformations.specs.declared.image.Image.{Image}
 use Rattle.transformations.specs.declared.refusal.Refusal.{Refusal}
-use Rattle.transformations.specs.declared.refusal.Refusal.TheVariants.{NameTaken, NodesFull, NoNode, WrongState, TokenTaken, TokensFull, NoKeyspace, KeyspacesFull}
+use Rattle.transformations.specs.declared.refusal.Refusal.TheVariants.{NameTaken, NodesFull, NoNode, WrongState, InSequence, NoSequence, WrongStep, TokenTaken, TokensFull, NotIdle, NoKeyspace, KeyspacesFull}
+use Rattle.transformations.specs.declared.sequence.Goal.{Goal}
+use Rattle.transformations.specs.declared.sequence.Kind.{Kind}
+use Rattle.transformations.specs.declared.sequence.SeqRow.{SeqRow}
 use Rattle.transformations.specs.declared.state.NodeState.{NodeState}
 use Rattle.transformations.specs.declared.state.NodeState.TheVariants as state
 
@@ -37,7 +41,7 @@ name_taken image name = option_map (λ row. NameTaken row.id) (find (λ row. byt
 abbrev pub nodes_full : Image → Option Refusal
 nodes_full image = refused_if (nat_le most_nodes (length image.nodes)) NodesFull
 
--- the node isn't registered
+-- whether a node is registered; and the refusal where it isn't
 abbrev pub is_registered : Image → ℕ → Bool
 is_registered image n = is_some (row_of image.nodes n)
 
@@ -59,6 +63,26 @@ abbrev pub is_idle_or_left : NodeState → Bool
 is_idle_or_left state.Registered = true
 is_idle_or_left state.Left = true
 is_idle_or_left _ = false
+
+-- the node takes part in a movement, whose node is shown
+abbrev pub in_sequence : Image → ℕ → Option Refusal
+in_sequence image n = option_map (λ s. InSequence s.node) (find (takes_part n) image.sequences)
+
+-- the node has no movement
+abbrev pub no_sequence : Image → ℕ → Option Refusal
+no_sequence image n = refused_if (not (is_some (movement_of image n))) NoSequence
+
+-- the step isn't the next one of the node's movement, whose own kind and phase are shown
+abbrev pub unless_next : Goal → Kind → SeqRow → Option Refusal
+unless_next goal kind s = refused_if (not (is_next_step goal kind s)) (WrongStep s.kind s.phase)
+
+abbrev pub wrong_step : Goal → Kind → Image → ℕ → Option Refusal
+wrong_step goal kind image n = option_and_then (unless_next goal kind) (movement_of image n)
+
+-- a movement is in flight; they ascend by node, so the first one has the least
+abbrev pub not_idle : List SeqRow → Option Refusal
+not_idle [] = None
+not_idle (s ∷ later) = Some (NotIdle s.node)
 
 -- a token stands in the ring, or a movement in flight brings it; the least such one of a command's is shown
 abbrev pub is_taken : Image → ℤ → Bool
@@ -93,8 +117,15 @@ first_of (None ∷ later) = first_of later
 -- the refusals of each command in their order, of which the first that comes is answered; a command's tokens ascend
 unfoldable pub refusal_of : Image → Command → Option Refusal
 refusal_of image (Register name dc rack) = first_of (name_taken image name ∷ nodes_full image ∷ [])
-refusal_of image (Unregister node) = first_of (no_node image node ∷ wrong_state is_idle_or_left image node ∷ [])
+refusal_of image (Unregister node) =
+    first_of (no_node image node ∷ in_sequence image node ∷ wrong_state is_idle_or_left image node ∷ [])
 refusal_of image (UnsafeJoin node tokens) =
-    first_of (no_node image node ∷ wrong_state is_idle image node ∷ token_taken image tokens ∷ tokens_full image tokens ∷ [])
-refusal_of image (Keyspace name replication) = keyspaces_full image name
-refusal_of image (DropKeyspace name) = no_keyspace image name
+    first_of (no_node image node ∷ in_sequence image node ∷ wrong_state is_idle image node ∷ not_idle image.sequences
+    ∷ token_taken image tokens ∷ tokens_full image tokens ∷ [])
+refusal_of image (Keyspace name replication) = first_of (keyspaces_full image name ∷ not_idle image.sequences ∷ [])
+refusal_of image (DropKeyspace name) = first_of (no_keyspace image name ∷ not_idle image.sequences ∷ [])
+refusal_of image (PrepareJoin node tokens) =
+    first_of (no_node image node ∷ in_sequence image node ∷ wrong_state is_idle image node
+    ∷ token_taken image tokens ∷ tokens_full image tokens ∷ not_idle image.sequences ∷ [])
+refusal_of image (Step goal kind node) =
+    first_of (no_node image node ∷ no_sequence image node ∷ wrong_step goal kind image node ∷ [])

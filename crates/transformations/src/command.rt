@@ -1,5 +1,6 @@
 ghost use Rattle.std.specs.Prelude.{◌≡◌};
 
+use crate::sequence::{Goal, Kind};
 use cluster_terms::{Memory, Name, NodeId, Replication, TokenList, TryCopy};
 
 /// A transformation of the cluster's metadata (CEP-21).
@@ -29,6 +30,17 @@ pub enum Command {
     DropKeyspace {
         name: Name,
     },
+    /// Prepares a join: the node is to have these tokens, which ascend.
+    PrepareJoin {
+        node: NodeId,
+        tokens: TokenList,
+    },
+    /// Takes the movement of a node, which is of this kind, one step on.
+    Step {
+        goal: Goal,
+        kind: Kind,
+        node: NodeId,
+    },
 }
 
 impl TryCopy for Command {
@@ -49,6 +61,15 @@ impl TryCopy for Command {
                 replication: replication.copy()?,
             }),
             Command::DropKeyspace { name } => Ok(Command::DropKeyspace { name: name.copy()? }),
+            Command::PrepareJoin { node, tokens } => Ok(Command::PrepareJoin {
+                node: *node,
+                tokens: tokens.copy()?,
+            }),
+            Command::Step { goal, kind, node } => Ok(Command::Step {
+                goal: *goal,
+                kind: *kind,
+                node: *node,
+            }),
         }
     }
 }

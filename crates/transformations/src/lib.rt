@@ -8,14 +8,18 @@ pub mod refusal;
 pub mod refusals;
 pub mod sequence;
 pub mod state;
+mod steps;
 #[cfg(test)]
 mod tests;
 mod token_count;
+pub mod validity;
 
 pub use command::Command;
 pub use image::Image;
 pub use keyspace::{KeyspaceRow, KeyspaceRows};
 pub use refusal::Refusal;
 pub use refusals::early_refusal;
-pub use sequence::{Kind, Phase, SeqRow, SeqRows};
+pub use sequence::{Goal, Kind, Phase, SeqRow, SeqRows};
 pub use state::{NodeState, node_state, state_of};
+pub use steps::movement_of;
+pub use validity::histories_are_valid;

@@ -1,3 +1,4 @@
+use crate::sequence::{Kind, Phase};
 use crate::state::NodeState;
 use cluster_terms::{NodeId, Token};
 
@@ -12,10 +13,18 @@ pub enum Refusal {
     NoNode,
     /// The node is in a state in which the command can't act on it.
     WrongState(NodeState),
+    /// The node takes part in the movement of this node.
+    InSequence(NodeId),
+    /// The node has no movement.
+    NoSequence,
+    /// The movement of the node is of this kind and in this phase, and the step doesn't go on from there.
+    WrongStep(Kind, Phase),
     /// The command's least token that stands in the ring already or that a movement in flight brings.
     TokenTaken(Token),
     /// With the command there would be more than 16,384 tokens.
     TokensFull,
+    /// A movement is in flight; of those that are, this node's is the one with the least node.
+    NotIdle(NodeId),
     /// No keyspace has the name.
     NoKeyspace,
     /// 64 keyspaces are there, and none of them has the name.

@@ -1,14 +1,16 @@
-ghost use Rattle.std.specs.Prelude.{◌≡◌, not, IfOk, MatchOption};
+ghost use Rattle.std.specs.Prelude.{◌≡◌, [], ◌∷◌, not, IfOk, MatchOption};
 ghost use Rattle.std.specs.List.{list_any};
 ghost use Rattle.std.specs.Ordering.{int_eq};
-ghost use Rattle.transformations.specs.Refusals.{has_keyspace, is_idle, is_idle_or_left, is_registered, is_taken, keyspaces_full, name_taken, no_keyspace, no_node, nodes_full, refusal_of, refused_if, token_taken, tokens_full, wrong_state};
+ghost use Rattle.transformations.specs.Refusals.{has_keyspace, in_sequence, is_idle, is_idle_or_left, is_registered, is_taken, keyspaces_full, name_taken, no_keyspace, no_node, no_sequence, nodes_full, not_idle, first_of, refusal_of, refused_if, token_taken, tokens_full, wrong_state, wrong_step};
 ghost use Rattle.transformations.specs.States.{node_state};
+ghost use Rattle.transformations.specs.declared.command.Command.TheVariants as command;
 
 use crate::command::Command;
 use crate::image::Image;
 use crate::refusal::Refusal;
-use crate::sequence::SeqRow;
+use crate::sequence::{Goal, Kind, SeqRow};
 use crate::state::{NodeState, node_state, row_of};
+use crate::steps::{is_next_step, movement_of, takes_part};
 use crate::token_count::{count_all, tokens_with};
 use cluster_terms::{Memory, Name, NodeId, Pair, Token};
 use std::alloc::Global;
@@ -92,6 +94,44 @@ fn wrong_state<F: FnOnce(NodeState) -> bool>(
     refused_if(!allowed(state), Refusal::WrongState(state))
 }
 
+/// The node takes part in a movement, whose node is shown.
+fn in_sequence(image: &Image, n: NodeId) -> Option<Refusal>
+    ensures { result ≡ in_sequence image.now n }
+{
+    image
+        .sequences
+        .as_slice()
+        .iter()
+        .find(|row| takes_part(n, row))
+        .map(|row| Refusal::InSequence(row.node))
+}
+
+/// The node has no movement.
+fn no_sequence(image: &Image, n: NodeId) -> Option<Refusal>
+    ensures { result ≡ no_sequence image.now n }
+{
+    refused_if(movement_of(image, n).is_none(), Refusal::NoSequence)
+}
+
+/// The step isn't the next one of the node's movement, whose own kind and phase are shown.
+fn wrong_step(goal: Goal, kind: Kind, image: &Image, n: NodeId) -> Option<Refusal>
+    ensures { result ≡ wrong_step goal kind image.now n }
+{
+    let row = movement_of(image, n)?;
+    refused_if(
+        !is_next_step(goal, kind, row),
+        Refusal::WrongStep(row.kind, row.phase),
+    )
+}
+
+/// A movement is in flight. They ascend by node, so the first one has the least.
+fn not_idle(sequences: &[SeqRow]) -> Option<Refusal>
+    ensures { result ≡ not_idle sequences.now }
+{
+    let first = sequences.first()?;
+    Some(Refusal::NotIdle(first.node))
+}
+
 /// Whether one of some pairs has a token.
 fn has_token(pairs: &[Pair], token: Token) -> bool
     ensures { result ≡ list_any (λ p. int_eq p.token token) pairs.now }
@@ -167,6 +207,56 @@ fn tokens_full(alloc: Global, image: &Image, tokens: &[Token]) -> Result<Option<
     Ok(refused_if(MOST_TOKENS < count, Refusal::TokensFull))
 }
 
+/// The node isn't registered, takes part in a movement, or isn't idle: what comes first.
+fn not_ready(image: &Image, n: NodeId) -> Option<Refusal>
+    ensures { result ≡ first_of (no_node image.now n ∷ in_sequence image.now n ∷ wrong_state is_idle image.now n ∷ []) }
+{
+    let early = no_node(image, n).or_else(|| in_sequence(image, n));
+    early.or_else(|| wrong_state(image, n, is_idle))
+}
+
+/// A movement is in flight, or one of some tokens is taken: what comes first.
+fn not_free(image: &Image, tokens: &[Token]) -> Option<Refusal>
+    ensures { result ≡ first_of (not_idle image.now.sequences ∷ token_taken image.now tokens.now ∷ []) }
+{
+    not_idle(image.sequences.as_slice()).or_else(|| token_taken(image, tokens))
+}
+
+/// The first refusal of tokens that a node is to get at once.
+#[tactic(auto, unfolding(crate::specs::Refusals::refusal_of))]
+fn unsafe_join(
+    alloc: Global,
+    image: &Image,
+    node: NodeId,
+    tokens: &[Token],
+) -> Result<Option<Refusal>, Memory>
+    ensures { IfOk result (λ found. found ≡ refusal_of image.now (command.UnsafeJoin node tokens.now)) }
+{
+    let early = not_ready(image, node).or_else(|| not_free(image, tokens));
+    if early.is_some() {
+        return Ok(early);
+    }
+    tokens_full(alloc, image, tokens)
+}
+
+/// The first refusal of a join that is to be prepared.
+#[tactic(auto, unfolding(crate::specs::Refusals::refusal_of))]
+fn prepare_join(
+    alloc: Global,
+    image: &Image,
+    node: NodeId,
+    tokens: &[Token],
+) -> Result<Option<Refusal>, Memory>
+    ensures { IfOk result (λ found. found ≡ refusal_of image.now (command.PrepareJoin node tokens.now)) }
+{
+    let early = not_ready(image, node).or_else(|| token_taken(image, tokens));
+    if early.is_some() {
+        return Ok(early);
+    }
+    let full = tokens_full(alloc, image, tokens)?;
+    Ok(full.or_else(|| not_idle(image.sequences.as_slice())))
+}
+
 /// The first refusal of a command in an image, if it is refused there: the first that comes of the command's refusals
 /// in their order. None after it is looked for. A search for a node or a keyspace is one pass over the rows. For k
 /// tokens of `UnsafeJoin` the search for one that is taken is at most k passes over the pairs of the ring and those
@@ -182,18 +272,22 @@ pub fn early_refusal(
     match command {
         Command::Register { name, .. } => Ok(name_taken(image, name).or_else(|| nodes_full(image))),
         Command::Unregister { node } => {
-            Ok(no_node(image, *node).or_else(|| wrong_state(image, *node, is_idle_or_left)))
+            let early = no_node(image, *node).or_else(|| in_sequence(image, *node));
+            Ok(early.or_else(|| wrong_state(image, *node, is_idle_or_left)))
         }
-        Command::UnsafeJoin { node, tokens } => {
-            let early = no_node(image, *node)
-                .or_else(|| wrong_state(image, *node, is_idle))
-                .or_else(|| token_taken(image, tokens.as_slice()));
-            match early {
-                Some(refusal) => Ok(Some(refusal)),
-                None => tokens_full(alloc, image, tokens.as_slice()),
-            }
+        Command::UnsafeJoin { node, tokens } => unsafe_join(alloc, image, *node, tokens.as_slice()),
+        Command::Keyspace { name, .. } => {
+            Ok(keyspaces_full(image, name).or_else(|| not_idle(image.sequences.as_slice())))
         }
-        Command::Keyspace { name, .. } => Ok(keyspaces_full(image, name)),
-        Command::DropKeyspace { name } => Ok(no_keyspace(image, name)),
+        Command::DropKeyspace { name } => {
+            Ok(no_keyspace(image, name).or_else(|| not_idle(image.sequences.as_slice())))
+        }
+        Command::PrepareJoin { node, tokens } => {
+            prepare_join(alloc, image, *node, tokens.as_slice())
+        }
+        Command::Step { goal, kind, node } => {
+            let early = no_node(image, *node).or_else(|| no_sequence(image, *node));
+            Ok(early.or_else(|| wrong_step(*goal, *kind, image, *node)))
+        }
     }
 }

@@ -1,6 +1,7 @@
 ghost use Rattle.std.specs.Prelude.{◌≡◌};
 
-use cluster_terms::{Memory, NodeId, PairList, SmallList, TryCopy};
+use cluster_terms::{Memory, NodeId, Ordered, PairList, SmallList, TryCopy};
+use std::cmp::Ordering;
 
 /// What a movement does with its node (CEP-21's multi-step operations).
 #[derive(Clone, Copy, Debug, PartialEq, Eq)]
@@ -17,6 +18,14 @@ pub enum Phase {
     Prepared,
     Started,
     Mid,
+}
+
+/// What a step of a movement comes to: to be started, to be half way, and to be finished.
+#[derive(Clone, Copy, Debug, PartialEq, Eq)]
+pub enum Goal {
+    Start,
+    Mid,
+    Finish,
 }
 
 /// A movement in flight: its node, the pairs that it takes out of the ring and those that it puts in, each
@@ -42,5 +51,15 @@ impl TryCopy for SeqRow {
             in_pairs: self.in_pairs.copy()?,
             phase: self.phase,
         })
+    }
+}
+
+impl Ordered for SeqRow {
+    ghost use Rattle.transformations.specs.Orders.{by_node};
+
+    ghost order = { by_node };
+
+    fn order(&self, other: &SeqRow) -> Ordering {
+        self.node.0.cmp(&other.node.0)
     }
 }

@@ -1,7 +1,8 @@
 //! Commands on small images and on full ones.
 
 use crate::{
-    Command, Image, KeyspaceRow, Kind, NodeState, Phase, Refusal, SeqRow, early_refusal, node_state,
+    Command, Goal, Image, KeyspaceRow, Kind, NodeState, Phase, Refusal, SeqRow, early_refusal,
+    node_state,
 };
 use cluster_terms::{
     Name, NodeId, NodeRow, Pair, PairList, Replication, Rf, SmallList, Token, TokenList,
@@ -15,6 +16,8 @@ enum Asked<'a> {
     Register(&'a str),
     Unregister(u32),
     Tokens(u32, &'a [i64]),
+    Join(u32, &'a [i64]),
+    Step(Goal, Kind, u32),
     Keyspace(&'a str),
     Drop(&'a str),
 }
@@ -48,6 +51,15 @@ fn command_of(alloc: Global, asked: &Asked) -> Result<Command, Fail> {
         Asked::Tokens(node, tokens) => Ok(Command::UnsafeJoin {
             node: NodeId(*node),
             tokens: tokens_of(alloc, tokens)?,
+        }),
+        Asked::Join(node, tokens) => Ok(Command::PrepareJoin {
+            node: NodeId(*node),
+            tokens: tokens_of(alloc, tokens)?,
+        }),
+        Asked::Step(goal, kind, node) => Ok(Command::Step {
+            goal: *goal,
+            kind: *kind,
+            node: NodeId(*node),
         }),
         Asked::Keyspace(name) => Ok(Command::Keyspace {
             name: name_of(alloc, name)?,
@@ -131,6 +143,18 @@ fn wrong(state: NodeState) -> Option<Refusal> {
     Some(Refusal::WrongState(state))
 }
 
+fn in_sequence(node: u32) -> Option<Refusal> {
+    Some(Refusal::InSequence(NodeId(node)))
+}
+
+fn not_idle(node: u32) -> Option<Refusal> {
+    Some(Refusal::NotIdle(NodeId(node)))
+}
+
+fn wrong_step(kind: Kind, phase: Phase) -> Option<Refusal> {
+    Some(Refusal::WrongStep(kind, phase))
+}
+
 fn taken(token: i64) -> Option<Refusal> {
     Some(Refusal::TokenTaken(Token::new(token)))
 }
@@ -166,20 +190,42 @@ fn refusals_of_a_small_image(rt: HostRuntime) -> Result<(), Fail> {
         (Asked::Register("g"), None),
         (Asked::Unregister(7), Some(Refusal::NoNode)),
         (Asked::Unregister(1), wrong(NodeState::Joined)),
-        (Asked::Unregister(2), wrong(NodeState::Moving)),
+        (Asked::Unregister(2), in_sequence(2)),
         (Asked::Unregister(3), None),
         (Asked::Unregister(4), None),
-        (Asked::Unregister(5), wrong(NodeState::Bootstrapping)),
-        (Asked::Unregister(6), None),
+        (Asked::Unregister(6), in_sequence(6)),
         (Asked::Tokens(7, &[0]), Some(Refusal::NoNode)),
+        (Asked::Tokens(5, &[0]), in_sequence(5)),
         (Asked::Tokens(1, &[0]), wrong(NodeState::Joined)),
         (Asked::Tokens(4, &[5]), wrong(NodeState::Left)),
-        (Asked::Tokens(3, &[-5, 100, 150]), taken(100)),
-        (Asked::Tokens(3, &[149, 250]), taken(250)),
-        (Asked::Tokens(3, &[-5, 5]), None),
-        (Asked::Keyspace("ks"), None),
-        (Asked::Keyspace("kt"), None),
-        (Asked::Drop("ks"), None),
+        (Asked::Tokens(3, &[100]), not_idle(2)),
+        (Asked::Join(7, &[0]), Some(Refusal::NoNode)),
+        (Asked::Join(6, &[0]), in_sequence(6)),
+        (Asked::Join(1, &[0]), wrong(NodeState::Joined)),
+        (Asked::Join(3, &[-5, 100, 150]), taken(100)),
+        (Asked::Join(3, &[149, 250]), taken(250)),
+        (Asked::Join(3, &[-5, 5]), not_idle(2)),
+        (
+            Asked::Step(Goal::Start, Kind::Join, 7),
+            Some(Refusal::NoNode),
+        ),
+        (
+            Asked::Step(Goal::Start, Kind::Join, 1),
+            Some(Refusal::NoSequence),
+        ),
+        (
+            Asked::Step(Goal::Mid, Kind::Join, 6),
+            wrong_step(Kind::Join, Phase::Prepared),
+        ),
+        (
+            Asked::Step(Goal::Finish, Kind::Join, 2),
+            wrong_step(Kind::Move, Phase::Mid),
+        ),
+        (Asked::Step(Goal::Start, Kind::Join, 6), None),
+        (Asked::Step(Goal::Mid, Kind::Join, 5), None),
+        (Asked::Step(Goal::Finish, Kind::Move, 2), None),
+        (Asked::Keyspace("ks"), not_idle(2)),
+        (Asked::Drop("ks"), not_idle(2)),
         (Asked::Drop("k"), Some(Refusal::NoKeyspace)),
     ]
     .iter()
@@ -233,10 +279,10 @@ fn a_token_of_two_nodes_counts_once(rt: HostRuntime) -> Result<(), Fail> {
     let mut image = large_image(rt.alloc(), 3, 0, 16_383)?;
     add_movement(rt.alloc(), &mut image, 3, Kind::Replace, 7, Phase::Prepared)?;
     for (tokens, wanted) in [
-        ([-1].as_slice(), None),
+        ([-1].as_slice(), not_idle(3)),
         ([-2, -1].as_slice(), Some(Refusal::TokensFull)),
     ] {
-        let found = refusal(rt.alloc(), &image, &Asked::Tokens(2, tokens))?;
+        let found = refusal(rt.alloc(), &image, &Asked::Join(2, tokens))?;
         assert_eq!(rt; found, wanted);
     }
     Ok(())

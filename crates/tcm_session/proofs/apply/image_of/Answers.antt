@@ -2,7 +2,8 @@ use Rattle.std.proofs.Common.{◌<◌, ◌∷◌, ◌++◌, [], length, take, ap
 use Rattle.std.proofs.lemmas.List.{take_more}
 use Rattle.transformations.specs.History.{empty_image, image_after, next_image}
 use Rattle.transformations.specs.declared.image.Image.{Image}
-use Rattle.tcm_session.proofs.HistoryLemmas.{epoch-after, next-after, image_after-push}
+use Rattle.transformations.proofs.HistoryLemmas.{image_after-push}
+use Rattle.tcm_session.proofs.CountLemmas.{epoch-after, next-after}
 use Rattle.tcm_session.proofs.apply.image_of.Goals as goal
 
 pub apply-requires-clause-epoch : goal.apply-requires-clause-epoch

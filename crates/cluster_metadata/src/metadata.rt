@@ -1,0 +1,162 @@
+ghost use Rattle.std.specs.Prelude.{◌≡◌, ◌<◌, None, IfOk, IsTrue, MatchResult};
+ghost use Rattle.transformations.specs.History.{empty_image, is_command, most_epochs, next_image};
+ghost use Rattle.transformations.specs.Refusals.{refusal_of};
+ghost use Rattle.cluster_metadata.specs.Served.{served};
+
+use crate::admit_fault::AdmitFault;
+use crate::changes::change_of;
+use crate::enact::make;
+use crate::permit::Permit;
+use crate::placement::{keyspace_of, served_by};
+use crate::running::Running;
+use cluster_terms::{Memory, Name, SmallList, Steps, Token, TryCopy};
+use node_sets::NodeSet;
+use std::alloc::Global;
+use std::marker::Model;
+use std::snapshot::Snapshot;
+use std::sync::ledger::Ledger;
+use transformations::{Command, Image, early_refusal};
+
+/// The metadata of a cluster: its image, which is valid, and the movement in flight as a value of its phase. It is
+/// seen as the image.
+///
+/// The value has to be spent, by `close`.
+pub struct Metadata {
+    alloc: Global,
+    image: Image,
+    running: Option<Running>,
+}
+
+impl Model for Metadata {
+    ghost use Rattle.transformations.specs.Valid.{IsValid};
+    ghost use Rattle.transformations.specs.declared.image.Image.{Image};
+
+    ghost Value = { Image };
+
+    ghost use Rattle.cluster_metadata.specs.Running.{IsRunning};
+
+    ghost view = { λ m. m.image };
+
+    ghost invariant = { λ m. IsValid m.image × IsRunning m.image.sequences m.running };
+}
+
+impl Metadata {
+    ghost use Rattle.transformations.specs.Valid.{IsValid};
+    ghost use Rattle.cluster_metadata.specs.Permission.{ShowsRefusal};
+
+    /// The metadata before the first command.
+    pub fn empty(alloc: Global) -> Result<Metadata, Memory>
+        ensures { IfOk result (λ metadata. metadata ≡ empty_image) }
+    {
+        let image = Image {
+            epoch: 0,
+            next: 1,
+            nodes: SmallList::empty(alloc),
+            tokens: SmallList::empty(alloc),
+            keyspaces: SmallList::empty(alloc),
+            sequences: SmallList::empty(alloc),
+        };
+        Ok(Metadata {
+            alloc,
+            image,
+            running: None,
+        })
+    }
+
+    /// The epoch: how many commands have been enacted.
+    pub fn epoch(&self) -> u64
+        ensures { result ≡ self.now.epoch }
+    {
+        self.image.epoch
+    }
+
+    /// The image, which is valid.
+    pub fn as_image(&self) -> &Image
+        ensures image { result.now ≡ self.now }
+        ensures valid { IsValid self.now }
+    {
+        &self.image
+    }
+
+    /// A copy of the image.
+    pub fn image(&self) -> Result<Image, Memory>
+        ensures { IfOk result (λ image. image ≡ self.now) }
+    {
+        self.image.copy()
+    }
+
+    /// Gives a permit for a command that the image accepts, and otherwise shows the first refusal. All memory that the
+    /// command needs is taken here, for a copy of the list that it changes, or for the row of the movement that takes
+    /// a step. `Memory` comes only where it is wanting. No strategy is called.
+    pub fn admit<L: Ledger>(
+        &self,
+        cmd: &Command,
+        walks: &mut Steps<L>,
+    ) -> Result<Permit, AdmitFault>
+        requires room { self.now.epoch < most_epochs }
+        requires formed { IsTrue (is_command cmd.now) }
+        ensures permit { IfOk result (λ permit. permit ≡ record { image = self.now; command = cmd.now }) }
+        ensures refusal { MatchResult result (λ _. refusal_of self.now cmd.now ≡ None) (ShowsRefusal (refusal_of self.now cmd.now)) }
+        ensures uncounted { walks.new ≡ walks.old }
+    {
+        let _ = walks;
+        if let Some(refusal) = early_refusal(self.alloc, &self.image, cmd)? {
+            return Err(AdmitFault::Refused(refusal));
+        }
+        let change = change_of(self.alloc, &self.image, cmd)?;
+        Ok(Permit {
+            change,
+            image: Snapshot::of(&self.image),
+            command: Snapshot::of(cmd),
+        })
+    }
+
+    /// Makes the image that the permit's command leads to, and answers its epoch. It can't be refused, and takes no
+    /// memory: what the permit holds is put in its place.
+    pub fn enact(&mut self, permit: Permit) -> u64
+        requires { permit.image ≡ self.old }
+        ensures image { self.new ≡ next_image self.old permit.command }
+        ensures epoch { result ≡ self.new.epoch }
+    {
+        let Permit {
+            change,
+            image: _,
+            command: _,
+        } = permit;
+        make(self.alloc, &mut self.image, &mut self.running, change);
+        self.image.epoch
+    }
+
+    /// The nodes that are read and those that are written at a token, under the replication of a keyspace: the replicas
+    /// by SimpleStrategy or NetworkTopologyStrategy on the ring that reads see, and those on the ring before the
+    /// movements and on the ring that writes see. `None` comes exactly where no keyspace has the name.
+    ///
+    /// For now each look-up makes the three rings and the directory of the nodes anew. For p pairs it copies and sorts
+    /// them three times, and then walks each ring once.
+    pub fn replicas(
+        &self,
+        alloc: Global,
+        keyspace: &Name,
+        t: Token,
+    ) -> Result<Option<(NodeSet, NodeSet)>, Memory>
+        ensures { IfOk result (λ found. found ≡ served self.now keyspace.now t) }
+    {
+        match keyspace_of(&self.image, keyspace) {
+            None => Ok(None),
+            Some(row) => Ok(Some(served_by(alloc, &self.image, &row.replication, t)?)),
+        }
+    }
+
+    /// Ends the metadata. A movement in flight is forgotten with it.
+    pub fn close(self) {
+        let Metadata {
+            alloc: _,
+            image: _,
+            running,
+        } = self;
+        match running {
+            None => {}
+            Some(movement) => movement.close(),
+        }
+    }
+}

@@ -1,0 +1,147 @@
+//! Where the strategies place replicas on the rings of an image.
+
+ghost use Rattle.std.specs.Prelude.{◌≡◌, ◌<◌, IfOk, IsTrue};
+ghost use Rattle.std.specs.List.Sorted.{IsPermutation};
+ghost use Rattle.std.specs.Option.{option_copied};
+ghost use Rattle.cluster_terms.specs.Group.{place};
+ghost use Rattle.cluster_terms.specs.Replication.{groups_of};
+ghost use Rattle.node_directory.specs.Directory.{is_directory};
+ghost use Rattle.token_ring.specs.Ring.{are_distinct, tokens_of};
+ghost use Rattle.transformations.specs.Rings.{reads_at, writes_at};
+ghost use Rattle.transformations.specs.Valid.{IsValid};
+ghost use Rattle.cluster_metadata.specs.Served.{keyspace_of as the_keyspace_of, served_by as are_served_by};
+
+use crate::rings::{RingKind, ring_with};
+use cluster_terms::{Memory, Name, Pair, Replication, Steps, Token};
+use node_directory::Directory;
+use node_sets::NodeSet;
+use std::alloc::Global;
+use std::marker::Brand;
+use std::sync::ledger::{Blank, Ledger};
+use token_ring::Ring;
+use transformations::{Image, KeyspaceRow};
+
+/// A keyspace.
+pub fn keyspace_of<'a>(image: &'a Image, name: &Name) -> Option<&'a KeyspaceRow>
+    ensures { option_copied result ≡ the_keyspace_of image.now name.now }
+{
+    image
+        .keyspaces
+        .as_slice()
+        .iter()
+        .find(|row| row.name.as_str() == name.as_str())
+}
+
+/// The directory of an image's nodes.
+fn directory_of(alloc: Global, image: &Image) -> Result<Directory, Memory>
+    requires { IsTrue (is_directory 1 image.now.nodes image.now.next) }
+    ensures { IfOk result (λ dir. dir.rows ≡ image.now.nodes) }
+{
+    match Directory::from_rows(alloc, image.nodes.as_slice(), image.next)? {
+        Some(dir) => Ok(dir),
+        None => unreachable!(),
+    }
+}
+
+/// The ring of some pairs.
+fn ring_of(alloc: Global, pairs: &[Pair]) -> Result<Ring, Memory>
+    requires { IsTrue (are_distinct (tokens_of pairs.now)) }
+    ensures { IfOk result (λ ring. IsPermutation pairs.now ring) }
+{
+    match Ring::from_pairs(alloc, pairs)? {
+        Some(ring) => Ok(ring),
+        None => unreachable!(),
+    }
+}
+
+/// The replicas at a token on a ring, as the walk of the replication's strategy finds them.
+fn walked<L: Ledger>(
+    alloc: Global,
+    ring: &Ring,
+    dir: &Directory,
+    replication: &Replication,
+    t: Token,
+    blank: Blank,
+) -> Result<NodeSet, Memory>
+    requires name { blank.name ≡ L.name }
+    requires parts { blank.parts ≡ L.parts }
+    requires some { 0 < blank.parts }
+    ensures { IfOk result (λ nodes. nodes ≡ place (groups_of dir.now.rows replication.now) t ring.now) }
+{
+    let mut walks = Steps::<L>::begin(blank);
+    match replication {
+        Replication::Simple(rf) => simple_strategy::replicas(alloc, ring, *rf, t, &mut walks),
+        Replication::Topology(factors) => {
+            topology_strategy::replicas(alloc, ring, dir, factors, t, &mut walks)
+        }
+    }
+}
+
+/// The replicas at a token on the ring of some pairs.
+fn placed(
+    alloc: Global,
+    pairs: &[Pair],
+    dir: &Directory,
+    replication: &Replication,
+    t: Token,
+) -> Result<NodeSet, Memory>
+    requires { IsTrue (are_distinct (tokens_of pairs.now)) }
+    ensures { IfOk result (λ nodes. nodes ≡ place (groups_of dir.now.rows replication.now) t pairs.now) }
+{
+    let ring = ring_of(alloc, pairs)?;
+    walked::<Brand>(alloc, &ring, dir, replication, t, Blank::new(1))
+}
+
+/// The nodes that are read at a token: the replicas on the ring that reads see.
+#[tactic(auto, using(crate::proofs::RingLemmas::read_tokens), unfolding(transformations::specs::Rings::reads_at))]
+fn reads_of(
+    alloc: Global,
+    image: &Image,
+    dir: &Directory,
+    replication: &Replication,
+    t: Token,
+) -> Result<NodeSet, Memory>
+    requires valid { IsValid image.now }
+    requires nodes { dir.now.rows ≡ image.now.nodes }
+    ensures { IfOk result (λ nodes. nodes ≡ reads_at image.now replication.now t) }
+{
+    let pairs = ring_with(alloc, image, RingKind::Read)?;
+    placed(alloc, pairs.as_slice(), dir, replication, t)
+}
+
+/// The nodes that are written at a token: the replicas on the ring before the movements, and those on the ring that
+/// writes see.
+#[tactic(auto, using(crate::proofs::RingLemmas::low_tokens, crate::proofs::RingLemmas::high_tokens), unfolding(transformations::specs::Rings::writes_at))]
+fn writes_of(
+    alloc: Global,
+    image: &Image,
+    dir: &Directory,
+    replication: &Replication,
+    t: Token,
+) -> Result<NodeSet, Memory>
+    requires valid { IsValid image.now }
+    requires nodes { dir.now.rows ≡ image.now.nodes }
+    ensures { IfOk result (λ nodes. nodes ≡ writes_at image.now replication.now t) }
+{
+    let pairs = ring_with(alloc, image, RingKind::High)?;
+    let before = placed(alloc, image.tokens.as_slice(), dir, replication, t)?;
+    let after = placed(alloc, pairs.as_slice(), dir, replication, t)?;
+    before.union(&after)
+}
+
+/// The nodes that are read and those that are written at a token, under a replication.
+#[tactic(auto, using(crate::proofs::RingLemmas::directory_rows))]
+pub fn served_by(
+    alloc: Global,
+    image: &Image,
+    replication: &Replication,
+    t: Token,
+) -> Result<(NodeSet, NodeSet), Memory>
+    requires { IsValid image.now }
+    ensures { IfOk result (λ found. found ≡ are_served_by image.now t replication.now) }
+{
+    let dir = directory_of(alloc, image)?;
+    let reads = reads_of(alloc, image, &dir, replication, t)?;
+    let writes = writes_of(alloc, image, &dir, replication, t)?;
+    Ok((reads, writes))
+}

@@ -1,0 +1,212 @@
+-- What the commands that are accepted tell of an image.
+use Rattle.std.proofs.Common.{◌≡◌, ℕ, ◌<◌, ◌≤◌, Bool, true, false, not, true≢false, ◌&&◌, ◌||◌, ◌==◌, ℤ, List, [], ◌∷◌, length, find, Option, Some, None, is_some, option_map, option_and_then, nat_le, nat_lt, if◌then◌else◌, ◌⊎◌, inl, inr, refl, sym, ap, ◌∙◌, arith}
+use Rattle.std.proofs.lemmas.Bool.Decides.{Decides-eqb, nat_tests}
+use Rattle.std.proofs.lemmas.Option.{none-some}
+use Rattle.std.specs.List.{AllByRecursion, list_any}
+use Rattle.std.specs.Str.{bytes_eq}
+use Rattle.cluster_terms.specs.NodeRow.{row_of}
+use Rattle.cluster_terms.specs.declared.node.NodeRow.{NodeRow}
+use Rattle.cluster_terms.specs.declared.token.Pair.{Pair}
+use Rattle.transformations.proofs.ListLemmas.{all_weaker, any_false, found_passes, none_found}
+use Rattle.transformations.specs.Refusals.{first_of, has_keyspace, is_idle, is_idle_or_left, is_taken, keyspaces_full, in_sequence, most_keyspaces, most_nodes, most_tokens, name_taken, no_node, nodes_full, not_idle, refusal_of, refused_if, token_taken, tokens_full, tokens_with, unless_allowed, wrong_state}
+use Rattle.transformations.specs.States.{is_joined, started_of, state_by, state_in, state_of_row}
+use Rattle.transformations.specs.Steps.{takes_part}
+use Rattle.transformations.specs.Valid.{IsOwned, is_standing, stands}
+use Rattle.transformations.specs.declared.command.Command.TheVariants.{Register, Unregister, UnsafeJoin, Keyspace, PrepareJoin}
+use Rattle.transformations.specs.declared.image.Image.{Image}
+use Rattle.transformations.specs.declared.refusal.Refusal.{Refusal}
+use Rattle.transformations.specs.declared.refusal.Refusal.TheVariants.{InSequence, KeyspacesFull, NameTaken, NoNode, NodesFull, TokensFull, TokenTaken, WrongState}
+use Rattle.cluster_terms.specs.declared.replication.Replication.{Replication}
+use Rattle.transformations.specs.declared.sequence.Kind.{Kind}
+use Rattle.transformations.specs.declared.sequence.Kind.TheVariants.{Join, Move, Leave, Replace}
+use Rattle.transformations.specs.declared.sequence.SeqRow.{SeqRow}
+use Rattle.transformations.specs.declared.state.NodeState.{NodeState}
+use Rattle.transformations.specs.declared.state.NodeState.TheVariants.{Left, Joined, Registered}
+
+-- ---- where no refusal comes
+
+-- none of some refusals comes where their first does not
+first_none : (a : Option Refusal) (later : List (Option Refusal)) → first_of (a ∷ later) ≡ None → (a ≡ None) × (first_of later ≡ None)
+first_none None later h = (refl, h)
+first_none (Some r) later h = absurd (none-some r (sym h))
+
+test_false : (b : Bool) (r : Refusal) → refused_if b r ≡ None → b ≡ false
+test_false true r h = absurd (none-some r (sym h))
+test_false false r h = refl
+
+mapped_none : {X : Type 0} (f : X → Refusal) (o : Option X) → option_map f o ≡ None → o ≡ None
+mapped_none f None h = refl
+mapped_none f (Some x) h = absurd (none-some (f x) (sym h))
+
+-- ---- nodes
+
+-- ids that are the same by the test are the same
+pub same_id : (a b : ℕ) → (a == b) ≡ true → a ≡ b
+same_id a b h = (Decides-eqb a b).0 h
+
+-- a node that is registered, in a state that is allowed
+record HasRow (allowed : NodeState → Bool) (image : Image) (n : ℕ) : Type 0 where
+  row : NodeRow
+  found : row_of image.nodes n ≡ Some row
+  is : row.id ≡ n
+  state : allowed (state_of_row image row) ≡ true
+
+has_row : (allowed : NodeState → Bool) (image : Image) (n : ℕ) → no_node image n ≡ None → wrong_state allowed image n ≡ None → HasRow allowed image n
+has_row allowed image n some right = by (row_of image.nodes n) refl some right
+  where
+    negated : (b : Bool) → not b ≡ false → b ≡ true
+    negated true h = refl
+    negated false h = absurd (true≢false h)
+
+    by : (o : Option NodeRow) → row_of image.nodes n ≡ o → refused_if (not (is_some o)) NoNode ≡ None
+        → option_and_then (unless_allowed allowed) (option_map (state_of_row image) o) ≡ None → HasRow allowed image n
+    by None e some right = absurd (none-some NoNode (sym some))
+    by (Some row) e some right = record {
+      row = row;
+      found = e;
+      is = same_id row.id n (found_passes (λ (r : NodeRow). r.id == n) image.nodes row e);
+      state = negated (allowed (state_of_row image row)) (test_false (not (allowed (state_of_row image row))) (WrongState (state_of_row image row)) right);
+    }
+
+-- the node of a movement is at work
+kind_works : (k : Kind) → (is_idle (state_in k) ≡ false) × (is_idle_or_left (state_in k) ≡ false)
+kind_works Join = (refl, refl)
+kind_works Move = (refl, refl)
+kind_works Leave = (refl, refl)
+kind_works Replace = (refl, refl)
+
+idle_row : (image : Image) (row : NodeRow) → is_idle (state_of_row image row) ≡ true → (row.left ≡ false) × (is_joined image row.id ≡ false)
+unfolding state_of_row
+idle_row image row h = by row.left refl (started_of image row.id) h
+  where
+    unjoined : (j : Bool) → is_idle (if j then Joined else Registered) ≡ true → j ≡ false
+    unjoined true h = absurd (true≢false (sym h))
+    unjoined false h = refl
+
+    by : (l : Bool) → row.left ≡ l → (o : Option SeqRow) → is_idle (if l then Left else state_by image row.id o) ≡ true → (row.left ≡ false) × (is_joined image row.id ≡ false)
+    by true e o h = absurd (true≢false (sym h))
+    by false e (Some s) h = absurd (true≢false (sym h ∙ (kind_works s.kind).0))
+    by false e None h = (e, unjoined (is_joined image row.id) h)
+
+left_row : (image : Image) (row : NodeRow) → is_idle_or_left (state_of_row image row) ≡ true → (row.left ≡ true) ⊎ (is_joined image row.id ≡ false)
+unfolding state_of_row
+left_row image row h = by row.left refl (started_of image row.id) h
+  where
+    unjoined : (j : Bool) → is_idle_or_left (if j then Joined else Registered) ≡ true → j ≡ false
+    unjoined true h = absurd (true≢false (sym h))
+    unjoined false h = refl
+
+    by : (l : Bool) → row.left ≡ l → (o : Option SeqRow) → is_idle_or_left (if l then Left else state_by image row.id o) ≡ true → (row.left ≡ true) ⊎ (is_joined image row.id ≡ false)
+    by true e o h = inl e
+    by false e (Some s) h = absurd (true≢false (sym h ∙ (kind_works s.kind).1))
+    by false e None h = inr (unjoined (is_joined image row.id) h)
+
+-- no pair of the ring is of a node that doesn't stand
+bare_unless_standing : (image : Image) (n : ℕ) → IsOwned image → is_standing image.nodes n ≡ false → is_joined image n ≡ false
+bare_unless_standing image n owned down =
+    any_false (λ (p : Pair). p.node == n) image.tokens
+    (all_weaker (λ (p : Pair). is_standing image.nodes p.node ≡ true) (λ (p : Pair). (p.node == n) ≡ false) (λ p up. by p up (p.node == n) refl) image.tokens owned.owners)
+  where
+    by : (p : Pair) → is_standing image.nodes p.node ≡ true → (b : Bool) → (p.node == n) ≡ b → (p.node == n) ≡ false
+    by p up false e = e
+    by p up true e = absurd (true≢false (sym up ∙ ap (is_standing image.nodes) (same_id p.node n e) ∙ down))
+
+-- no movement is of the node
+abbrev pub IsApart : Image → ℕ → Type 0
+IsApart image n = AllByRecursion (λ (s : SeqRow). (s.node == n) ≡ false) image.sequences
+
+apart : (image : Image) (n : ℕ) → in_sequence image n ≡ None → IsApart image n
+apart image n h =
+    all_weaker (λ (s : SeqRow). takes_part n s ≡ false) (λ (s : SeqRow). (s.node == n) ≡ false)
+    (λ s none. or_first (s.node == n) (list_any (λ (p : Pair). p.node == n) s.out_pairs) none) image.sequences
+    (none_found (takes_part n) image.sequences (mapped_none (λ (s : SeqRow). InSequence s.node) (find (takes_part n) image.sequences) h))
+  where
+    or_first : (a b : Bool) → (a || b) ≡ false → a ≡ false
+    or_first a b h = grind arith
+
+-- a node that may be given tokens: it stands, has none, and takes part in no movement
+pub record IsIdle (image : Image) (n : ℕ) : Type 0 where
+  pub apart : IsApart image n
+  pub stands : is_standing image.nodes n ≡ true
+  pub bare : is_joined image n ≡ false
+
+idle : (image : Image) (n : ℕ) → no_node image n ≡ None → in_sequence image n ≡ None → wrong_state is_idle image n ≡ None → IsIdle image n
+idle image n some free right =
+    let r = has_row is_idle image n some right in
+    let i = idle_row image r.row r.state in
+    let up : stands (row_of image.nodes n) ≡ true = rw (r.found, i.0) refl in
+    record { apart = apart image n free; stands = up; bare = rw r.is at i.1 }
+
+-- ---- tokens
+
+-- tokens that aren't taken, and with which there are not too many
+pub record AreNew (image : Image) (tokens : List ℤ) : Type 0 where
+  pub untaken : AllByRecursion (λ t. is_taken image t ≡ false) tokens
+  pub few : tokens_with image tokens ≤ most_tokens
+
+new : (image : Image) (tokens : List ℤ) → token_taken image tokens ≡ None → tokens_full image tokens ≡ None → AreNew image tokens
+new image tokens free room =
+    let test = test_false (nat_lt most_tokens (tokens_with image tokens)) TokensFull room in
+    record {
+      untaken = none_found (is_taken image) tokens (mapped_none TokenTaken (find (is_taken image) tokens) free);
+      few = grind (arith, nat_tests);
+    }
+
+-- ---- commands
+
+pub register_accepted : (image : Image) (name dc rack : List ℕ) → refusal_of image (Register name dc rack) ≡ None
+    → AllByRecursion (λ (row : NodeRow). bytes_eq row.name name ≡ false) image.nodes × (length image.nodes < most_nodes)
+unfolding refusal_of
+register_accepted image name dc rack h =
+    let a = first_none (name_taken image name) (nodes_full image ∷ []) h in
+    let b = first_none (nodes_full image) [] a.1 in
+    let test = test_false (nat_le most_nodes (length image.nodes)) NodesFull b.0 in
+    let room : length image.nodes < most_nodes = grind (arith, nat_tests) in
+    let none = mapped_none (λ (row : NodeRow). NameTaken row.id) (find (λ (row : NodeRow). bytes_eq row.name name) image.nodes) a.0 in
+    (none_found (λ (row : NodeRow). bytes_eq row.name name) image.nodes none, room)
+
+pub unregister_accepted : (image : Image) (n : ℕ) → IsOwned image → refusal_of image (Unregister n) ≡ None → IsApart image n × (is_joined image n ≡ false)
+unfolding refusal_of
+unregister_accepted image n owned h =
+    let a = first_none (no_node image n) (in_sequence image n ∷ wrong_state is_idle_or_left image n ∷ []) h in
+    let b = first_none (in_sequence image n) (wrong_state is_idle_or_left image n ∷ []) a.1 in
+    let c = first_none (wrong_state is_idle_or_left image n) [] b.1 in
+    let r = has_row is_idle_or_left image n a.0 c.0 in
+    (apart image n b.0, by r (left_row image r.row r.state))
+  where
+    by : (r : HasRow is_idle_or_left image n) → (r.row.left ≡ true) ⊎ (is_joined image r.row.id ≡ false) → is_joined image n ≡ false
+    by r (inl left) = (let down : stands (row_of image.nodes n) ≡ false = rw (r.found, left) refl in bare_unless_standing image n owned down)
+    by r (inr bare) = rw r.is at bare
+
+pub unsafe_join_accepted : (image : Image) (n : ℕ) (tokens : List ℤ) → refusal_of image (UnsafeJoin n tokens) ≡ None → IsIdle image n × AreNew image tokens
+unfolding refusal_of
+unsafe_join_accepted image n tokens h =
+    let a = first_none (no_node image n) (in_sequence image n ∷ wrong_state is_idle image n ∷ not_idle image.sequences ∷ token_taken image tokens ∷ tokens_full image tokens ∷ []) h in
+    let b = first_none (in_sequence image n) (wrong_state is_idle image n ∷ not_idle image.sequences ∷ token_taken image tokens ∷ tokens_full image tokens ∷ []) a.1 in
+    let c = first_none (wrong_state is_idle image n) (not_idle image.sequences ∷ token_taken image tokens ∷ tokens_full image tokens ∷ []) b.1 in
+    let d = first_none (not_idle image.sequences) (token_taken image tokens ∷ tokens_full image tokens ∷ []) c.1 in
+    let e = first_none (token_taken image tokens) (tokens_full image tokens ∷ []) d.1 in
+    let f = first_none (tokens_full image tokens) [] e.1 in
+    (idle image n a.0 b.0 c.0, new image tokens e.0 f.0)
+
+pub keyspace_accepted : (image : Image) (name : List ℕ) (replication : Replication) → refusal_of image (Keyspace name replication) ≡ None
+    → (length image.keyspaces < most_keyspaces) ⊎ (has_keyspace image name ≡ true)
+unfolding refusal_of
+keyspace_accepted image name replication h =
+    let a = first_none (keyspaces_full image name) (not_idle image.sequences ∷ []) h in
+    let test = test_false (nat_le most_keyspaces (length image.keyspaces) && not (has_keyspace image name)) KeyspacesFull a.0 in
+    by (has_keyspace image name) refl test
+  where
+    by : (b : Bool) → has_keyspace image name ≡ b → (nat_le most_keyspaces (length image.keyspaces) && not b) ≡ false → (length image.keyspaces < most_keyspaces) ⊎ (has_keyspace image name ≡ true)
+    by true e t = inr e
+    by false e t = inl (grind (arith, nat_tests))
+
+pub prepare_join_accepted : (image : Image) (n : ℕ) (tokens : List ℤ) → refusal_of image (PrepareJoin n tokens) ≡ None → IsIdle image n × AreNew image tokens
+unfolding refusal_of
+prepare_join_accepted image n tokens h =
+    let a = first_none (no_node image n) (in_sequence image n ∷ wrong_state is_idle image n ∷ token_taken image tokens ∷ tokens_full image tokens ∷ not_idle image.sequences ∷ []) h in
+    let b = first_none (in_sequence image n) (wrong_state is_idle image n ∷ token_taken image tokens ∷ tokens_full image tokens ∷ not_idle image.sequences ∷ []) a.1 in
+    let c = first_none (wrong_state is_idle image n) (token_taken image tokens ∷ tokens_full image tokens ∷ not_idle image.sequences ∷ []) b.1 in
+    let d = first_none (token_taken image tokens) (tokens_full image tokens ∷ not_idle image.sequences ∷ []) c.1 in
+    let e = first_none (tokens_full image tokens) (not_idle image.sequences ∷ []) d.1 in
+    (idle image n a.0 b.0 c.0, new image tokens d.0 e.0)

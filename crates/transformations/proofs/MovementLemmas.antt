@@ -1,0 +1,179 @@
+-- Movements in flight: one that is prepared, one that goes on, and one that is done.
+use Rattle.std.proofs.Common.{◌≡◌, ℕ, ◌≤◌, Bool, true, false, cond, not, ◌&&◌, ◌==◌, ℤ, List, [], ◌∷◌, ◌++◌, map, filter, find, length, Some, nat_le, if◌then◌else◌, true≢false, refl, sym, ap, ◌∙◌, subst, arith}
+use Rattle.std.proofs.lemmas.Bool.Decides.{nat_tests}
+use Rattle.std.proofs.lemmas.Cmp.{nat_cmp_total, on_total, ranked}
+use Rattle.std.proofs.lemmas.List.Sorted.{IsPermutation-append_right, IsPermutation-refl, IsPermutation-trans}
+use Rattle.std.proofs.lemmas.Option.{none-some}
+use Rattle.std.specs.Cmp.{IsTotalOrder}
+use Rattle.std.specs.List.{AllByRecursion}
+use Rattle.std.specs.List.Sorted.{IsPermutation, IsStrictlySortedBy}
+use Rattle.std.specs.Ordering.{is_eq, match_ordering, nat_cmp}
+use Rattle.std.specs.Set.{is_member}
+use Rattle.std.specs.declared.cmp.Ordering.{Ordering}
+use Rattle.std.specs.declared.cmp.Ordering.TheVariants.{Less, Equal, Greater}
+use Rattle.cluster_terms.specs.Ascending.{put, put_all}
+use Rattle.cluster_terms.specs.declared.token.Pair.{Pair}
+use Rattle.transformations.proofs.AcceptedLemmas.{IsIdle, same_id}
+use Rattle.transformations.proofs.ListLemmas.{all_map, all_weaker, exchanged, filter_all}
+use Rattle.transformations.proofs.RingLemmas.{length-pairs, pairs_own, pairs_sorted, tokens_sorted}
+use Rattle.transformations.specs.History.{are_tokens, ascend}
+use Rattle.transformations.specs.Orders.{by_node, by_token, same_pair}
+use Rattle.transformations.specs.Rings.{incoming, outgoing}
+use Rattle.transformations.specs.States.{is_joined}
+use Rattle.transformations.specs.Steps.{at_phase, join_of, others, ring_after}
+use Rattle.transformations.specs.Valid.{IsJoin, is_standing}
+use Rattle.transformations.specs.declared.image.Image.{Image}
+use Rattle.transformations.specs.declared.sequence.Phase.{Phase}
+use Rattle.transformations.specs.declared.sequence.SeqRow.{SeqRow}
+
+pub by_node_total : IsTotalOrder by_node
+by_node_total = on_total (λ (s : SeqRow). s.node) nat_cmp_total
+
+-- ---- the tokens of a command
+
+pub record AreTokens (tokens : List ℤ) : Type 0 where
+  pub some : 1 ≤ length tokens
+  pub few : length tokens ≤ 256
+  pub ascending : ascend tokens ≡ true
+
+pub tokens_are : (tokens : List ℤ) → are_tokens tokens ≡ true → AreTokens tokens
+tokens_are tokens h = by (nat_le 1 (length tokens)) refl (nat_le (length tokens) 256) refl (ascend tokens) refl h
+  where
+    by : (a : Bool) → nat_le 1 (length tokens) ≡ a → (b : Bool) → nat_le (length tokens) 256 ≡ b → (c : Bool) → ascend tokens ≡ c → (a && (b && c)) ≡ true → AreTokens tokens
+    by true e true f true g h = record { some = grind (arith, nat_tests); few = grind (arith, nat_tests); ascending = g }
+    by false e b f c g h = absurd (true≢false (sym h))
+    by true e false f c g h = absurd (true≢false (sym h))
+    by true e true f false g h = absurd (true≢false (sym h))
+
+-- ---- joins
+
+-- a join goes on where its node still stands and has no token
+pub join_kept : (image after : Image) (s : SeqRow) → is_standing after.nodes s.node ≡ true → is_joined after s.node ≡ false → IsJoin image s → IsJoin after s
+join_kept image after s up bare h = record { kind = h.kind; out = h.out; some = h.some; few = h.few; ascending = h.ascending; own = h.own; stands = up; bare = bare }
+
+-- a join that is prepared
+pub join_new : (image : Image) (n : ℕ) (tokens : List ℤ) (epoch : ℕ) (sequences : List SeqRow) → AreTokens tokens → IsIdle image n
+    → IsJoin (record image { epoch = epoch; sequences = sequences }) (join_of n tokens)
+join_new image n tokens epoch sequences t i = record {
+  kind = refl;
+  out = refl;
+  some = omega (arith, t.some, length-pairs n tokens);
+  few = omega (arith, t.few, length-pairs n tokens);
+  ascending = pairs_sorted n tokens (tokens_sorted tokens t.ascending);
+  own = pairs_own n tokens;
+  stands = i.stands;
+  bare = i.bare;
+}
+
+-- joins that take nothing out leave what other movements leave
+pub nothing_out : (image : Image) (sequences : List SeqRow) → AllByRecursion (IsJoin image) sequences → outgoing sequences ≡ []
+nothing_out image [] all = refl
+nothing_out image (s ∷ sequences) all = rw all.0.out (nothing_out image sequences all.1)
+
+pub none_taken_out : (ring : List Pair) → filter (λ p. not (is_member same_pair [] p)) ring ≡ ring
+none_taken_out [] = refl
+none_taken_out (p ∷ ring) = ap (λ l. p ∷ l) (none_taken_out ring)
+
+pub ring_after-join : (ring : List Pair) (s : SeqRow) → s.out_pairs ≡ [] → ring_after ring s ≡ put_all by_token s.in_pairs ring
+ring_after-join ring s out =
+    ap (λ taken. put_all by_token s.in_pairs (filter (λ p. not (is_member same_pair taken p)) ring)) out ∙ ap (put_all by_token s.in_pairs) (none_taken_out ring)
+
+-- ---- a movement more
+
+apart_ties : (n m : ℕ) → (m == n) ≡ false → is_eq (nat_cmp n m) ≡ false
+apart_ties n m h = grind (arith, nat_tests)
+
+pub incoming_put : (j : SeqRow) (sequences : List SeqRow) → AllByRecursion (λ s. (s.node == j.node) ≡ false) sequences → IsPermutation (j.in_pairs ++ incoming sequences) (incoming (put by_node j sequences))
+incoming_put j [] all = IsPermutation-refl (j.in_pairs ++ [])
+incoming_put j (s ∷ sequences) all = by (by_node j s) (apart_ties j.node s.node all.0) (incoming_put j sequences all.1)
+  where
+    by : (o : Ordering) → is_eq o ≡ false → IsPermutation (j.in_pairs ++ incoming sequences) (incoming (put by_node j sequences))
+        → IsPermutation (j.in_pairs ++ incoming (s ∷ sequences)) (incoming (match_ordering o (j ∷ (s ∷ sequences)) (j ∷ sequences) (s ∷ put by_node j sequences)))
+    by Less e rest = IsPermutation-refl (j.in_pairs ++ incoming (s ∷ sequences))
+    by Equal e rest = absurd (true≢false e)
+    by Greater e rest =
+        IsPermutation-trans (j.in_pairs ++ (s.in_pairs ++ incoming sequences)) (s.in_pairs ++ (j.in_pairs ++ incoming sequences)) (s.in_pairs ++ incoming (put by_node j sequences))
+        (exchanged j.in_pairs s.in_pairs (incoming sequences))
+        (IsPermutation-append_right s.in_pairs (j.in_pairs ++ incoming sequences) (incoming (put by_node j sequences)) rest)
+
+-- ---- a movement less
+
+-- the movements after one are of other nodes
+later_others : (s : SeqRow) (sequences : List SeqRow) → AllByRecursion (λ q. by_node s q ≡ Less) sequences → others sequences s.node ≡ sequences
+later_others s sequences later =
+    filter_all (λ (q : SeqRow). not (q.node == s.node)) sequences
+    (all_weaker (λ (q : SeqRow). by_node s q ≡ Less) (λ (q : SeqRow). not (q.node == s.node) ≡ true) (λ q less. by s.node q.node less) sequences later)
+  where
+    by : (n m : ℕ) → nat_cmp n m ≡ Less → not (m == n) ≡ true
+    by n m less = (let lt = ranked n m Less (sym less) in grind (arith, nat_tests))
+
+-- the movement of a node comes out of the others
+pub incoming_without : (n : ℕ) (sequences : List SeqRow) (s : SeqRow) → IsStrictlySortedBy by_node sequences → find (λ (q : SeqRow). q.node == n) sequences ≡ Some s
+    → IsPermutation (incoming sequences) (s.in_pairs ++ incoming (others sequences n))
+unfolding IsStrictlySortedBy
+incoming_without n [] s up found = absurd (none-some s found)
+incoming_without n (q ∷ sequences) s up found = by (q.node == n) refl found (incoming_without n sequences s up.1)
+  where
+    by : (b : Bool) → (q.node == n) ≡ b → cond b (Some q) (find (λ (q : SeqRow). q.node == n) sequences) ≡ Some s
+        → (find (λ (q : SeqRow). q.node == n) sequences ≡ Some s → IsPermutation (incoming sequences) (s.in_pairs ++ incoming (others sequences n)))
+        → IsPermutation (q.in_pairs ++ incoming sequences) (s.in_pairs ++ incoming (cond (not b) (q ∷ others sequences n) (others sequences n)))
+    by true e found rest =
+        let is : q ≡ s = cc in
+        let node : q.node ≡ n = same_id q.node n e in
+        let later : others sequences n ≡ sequences = subst (λ k. others sequences k ≡ sequences) node (later_others q sequences up.0) in
+        rw (later, ← is) (IsPermutation-refl (q.in_pairs ++ incoming sequences))
+    by false e found rest =
+        IsPermutation-trans (q.in_pairs ++ incoming sequences) (q.in_pairs ++ (s.in_pairs ++ incoming (others sequences n))) (s.in_pairs ++ (q.in_pairs ++ incoming (others sequences n)))
+        (IsPermutation-append_right q.in_pairs (incoming sequences) (s.in_pairs ++ incoming (others sequences n)) (rest found))
+        (exchanged q.in_pairs s.in_pairs (incoming (others sequences n)))
+
+-- the others are of other nodes
+pub others_apart : (n : ℕ) (sequences : List SeqRow) → AllByRecursion (λ s. (s.node == n) ≡ false) (others sequences n)
+others_apart n [] = tt
+others_apart n (s ∷ sequences) = by (s.node == n) refl (others_apart n sequences)
+  where
+    by : (b : Bool) → (s.node == n) ≡ b → AllByRecursion (λ q. (q.node == n) ≡ false) (others sequences n) → AllByRecursion (λ q. (q.node == n) ≡ false) (cond (not b) (s ∷ others sequences n) (others sequences n))
+    by true e rest = rest
+    by false e rest = (e, rest)
+
+-- ---- a movement in another phase
+
+module _ (phase : Phase) (n : ℕ) where
+  phase_node : (s : SeqRow) → (at_phase phase n s).node ≡ s.node
+  phase_node s = by (s.node == n)
+    where
+      by : (b : Bool) → (let changed : SeqRow = record s { phase = phase } in if b then changed else s).node ≡ s.node
+      by true = refl
+      by false = refl
+
+  phase_in_pairs : (s : SeqRow) → (at_phase phase n s).in_pairs ≡ s.in_pairs
+  phase_in_pairs s = by (s.node == n)
+    where
+      by : (b : Bool) → (let changed : SeqRow = record s { phase = phase } in if b then changed else s).in_pairs ≡ s.in_pairs
+      by true = refl
+      by false = refl
+
+  phase_join : (image : Image) (epoch : ℕ) (sequences : List SeqRow) (s : SeqRow) → IsJoin image s → IsJoin (record image { epoch = epoch; sequences = sequences }) (at_phase phase n s)
+  phase_join image epoch sequences s h = by (s.node == n)
+    where
+      by : (b : Bool) → IsJoin (record image { epoch = epoch; sequences = sequences }) (let changed : SeqRow = record s { phase = phase } in if b then changed else s)
+      by true = record { kind = h.kind; out = h.out; some = h.some; few = h.few; ascending = h.ascending; own = h.own; stands = h.stands; bare = h.bare }
+      by false = record { kind = h.kind; out = h.out; some = h.some; few = h.few; ascending = h.ascending; own = h.own; stands = h.stands; bare = h.bare }
+
+  pub phase_joins : (image : Image) (epoch : ℕ) (after sequences : List SeqRow) → AllByRecursion (IsJoin image) sequences → AllByRecursion (IsJoin (record image { epoch = epoch; sequences = after })) (map (at_phase phase n) sequences)
+  phase_joins image epoch after sequences all =
+      all_map (IsJoin (record image { epoch = epoch; sequences = after })) (at_phase phase n) sequences
+      (all_weaker (IsJoin image) (λ s. IsJoin (record image { epoch = epoch; sequences = after }) (at_phase phase n s)) (phase_join image epoch after) sequences all)
+
+  pub phase_sorted : (sequences : List SeqRow) → IsStrictlySortedBy by_node sequences → IsStrictlySortedBy by_node (map (at_phase phase n) sequences)
+  unfolding IsStrictlySortedBy
+  phase_sorted [] up = tt
+  phase_sorted (s ∷ sequences) up = (
+    all_map (λ q. by_node (at_phase phase n s) q ≡ Less) (at_phase phase n) sequences
+        (all_weaker (λ q. by_node s q ≡ Less) (λ q. by_node (at_phase phase n s) (at_phase phase n q) ≡ Less) (λ q less. ap (λ k. nat_cmp k (at_phase phase n q).node) (phase_node s) ∙ ap (nat_cmp s.node) (phase_node q) ∙ less) sequences up.0),
+    phase_sorted sequences up.1,
+  )
+
+  pub phase_incoming : (sequences : List SeqRow) → incoming (map (at_phase phase n) sequences) ≡ incoming sequences
+  phase_incoming [] = refl
+  phase_incoming (s ∷ sequences) = ap (λ l. l ++ incoming (map (at_phase phase n) sequences)) (phase_in_pairs s) ∙ ap (λ l. s.in_pairs ++ l) (phase_incoming sequences)

@@ -1,0 +1,76 @@
+-- Movements, and the steps that they take.
+use Rattle.std.specs.Prelude.{ℕ, Bool, true, false, not, ◌&&◌, ◌||◌, if◌then◌else◌, ℤ, List, [], map, filter, find, Option, Some, None, ◌==◌}
+use Rattle.std.specs.List.{list_any}
+use Rattle.std.specs.Set.{is_member}
+use Rattle.cluster_terms.specs.Ascending.{put_all}
+use Rattle.cluster_terms.specs.declared.token.Pair.{Pair}
+use Rattle.transformations.specs.Orders.{by_token, same_pair}
+use Rattle.transformations.specs.declared.image.Image.{Image}
+use Rattle.transformations.specs.declared.sequence.Goal.{Goal}
+use Rattle.transformations.specs.declared.sequence.Goal.TheVariants as goal
+use Rattle.transformations.specs.declared.sequence.Kind.{Kind}
+use Rattle.transformations.specs.declared.sequence.Kind.TheVariants.{Join, Move, Leave, Replace}
+use Rattle.transformations.specs.declared.sequence.Phase.{Phase}
+use Rattle.transformations.specs.declared.sequence.Phase.TheVariants.{Prepared, Started, Mid}
+use Rattle.transformations.specs.declared.sequence.SeqRow.{SeqRow}
+
+-- the pairs of a node and its tokens
+abbrev pub pairs_of : ℕ → List ℤ → List Pair
+pairs_of node tokens = map (λ t. record { token = t; node = node }) tokens
+
+-- a join that is prepared: it takes no pair out, and puts in the node's tokens
+abbrev pub join_of : ℕ → List ℤ → SeqRow
+join_of node tokens = record { node = node; kind = Join; out_pairs = []; in_pairs = pairs_of node tokens; phase = Prepared }
+
+-- the movement of a node
+abbrev pub movement_of : Image → ℕ → Option SeqRow
+movement_of image n = find (λ s. s.node == n) image.sequences
+
+-- whether a node takes part in a movement: it is its node, or the one that it takes pairs from
+abbrev pub takes_part : ℕ → SeqRow → Bool
+takes_part n s = (s.node == n) || list_any (λ p. p.node == n) s.out_pairs
+
+-- the phase that a step goes on from, and the phases and kinds that are the same
+abbrev pub phase_before : Goal → Phase
+phase_before goal.Start = Prepared
+phase_before goal.Mid = Started
+phase_before goal.Finish = Mid
+
+abbrev pub same_phase : Phase → Phase → Bool
+same_phase Prepared Prepared = true
+same_phase Started Started = true
+same_phase Mid Mid = true
+same_phase _ _ = false
+
+abbrev pub same_kind : Kind → Kind → Bool
+same_kind Join Join = true
+same_kind Move Move = true
+same_kind Leave Leave = true
+same_kind Replace Replace = true
+same_kind _ _ = false
+
+-- whether a step is the next one of a movement
+abbrev pub is_next_step : Goal → Kind → SeqRow → Bool
+is_next_step goal kind s = same_kind s.kind kind && same_phase s.phase (phase_before goal)
+
+-- the movements, where that of a node is in another phase now; and those of the other nodes
+abbrev pub at_phase : Phase → ℕ → SeqRow → SeqRow
+at_phase phase n s = let changed : SeqRow = record s { phase = phase } in if s.node == n then changed else s
+
+abbrev pub others : List SeqRow → ℕ → List SeqRow
+others sequences n = filter (λ s. not (s.node == n)) sequences
+
+-- a ring once a movement is done: its outgoing pairs are out, its incoming pairs in
+abbrev pub ring_after : List Pair → SeqRow → List Pair
+ring_after ring s = put_all by_token s.in_pairs (filter (λ p. not (is_member same_pair s.out_pairs p)) ring)
+
+-- the image once a movement is finished
+abbrev pub finished : Image → Option SeqRow → Image
+finished image None = image
+finished image (Some s) = record image { tokens = ring_after image.tokens s; sequences = others image.sequences s.node }
+
+-- the image once the movement of a node has taken a step; the epoch is as before
+abbrev pub stepped : Image → Goal → ℕ → Image
+stepped image goal.Start n = record image { sequences = map (at_phase Started n) image.sequences }
+stepped image goal.Mid n = record image { sequences = map (at_phase Mid n) image.sequences }
+stepped image goal.Finish n = finished image (movement_of image n)
