@@ -1,5 +1,5 @@
 -- Images of histories answer queries.
-use Rattle.std.proofs.Common.{◌≡◌, ℕ, ◌+◌, ◌<◌, ◌≤◌, Bool, true, false, not, ◌&&◌, ◌||◌, ℤ, List, [], ◌∷◌, map, IsTrue, refl, sym, ap, ◌∙◌, arith}
+use Rattle.std.proofs.Common.{◌≡◌, ℕ, ◌+◌, ◌<◌, ◌≤◌, Bool, true, false, not, ◌&&◌, ◌||◌, ℤ, List, [], ◌∷◌, ◌++◌, Option, Some, None, is_none, nat_le, get_or, length, map, take, true≢false, IsTrue, refl, sym, ap, ◌∙◌, subst, arith, length-take}
 use Rattle.std.proofs.lemmas.Bool.Decides.{nat_tests}
 use Rattle.std.specs.List.{AllByRecursion, IsDistinct, list_any}
 use Rattle.std.proofs.lemmas.Map.Keys.{IsDistinct-head, IsDistinct-tail, sorted_head, sorted_tail, sorted_from_strictly_increasing}
@@ -13,13 +13,17 @@ use Rattle.cluster_terms.specs.declared.token.Pair.{Pair}
 use Rattle.node_directory.proofs.RowLemmas.{ascending_cons, directory_from}
 use Rattle.node_directory.specs.Directory.{are_ascending, are_distinct as are_names_distinct, ids_of, is_directory, names_of}
 use Rattle.token_ring.specs.Ring.{are_distinct, tokens_of}
-use Rattle.transformations.proofs.HistoryLemmas.{valid_at}
+use Rattle.std.proofs.lemmas.List.{take_more}
+use Rattle.transformations.proofs.HistoryLemmas.{epoch_after, history_short, history_take, image_after-push, valid_at}
+use Rattle.transformations.proofs.ListLemmas.{both_right}
 use Rattle.transformations.proofs.WidestLemmas.{widest-tokens}
-use Rattle.transformations.specs.History.{IsHistory, state_after}
+use Rattle.transformations.specs.History.{IsHistory, are_accepted, empty_image, image_after, is_command, most_epochs, next_image, state_after}
+use Rattle.transformations.specs.Refusals.{refusal_of}
 use Rattle.transformations.specs.Rings.{low_ring, read_ring, high_ring}
 use Rattle.transformations.specs.Valid.{AreNodes, IsValid}
 use Rattle.transformations.specs.declared.command.Command.{Command}
 use Rattle.transformations.specs.declared.image.Image.{Image}
+use Rattle.transformations.specs.declared.refusal.Refusal.{Refusal}
 use Rattle.tcm_session.specs.Serving.{IsServing}
 
 -- ---- lists in which nothing comes twice
@@ -70,3 +74,37 @@ serving image valid =
 
 pub serving-at : (h : List Command) (e : ℕ) → IsHistory h → IsServing (state_after h e)
 serving-at h e is = serving (state_after h e) (valid_at h e is)
+
+-- ---- the commands of a history, one after another
+
+-- a command can be taken over next: there is an epoch for it, and the image so far accepts it
+pub record IsNext (image : Image) (c : Command) : Type 0 where
+  pub room : image.epoch < most_epochs
+  pub formed : is_command c ≡ true
+  pub accepted : refusal_of image c ≡ None
+
+accepted_last : (image : Image) (commands : List Command) (c : Command) → are_accepted image (commands ++ c ∷ []) ≡ true → (is_command c ≡ true) × (refusal_of (image_after image commands) c ≡ None)
+accepted_last image [] c h = by (is_command c) (refusal_of image c) h
+  where
+    by : (a : Bool) (o : Option Refusal) → ((a && is_none o) && true) ≡ true → (a ≡ true) × (o ≡ None)
+    by true None e = (refl, refl)
+    by true (Some r) e = absurd (true≢false (sym e))
+    by false o e = absurd (true≢false (sym e))
+accepted_last image (d ∷ commands) c h = accepted_last (next_image image d) commands c (both_right (is_command d && is_none (refusal_of image d)) _ h)
+
+pub next_at : (h : List Command) (i : ℕ) (c : Command) → IsHistory h → i < length h → c ≡ get_or h i c → IsNext (state_after h i) c
+next_at h i c is within at =
+    let more : take (i + 1) h ≡ take i h ++ c ∷ [] = take_more h i c within ∙ ap (λ x. take i h ++ x ∷ []) (sym at) in
+    let front : are_accepted empty_image (take i h ++ c ∷ []) ≡ true =
+    subst (λ l. are_accepted empty_image l ≡ true) more (both_right (nat_le (length (take (i + 1) h)) most_epochs) _ (history_take h (i + 1) is)) in
+    let last = accepted_last empty_image (take i h) c front in
+    record {
+      room = omega (arith, epoch_after (take i h), length-take i h, history_short h is);
+      formed = last.0;
+      accepted = last.1;
+    }
+
+-- the next command taken over
+pub state-more : (h : List Command) (i : ℕ) (c : Command) → i < length h → c ≡ get_or h i c → next_image (state_after h i) c ≡ state_after h (i + 1)
+state-more h i c within at =
+    sym (image_after-push empty_image (take i h) c) ∙ ap (image_after empty_image) (ap (λ x. take i h ++ x ∷ []) at ∙ sym (take_more h i c within))

@@ -1,6 +1,5 @@
 pub mod AnswersLemmas
 pub mod CauseLemmas
-pub mod CountLemmas
 pub mod HistoryLemmas
 pub mod FeedLemmas
 pub mod LinesLemmas

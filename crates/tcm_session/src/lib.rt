@@ -1,18 +1,17 @@
 //! A session: reads script lines, keeps the history of accepted commands, and answers each line.
 #![tactic(auto)]
 
-mod apply;
 mod fault;
 #[cfg(test)]
 mod fault_tests;
 #[cfg(test)]
 mod limit_tests;
 mod lines;
-mod movements;
 mod place_text;
 mod placement;
 mod program;
 mod reading;
+mod replay;
 mod rings;
 mod script;
 mod session;

@@ -3,7 +3,7 @@
 ghost use Rattle.std.specs.Prelude.{◌≡◌, ◌++◌, flat_map, length, take, OnOk};
 ghost use Rattle.script_lang.specs.Texts.{place_text as place_words, row_text as row_words};
 ghost use Rattle.tcm_session.specs.Placers.{IsPlacing};
-ghost use Rattle.tcm_session.specs.Serving.{IsServing};
+ghost use Rattle.transformations.specs.Valid.{IsValid};
 
 use crate::placement::Placers;
 use crate::rings::{cuts, directory_of, rings_of};
@@ -13,14 +13,14 @@ use std::alloc::Global;
 use transformations::{Image, KeyspaceRow};
 
 /// Adds the placements of a keyspace: a head with the number of rows, and the rows between the cuts.
-#[tactic(auto, unfolding(script_lang::specs::Texts::place_text))]
+#[tactic(auto, using(crate::proofs::HistoryLemmas::serving), unfolding(script_lang::specs::Texts::place_text))]
 pub fn place_text(
     alloc: Global,
     image: &Image,
     keyspace: &KeyspaceRow,
     out: &mut ByteText,
 ) -> Result<(), Memory>
-    requires { IsServing image.now }
+    requires { IsValid image.now }
     ensures added { OnOk result (out.new ≡ out.old ++ place_words image.now keyspace.now) }
     ensures kept { take (length out.old) out.new ≡ out.old }
 {

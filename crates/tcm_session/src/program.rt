@@ -80,6 +80,31 @@ fn finish<K: Sink>(
     }
 }
 
+/// Runs a script in a session that begins.
+fn run_script<S: Source, K: Sink>(
+    alloc: Global,
+    session: &mut Session,
+    input: &mut S,
+    out: &mut K,
+) -> Result<Status, RunFault>
+    requires { session.old ≡ [] }
+    ensures outcome { IfOk result (λ status. HasOutcome commit_outcome (S.left input.old) (K.written out.old) (K.written out.new) status.0) }
+    ensures status { IfOk result (λ status. (status.0 ≡ 0) ⊎ (status.0 ≡ 8)) }
+    ensures at_end { IfOk result (λ status. status.0 ≡ 0 → IsAtEnd (S.left input.new)) }
+    ensures past_limit { IfOk result (λ status. status.0 ≡ 8
+        → ReadsJust (input_limit + 1) (S.left input.old) (S.left input.new)) }
+    ensures part { BeginsOutcome commit_outcome (S.left input.old) (K.written out.old) (K.written out.new) }
+    ensures read { ReadsNoMore (input_limit + 1) (S.left input.old) (S.left input.new) }
+    ensures source { IsErrOf result fault.Source
+        → AnswersWhatIsRead (S.left input.old) (S.left input.new) (K.written out.old) (K.written out.new) }
+    ensures cause { HasRunCause (S.faults input.old) (S.faults input.new) (K.faults out.old) (K.faults out.new) result }
+{
+    let mut begun = Vec::new(alloc);
+    let ending = read_script(alloc, session, &mut begun, input, out)?;
+    let status = finish(alloc, session, begun.as_slice(), ending, out)?;
+    Ok(status)
+}
+
 /// Runs a script from an empty history, without a file.
 fn commit<S: Source, K: Sink>(alloc: Global, input: &mut S, out: &mut K) -> Result<Status, RunFault>
     ensures outcome { IfOk result (λ status. HasOutcome commit_outcome (S.left input.old) (K.written out.old) (K.written out.new) status.0) }
@@ -93,11 +118,10 @@ fn commit<S: Source, K: Sink>(alloc: Global, input: &mut S, out: &mut K) -> Resu
         → AnswersWhatIsRead (S.left input.old) (S.left input.new) (K.written out.old) (K.written out.new) }
     ensures cause { HasRunCause (S.faults input.old) (S.faults input.new) (K.faults out.old) (K.faults out.new) result }
 {
-    let mut session = Session::empty(alloc);
-    let mut begun = Vec::new(alloc);
-    let ending = read_script(alloc, &mut session, &mut begun, input, out)?;
-    let status = finish(alloc, &mut session, begun.as_slice(), ending, out)?;
-    Ok(status)
+    let mut session = Session::empty(alloc)?;
+    let result = run_script(alloc, &mut session, input, out);
+    session.close();
+    result
 }
 
 /// Answers words that are not understood.

@@ -1,29 +1,33 @@
-ghost use Rattle.std.specs.Prelude.{◌≡◌, ◌∷◌, ◌++◌, [], find, if◌then◌else◌, nat_le, length, option_copied, Some, None, OnOk, OnErr, IfOk, IfSome, IsTrue, MatchResult};
+ghost use Rattle.std.specs.Prelude.{◌≡◌, ◌+◌, ◌≤◌, ◌∷◌, ◌++◌, [], find, length, option_copied, None, OnOk, OnErr, IfOk, IfSome, IsTrue, MatchResult};
 ghost use Rattle.std.specs.Str.{bytes_eq};
 ghost use Rattle.script_lang.specs.Grammar.{HasTokens};
-ghost use Rattle.transformations.specs.History.{commit_refusal, is_command, state_after};
+ghost use Rattle.script_lang.specs.Texts.{ok_text as accepted_text};
+ghost use Rattle.transformations.specs.History.{commit_refusal, empty_image, image_after, is_command, state_after};
+ghost use Rattle.transformations.specs.Valid.{IsValid};
+ghost use Rattle.cluster_metadata.specs.Permission.{ShowsRefusal};
 ghost use Rattle.tcm_session.specs.Machine.{commit_reply, keyspace_named, nodes_answer, place_answer, placements, reply, reply_to};
-ghost use Rattle.tcm_session.specs.Serving.{IsServing};
 
-use crate::apply::{apply, empty_image, image_of};
 use crate::place_text::place_text;
+use crate::replay::{admitted, replay};
+use cluster_metadata::{AdmitFault, Metadata, Permit};
 use cluster_terms::{ByteText, Memory, Name};
 use script_lang::{
     ScriptLine, Target, no_epoch_text, no_text, nodes_text, ok_text, parse_line, refused_text,
 };
 use std::alloc::Global;
 use std::marker::Model;
-use transformations::{Command, Image, KeyspaceRow, Refusal, early_refusal};
+use transformations::{Command, Image, KeyspaceRow, Refusal};
 
 /// The most epochs that are committed.
 const MOST_EPOCHS: usize = 65_536;
 
-/// The commands that were accepted so far, in order, and the image after them.
-#[derive(Drop)]
+/// The commands that were accepted so far, in order, and the metadata after them.
+///
+/// The value has to be spent, by `close`.
 pub struct Session {
     alloc: Global,
     commands: Vec<Command>,
-    image: Image,
+    metadata: Metadata,
 }
 
 impl Model for Session {
@@ -35,7 +39,7 @@ impl Model for Session {
 
     ghost view = { λ session. session.commands.items };
 
-    ghost invariant = { λ session. (session.image ≡ image_after empty_image session.commands.items) × IsHistory session.commands.items };
+    ghost invariant = { λ session. (session.metadata ≡ image_after empty_image session.commands.items) × IsHistory session.commands.items };
 }
 
 /// The keyspace of a name.
@@ -52,7 +56,7 @@ fn placements_text(
     keyspace: &Name,
     out: &mut ByteText,
 ) -> Result<(), Memory>
-    requires { IsServing image.now }
+    requires { IsValid image.now }
     ensures { OnOk result (out.new ≡ out.old ++ placements image.now (keyspace_named image.now keyspace.now)) }
 {
     match find_keyspace(image.keyspaces.as_slice(), keyspace) {
@@ -61,16 +65,37 @@ fn placements_text(
     }
 }
 
+/// Adds the answer to a commit that is accepted, and the command to those before it. Want of memory leaves these as
+/// they were.
+fn note(commands: &mut Vec<Command>, command: Command, out: &mut ByteText) -> Result<(), Memory>
+    ensures text { OnOk result (out.new ≡ out.old ++ accepted_text (length commands.old.items + 1)) }
+    ensures commands { MatchResult result (λ _. commands.new.items ≡ commands.old.items ++ command ∷ []) (λ _. commands.new.items ≡ commands.old.items) }
+{
+    ok_text(commands.len() as u64 + 1, out)?;
+    commands.push(command)?;
+    Ok(())
+}
+
 impl Session {
     /// The session before the first command.
-    pub fn empty(alloc: Global) -> Session
-        ensures { result ≡ [] }
+    pub fn empty(alloc: Global) -> Result<Session, Memory>
+        ensures { IfOk result (λ session. session ≡ []) }
     {
-        Session {
+        Ok(Session {
             alloc,
             commands: Vec::new(alloc),
-            image: empty_image(alloc),
-        }
+            metadata: Metadata::empty(alloc)?,
+        })
+    }
+
+    /// Ends the session. Its history is forgotten.
+    pub fn close(self) {
+        let Session {
+            alloc: _,
+            commands: _,
+            metadata,
+        } = self;
+        metadata.close();
     }
 
     /// Answers a line: appends the answer's text to `out`. Want of memory leaves the history as it was.
@@ -107,66 +132,84 @@ impl Session {
         ensures history { OnOk result (self.new ≡ (commit_reply self.old command).history) }
         ensures err { OnErr result (self.new ≡ self.old) }
     {
-        match self.refusal(&command)? {
-            Some(refusal) => refused_text(&refusal, out),
-            None => {
-                ok_text(self.commands.len() as u64 + 1, out)?;
-                self.accept(command)
-            }
+        match self.admit(&command) {
+            Ok(permit) => self.accept(command, permit, out),
+            Err(AdmitFault::Refused(refusal)) => refused_text(&refusal, out),
+            Err(AdmitFault::Memory) => Err(Memory),
         }
     }
 
-    /// The first refusal of a command, if it is refused.
-    fn refusal(&self, command: &Command) -> Result<Option<Refusal>, Memory>
-        ensures { IfOk result (λ found. found ≡ commit_refusal self.now command.now) }
+    /// A permit for a command; else its first refusal, before all others that there are as many epochs as can be.
+    fn admit(&self, command: &Command) -> Result<Permit, AdmitFault>
+        requires { IsTrue (is_command command.now) }
+        ensures permit { IfOk result (λ permit. permit ≡ record { image = image_after empty_image self.now; command = command.now }) }
+        ensures refusal { MatchResult result (λ _. commit_refusal self.now command.now ≡ None) (ShowsRefusal (commit_refusal self.now command.now)) }
     {
         if self.commands.len() >= MOST_EPOCHS {
-            return Ok(Some(Refusal::EpochsFull));
+            return Err(AdmitFault::Refused(Refusal::EpochsFull));
         }
-        early_refusal(self.alloc, &self.image, command)
+        admitted(&self.metadata, command)
     }
 
-    /// Adds a command that isn't refused to the history. Want of memory changes nothing.
-    fn accept(&mut self, command: Command) -> Result<(), Memory>
+    /// Adds a command to the history, and enacts it. Want of memory changes nothing.
+    fn accept(&mut self, command: Command, permit: Permit, out: &mut ByteText) -> Result<(), Memory>
         requires tokens { IsTrue (is_command command) }
         requires accepted { commit_refusal self.old command ≡ None }
-        ensures { MatchResult result (λ _. self.new ≡ self.old ++ command ∷ []) (λ _. self.new ≡ self.old) }
+        requires permit { permit ≡ record { image = image_after empty_image self.old; command = command } }
+        ensures text { OnOk result (out.new ≡ out.old ++ accepted_text (length self.old + 1)) }
+        ensures history { MatchResult result (λ _. self.new ≡ self.old ++ command ∷ []) (λ _. self.new ≡ self.old) }
     {
-        self.commands.reserve(1)?;
-        apply(self.alloc, &mut self.image, &command)?;
-        self.commands.push(command)?;
-        Ok(())
-    }
-
-    /// The image of an epoch. `None` comes exactly past the last one.
-    fn image_at(&self, epoch: u64) -> Result<Option<Image>, Memory>
-        ensures image { IfOk result (λ found. found ≡ (if nat_le epoch (length self.now) then Some (state_after self.now epoch) else None)) }
-        ensures serving { IfOk result (λ found. IfSome found (λ image. IsServing image)) }
-    {
-        if epoch > self.commands.len() as u64 {
-            return Ok(None);
+        match note(&mut self.commands, command, out) {
+            Ok(()) => {
+                let _epoch = self.metadata.enact(permit);
+                Ok(())
+            }
+            Err(memory) => {
+                permit.decline();
+                Err(memory)
+            }
         }
-        let image = image_of(self.alloc, &self.commands[..epoch as usize])?;
-        Ok(Some(image))
     }
 
     /// Answers a query of the placements of a keyspace in the image of an epoch.
     fn place(&self, epoch: u64, keyspace: &Name, out: &mut ByteText) -> Result<(), Memory>
         ensures { OnOk result (out.new ≡ out.old ++ place_answer self.now epoch keyspace.now) }
     {
-        match self.image_at(epoch)? {
-            None => no_epoch_text(self.commands.len() as u64, out),
-            Some(image) => placements_text(self.alloc, &image, keyspace, out),
+        let last = self.commands.len() as u64;
+        if epoch > last {
+            return no_epoch_text(last, out);
         }
+        if epoch == last {
+            return placements_text(self.alloc, self.metadata.as_image(), keyspace, out);
+        }
+        let metadata = self.metadata_at(epoch as usize)?;
+        let answered = placements_text(self.alloc, metadata.as_image(), keyspace, out);
+        metadata.close();
+        answered
     }
 
     /// Answers a query of the nodes in the image of an epoch.
     fn nodes(&self, epoch: u64, out: &mut ByteText) -> Result<(), Memory>
         ensures { OnOk result (out.new ≡ out.old ++ nodes_answer self.now epoch) }
     {
-        match self.image_at(epoch)? {
-            None => no_epoch_text(self.commands.len() as u64, out),
-            Some(image) => nodes_text(self.alloc, &image, out),
+        let last = self.commands.len() as u64;
+        if epoch > last {
+            return no_epoch_text(last, out);
         }
+        if epoch == last {
+            return nodes_text(self.alloc, self.metadata.as_image(), out);
+        }
+        let metadata = self.metadata_at(epoch as usize)?;
+        let answered = nodes_text(self.alloc, metadata.as_image(), out);
+        metadata.close();
+        answered
+    }
+
+    /// The metadata at an epoch that has come.
+    fn metadata_at(&self, epoch: usize) -> Result<Metadata, Memory>
+        requires { epoch ≤ length self.now }
+        ensures { IfOk result (λ metadata. metadata ≡ state_after self.now epoch) }
+    {
+        replay(self.alloc, &self.commands[..epoch])
     }
 }

@@ -1,27 +1,9 @@
-use Rattle.tcm_session.proofs.OutcomeLemmas.{BeginsOutcome-read, BeginsOutcome-ending, HasOutcome-read, past_limit_of}
+use Rattle.std.proofs.Common.{[]}
+use Rattle.std.proofs.KnownBytes.{Keeps-refl}
+use Rattle.tcm_session.specs.Outcome.{input_limit}
+use Rattle.tcm_session.proofs.OutcomeLemmas.{BeginsOutcome-read}
+use Rattle.tcm_session.proofs.ReadLemmas.{Reads-none}
 use Rattle.tcm_session.proofs.program.commit.Goals as goal
 
-pub returns-in_err-ending-clause-part : goal.returns-in_err-ending-clause-part
-returns-in_err-ending-clause-part g c =
-    let reads = rw (c.empty-session.ensures, c.new-begun.ensures.items) at c.read_script.ensures.part in
-    BeginsOutcome-read _ _ _ _ reads
-
-pub returns-in_err-status-clause-part : goal.returns-in_err-status-clause-part
-returns-in_err-status-clause-part g c =
-    let reads = rw (c.empty-session.ensures, c.new-begun.ensures.items) at c.in_ok-ending.ensures.ok in
-    BeginsOutcome-ending _ _ _ _ _ _ c.in_ok-ending.ending _ reads (rw c.as_slice.ensures.value at c.finish.ensures.part)
-
-pub returns-clause-part : goal.returns-clause-part
-returns-clause-part g c =
-    let reads = rw (c.empty-session.ensures, c.new-begun.ensures.items) at c.in_ok-ending.ensures.ok in
-    BeginsOutcome-ending _ _ _ _ _ _ c.in_ok-ending.ending _ reads (rw c.as_slice.ensures.value at c.finish.ensures.part)
-
-pub returns-clause-outcome : goal.returns-clause-outcome
-returns-clause-outcome g c =
-    let reads = rw (c.empty-session.ensures, c.new-begun.ensures.items) at c.in_ok-ending.ensures.ok in
-    HasOutcome-read _ _ _ _ _ _ c.in_ok-ending.ending _ _ reads (rw c.as_slice.ensures.value at c.in_ok-status.ensures.ok) c.in_ok-status.ensures.status
-
-pub returns-clause-past_limit : goal.returns-clause-past_limit
-returns-clause-past_limit g c eight =
-    let reads = rw (c.empty-session.ensures, c.new-begun.ensures.items) at c.in_ok-ending.ensures.ok in
-    past_limit_of _ _ _ _ _ _ c.in_ok-ending.ending _ reads c.in_ok-status.ensures.status eight
+pub returns-in_err-session-clause-part : goal.returns-in_err-session-clause-part
+returns-in_err-session-clause-part g c = BeginsOutcome-read _ _ _ _ (Reads-none input_limit _ _ [] [] _ (Keeps-refl (g.S.Source.left c.args.input.now)) tt)

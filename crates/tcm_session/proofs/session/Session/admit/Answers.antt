@@ -1,0 +1,9 @@
+use Rattle.std.proofs.Common.{ap, arith}
+use Rattle.transformations.proofs.HistoryLemmas.{epoch_after}
+use Rattle.transformations.specs.declared.image.Image.{Image}
+use Rattle.tcm_session.proofs.session.Session.admit.Goals as goal
+
+pub admitted-requires-clause-room : goal.admitted-requires-clause-room
+admitted-requires-clause-room c =
+    let epoch = ap (λ (i : Image). i.epoch) c.self.invariant.0 in
+    omega (arith, epoch, epoch_after c.self.inside.commands.items)

@@ -1,0 +1,84 @@
+//! The metadata that a history leads to.
+
+ghost use Rattle.std.specs.Prelude.{◌≡◌, ◌<◌, None, IfOk, IsTrue, MatchResult, OnOk};
+ghost use Rattle.transformations.specs.History.{IsHistory, empty_image, image_after, is_command, most_epochs, next_image};
+ghost use Rattle.transformations.specs.Refusals.{refusal_of};
+ghost use Rattle.cluster_metadata.specs.Permission.{ShowsRefusal};
+
+use cluster_metadata::{AdmitFault, Metadata, Permit};
+use cluster_terms::{Memory, Steps};
+use std::alloc::Global;
+use std::marker::Brand;
+use std::sync::ledger::{Blank, Ledger};
+use transformations::Command;
+
+/// Asks the metadata for a permit. The walks aren't counted: admission makes none.
+pub fn admitted(metadata: &Metadata, command: &Command) -> Result<Permit, AdmitFault>
+    requires room { metadata.now.epoch < most_epochs }
+    requires formed { IsTrue (is_command command.now) }
+    ensures permit { IfOk result (λ permit. permit ≡ record { image = metadata.now; command = command.now }) }
+    ensures refusal { MatchResult result (λ _. refusal_of metadata.now command.now ≡ None) (ShowsRefusal (refusal_of metadata.now command.now)) }
+{
+    counted::<Brand>(metadata, command, Blank::new(1))
+}
+
+fn counted<L: Ledger>(
+    metadata: &Metadata,
+    command: &Command,
+    blank: Blank,
+) -> Result<Permit, AdmitFault>
+    requires name { blank.name ≡ L.name }
+    requires parts { blank.parts ≡ L.parts }
+    requires some { 0 < blank.parts }
+    requires room { metadata.now.epoch < most_epochs }
+    requires formed { IsTrue (is_command command.now) }
+    ensures permit { IfOk result (λ permit. permit ≡ record { image = metadata.now; command = command.now }) }
+    ensures refusal { MatchResult result (λ _. refusal_of metadata.now command.now ≡ None) (ShowsRefusal (refusal_of metadata.now command.now)) }
+{
+    let mut walks = Steps::<L>::begin(blank);
+    metadata.admit(command, &mut walks)
+}
+
+/// Takes an accepted command over into the metadata. Want of memory changes nothing.
+fn take_over(metadata: &mut Metadata, command: &Command) -> Result<(), Memory>
+    requires room { metadata.old.epoch < most_epochs }
+    requires formed { IsTrue (is_command command.now) }
+    requires accepted { refusal_of metadata.old command.now ≡ None }
+    ensures { MatchResult result (λ _. metadata.new ≡ next_image metadata.old command.now) (λ _. metadata.new ≡ metadata.old) }
+{
+    match admitted(metadata, command) {
+        Ok(permit) => {
+            let _epoch = metadata.enact(permit);
+            Ok(())
+        }
+        Err(AdmitFault::Memory) => Err(Memory),
+        Err(AdmitFault::Refused(_)) => unreachable!(),
+    }
+}
+
+/// Takes accepted commands over, one after another. Want of memory may leave some of them taken.
+fn take_all(metadata: &mut Metadata, commands: &[Command]) -> Result<(), Memory>
+    requires empty { metadata.old ≡ empty_image }
+    requires history { IsHistory commands.now }
+    ensures { OnOk result (metadata.new ≡ image_after empty_image commands.now) }
+{
+    for command in commands {
+        take_over(metadata, command)?;
+    }
+    Ok(())
+}
+
+/// The metadata after the commands of a history.
+pub fn replay(alloc: Global, commands: &[Command]) -> Result<Metadata, Memory>
+    requires { IsHistory commands.now }
+    ensures { IfOk result (λ metadata. metadata ≡ image_after empty_image commands.now) }
+{
+    let mut metadata = Metadata::empty(alloc)?;
+    match take_all(&mut metadata, commands) {
+        Ok(()) => Ok(metadata),
+        Err(memory) => {
+            metadata.close();
+            Err(memory)
+        }
+    }
+}
