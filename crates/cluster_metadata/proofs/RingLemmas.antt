@@ -26,13 +26,13 @@ distinct_tokens (t ∷ ts) h = rw (any_false (int_eq t) ts h.0) (distinct_tokens
 -- the tokens of each ring of a valid image are distinct
 module _ (image : Image) (valid : IsValid image) where
   pub low_tokens : are_distinct (tokens_of (low_ring image)) ≡ true
-  low_tokens = distinct_tokens (tokens_of (low_ring image)) (widest-tokens image valid).0
+  low_tokens = distinct_tokens (tokens_of (low_ring image)) (widest-tokens image valid.sound).0
 
   pub read_tokens : are_distinct (tokens_of (read_ring image)) ≡ true
-  read_tokens = distinct_tokens (tokens_of (read_ring image)) (widest-tokens image valid).1
+  read_tokens = distinct_tokens (tokens_of (read_ring image)) (widest-tokens image valid.sound).1
 
   pub high_tokens : are_distinct (tokens_of (high_ring image)) ≡ true
-  high_tokens = distinct_tokens (tokens_of (high_ring image)) (widest-tokens image valid).2
+  high_tokens = distinct_tokens (tokens_of (high_ring image)) (widest-tokens image valid.sound).2
 
 -- ---- the directory
 
@@ -59,8 +59,8 @@ ascending_rows least (row ∷ rows) next up within first =
 pub directory_rows : (image : Image) → IsValid image → IsTrue (is_directory 1 image.nodes image.next)
 directory_rows image valid =
     directory_from 1 image.nodes image.next
-    (ascending_rows 1 image.nodes image.next valid.nodes.ascending valid.nodes.within (first image.nodes valid.nodes.within))
-    (distinct_names (names_of image.nodes) valid.nodes.distinct)
+    (ascending_rows 1 image.nodes image.next valid.sound.nodes.ascending valid.sound.nodes.within (first image.nodes valid.sound.nodes.within))
+    (distinct_names (names_of image.nodes) valid.sound.nodes.distinct)
   where
     first : (rows : List NodeRow) → AllByRecursion (λ row. (1 ≤ row.id) × (row.id < image.next)) rows → 0 < length rows → 1 ≤ first_id rows
     first [] within some = absurd (omega arith)

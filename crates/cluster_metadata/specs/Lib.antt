@@ -1,5 +1,5 @@
 pub mod Change
+pub mod Locks
 pub mod Permission
-pub mod RingKind
 pub mod Running
 pub mod Served

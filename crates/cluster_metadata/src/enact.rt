@@ -1,87 +1,106 @@
-//! A change is made of an image, and the movement in flight goes along. Nothing takes memory here.
+//! A change is made of an image, and the values of the movements in flight go along. Nothing takes memory here.
 
-ghost use Rattle.std.specs.Prelude.{◌≡◌, ◌<◌, ◌^◌, ◌-◌, [], ◌∷◌, map, None, Some};
+ghost use Rattle.std.specs.Prelude.{◌≡◌, ◌+◌, ◌<◌, ◌≤◌, ◌^◌, ◌-◌, length, slice_set, vec_capacity, vec_len};
+ghost use Rattle.std.specs.List.{insert, remove};
 ghost use Rattle.transformations.specs.declared.sequence.Phase.TheVariants as phase;
-ghost use Rattle.cluster_metadata.specs.Change.{Follows, changed};
+ghost use Rattle.cluster_metadata.specs.Change.{Follows, StandsAt, changed, grown_to};
 ghost use Rattle.cluster_metadata.specs.Running.{IsRunning};
 ghost use Rattle.cluster_metadata.specs.declared.change.Change.TheVariants as change;
 
 use crate::change::Change;
 use crate::running::Running;
-use cluster_terms::SmallList;
-use sequence_core::Seq;
-use std::alloc::Global;
+use std::mem::swap;
 use transformations::{Image, SeqRow, SeqRows};
 
-/// Puts the movement in flight where none is.
-fn set(slot: &mut Option<Running>, running: Running)
-    requires { slot.old ≡ None }
-    ensures { slot.new ≡ Some running }
+/// Puts the value of a movement where it belongs, into memory that is there.
+fn put(running: &mut Vec<Running>, at: usize, movement: Running)
+    requires place { at ≤ vec_len running.old }
+    requires room { vec_len running.old < vec_capacity running.old }
+    ensures { running.new.items ≡ insert running.old.items at movement }
 {
-    match slot.replace(running) {
-        None => {}
-        Some(_) => unreachable!(),
+    match running.insert(at, movement) {
+        Ok(()) => {}
+        Err(_) => unreachable!(),
     }
+}
+
+/// Moves the values into empty memory that has room for one more, and leaves theirs empty.
+fn move_over(running: &mut Vec<Running>, room: &mut Vec<Running>)
+    requires empty { vec_len room.old ≡ 0 }
+    requires room { vec_len running.old + 1 ≤ vec_capacity room.old }
+    ensures items { running.new.items ≡ running.old.items }
+    ensures room { vec_len running.new < vec_capacity running.new }
+    ensures empty { vec_len room.new ≡ 0 }
+{
+    match room.append(running) {
+        Ok(()) => {}
+        Err(_) => unreachable!(),
+    }
+    swap(running, room);
 }
 
 /// A movement begins.
-fn begin(slot: &mut Option<Running>, row: SeqRow)
-    requires running { IsRunning [] slot.old }
+fn begin(
+    sequences: &[SeqRow],
+    running: &mut Vec<Running>,
+    room: &mut Vec<Running>,
+    at: usize,
+    row: SeqRow,
+)
+    requires running { IsRunning sequences.now running.old.items }
+    requires place { at ≤ length sequences.now }
     requires phase { row.phase ≡ phase.Prepared }
-    ensures { IsRunning (row ∷ []) slot.new }
+    requires empty { vec_len room.old ≡ 0 }
+    requires room { length sequences.now + 1 ≤ vec_capacity room.old }
+    ensures running { IsRunning (insert sequences.now at row) running.new.items }
+    ensures empty { vec_len room.new ≡ 0 }
 {
-    set(slot, Running::Prepared(Seq::begin(row)));
+    move_over(running, room);
+    put(running, at, Running::begin(row));
 }
 
-/// The movement that is prepared starts.
-fn start(sequences: &mut SeqRows, slot: &mut Option<Running>, row: SeqRow)
-    requires running { IsRunning sequences.old slot.old }
-    requires follows { Follows sequences.old (change.Started row) }
-    ensures rows { sequences.new ≡ row ∷ [] }
-    ensures running { IsRunning sequences.new slot.new }
+/// A movement that is prepared starts.
+fn start(sequences: &mut SeqRows, running: &mut Vec<Running>, at: usize, row: SeqRow)
+    requires running { IsRunning sequences.old running.old.items }
+    requires follows { Follows sequences.old (change.Started at row) }
+    ensures rows { sequences.new ≡ slice_set sequences.old at row }
+    ensures running { IsRunning sequences.new running.new.items }
 {
-    sequences.replace(0, row);
-    match slot.take() {
-        Some(Running::Prepared(seq)) => set(slot, Running::Started(seq.start())),
-        _ => unreachable!(),
-    }
+    let movement = running.remove(at);
+    put(running, at, movement.start());
+    sequences.replace(at, row);
 }
 
-/// The movement that has started is half way.
-fn mid(sequences: &mut SeqRows, slot: &mut Option<Running>, row: SeqRow)
-    requires running { IsRunning sequences.old slot.old }
-    requires follows { Follows sequences.old (change.Mid row) }
-    ensures rows { sequences.new ≡ row ∷ [] }
-    ensures running { IsRunning sequences.new slot.new }
+/// A movement that has started is half way.
+fn mid(sequences: &mut SeqRows, running: &mut Vec<Running>, at: usize, row: SeqRow)
+    requires running { IsRunning sequences.old running.old.items }
+    requires follows { Follows sequences.old (change.Mid at row) }
+    ensures rows { sequences.new ≡ slice_set sequences.old at row }
+    ensures running { IsRunning sequences.new running.new.items }
 {
-    sequences.replace(0, row);
-    match slot.take() {
-        Some(Running::Started(seq)) => set(slot, Running::Mid(seq.mid())),
-        _ => unreachable!(),
-    }
+    let movement = running.remove(at);
+    put(running, at, movement.mid());
+    sequences.replace(at, row);
 }
 
-/// The movement that is half way is done.
-fn finish(sequences: &[SeqRow], slot: &mut Option<Running>)
-    requires running { IsRunning sequences.now slot.old }
-    requires mid { map (λ s. s.phase) sequences.now ≡ phase.Mid ∷ [] }
-    ensures { slot.new ≡ None }
+/// A movement that is half way is done.
+fn finish(sequences: &[SeqRow], running: &mut Vec<Running>, at: usize)
+    requires running { IsRunning sequences.now running.old.items }
+    requires mid { StandsAt sequences.now at phase.Mid }
+    ensures { IsRunning (remove sequences.now at) running.new.items }
 {
-    match slot.take() {
-        Some(Running::Mid(seq)) => {
-            let _row = seq.finish();
-        }
-        _ => unreachable!(),
-    }
+    let _row = running.remove(at).finish();
 }
 
-/// Makes a change of an image, and takes the movement in flight along.
-pub fn make(alloc: Global, image: &mut Image, slot: &mut Option<Running>, change: Change)
-    requires room { image.old.epoch < 2 ^ 64 - 1 }
-    requires running { IsRunning image.old.sequences slot.old }
+/// Makes a change of an image, and takes the values of the movements along.
+pub fn make(image: &mut Image, running: &mut Vec<Running>, change: Change, mut room: Vec<Running>)
+    requires epochs { image.old.epoch < 2 ^ 64 - 1 }
+    requires running { IsRunning image.old.sequences running.old.items }
     requires follows { Follows image.old.sequences change }
+    requires empty { vec_len room ≡ 0 }
+    requires room { grown_to change ≤ vec_capacity room }
     ensures made { image.new ≡ changed image.old change }
-    ensures running { IsRunning image.new.sequences slot.new }
+    ensures running { IsRunning image.new.sequences running.new.items }
 {
     image.epoch += 1;
     match change {
@@ -91,16 +110,21 @@ pub fn make(alloc: Global, image: &mut Image, slot: &mut Option<Running>, change
         }
         Change::Tokens(tokens) => image.tokens = tokens,
         Change::Keyspaces(keyspaces) => image.keyspaces = keyspaces,
-        Change::Begun { row, sequences } => {
+        Change::Begun { at, row, sequences } => {
+            begin(image.sequences.as_slice(), running, &mut room, at, row);
             image.sequences = sequences;
-            begin(slot, row);
         }
-        Change::Started(row) => start(&mut image.sequences, slot, row),
-        Change::Mid(row) => mid(&mut image.sequences, slot, row),
-        Change::Finished(tokens) => {
-            finish(image.sequences.as_slice(), slot);
+        Change::Started { at, row } => start(&mut image.sequences, running, at, row),
+        Change::Mid { at, row } => mid(&mut image.sequences, running, at, row),
+        Change::Finished {
+            at,
+            tokens,
+            sequences,
+        } => {
+            finish(image.sequences.as_slice(), running, at);
             image.tokens = tokens;
-            image.sequences = SmallList::empty(alloc);
+            image.sequences = sequences;
         }
     }
+    room.destroy_empty();
 }

@@ -1,15 +1,19 @@
-//! The metadata of a cluster: the image, and the movement in flight as a value of its phase.
+//! The metadata of a cluster: the image, and the movements in flight, each as a value of its phase.
 #![tactic(auto)]
 
 mod admit_fault;
 mod change;
 mod changes;
 mod enact;
+mod locks;
 mod metadata;
+#[cfg(test)]
+mod movement_tests;
 mod permit;
 mod placement;
-mod rings;
+mod preparing;
 mod running;
+mod stepping;
 #[cfg(test)]
 mod tests;
 

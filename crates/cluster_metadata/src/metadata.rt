@@ -6,9 +6,9 @@ ghost use Rattle.cluster_metadata.specs.Served.{served};
 use crate::admit_fault::AdmitFault;
 use crate::changes::change_of;
 use crate::enact::make;
-use crate::permit::Permit;
+use crate::permit::{Permit, room_for};
 use crate::placement::{keyspace_of, served_by};
-use crate::running::Running;
+use crate::running::{Running, close_all};
 use cluster_terms::{Memory, Name, SmallList, Steps, Token, TryCopy};
 use node_sets::NodeSet;
 use std::alloc::Global;
@@ -17,14 +17,17 @@ use std::snapshot::Snapshot;
 use std::sync::ledger::Ledger;
 use transformations::{Command, Image, early_refusal};
 
-/// The metadata of a cluster: its image, which is valid, and the movement in flight as a value of its phase. It is
-/// seen as the image.
+/// The metadata of a cluster: its image, which is valid, and the movements in flight, each as a value of its
+/// phase. It is seen as the image.
+///
+/// At most one movement has a token in its ranges, under each keyspace. These are CEP-21's locked ranges, by a rule of
+/// this project: the tokens whose replicas the movement may change, whatever becomes of the others.
 ///
 /// The value has to be spent, by `close`.
 pub struct Metadata {
     alloc: Global,
     image: Image,
-    running: Option<Running>,
+    running: Vec<Running>,
 }
 
 impl Model for Metadata {
@@ -37,11 +40,12 @@ impl Model for Metadata {
 
     ghost view = { λ m. m.image };
 
-    ghost invariant = { λ m. IsValid m.image × IsRunning m.image.sequences m.running };
+    ghost invariant = { λ m. IsValid m.image × IsRunning m.image.sequences m.running.items };
 }
 
 impl Metadata {
     ghost use Rattle.transformations.specs.Valid.{IsValid};
+    ghost use Rattle.transformations.specs.Ranges.{AreApart, AreOutcomes, KeepsRanges, PlacedByRanges};
     ghost use Rattle.cluster_metadata.specs.Permission.{ShowsRefusal};
 
     /// The metadata before the first command.
@@ -59,7 +63,7 @@ impl Metadata {
         Ok(Metadata {
             alloc,
             image,
-            running: None,
+            running: Vec::new(alloc),
         })
     }
 
@@ -85,9 +89,20 @@ impl Metadata {
         self.image.copy()
     }
 
-    /// Gives a permit for a command that the image accepts, and otherwise shows the first refusal. All memory that the
-    /// command needs is taken here, for a copy of the list that it changes, or for the row of the movement that takes
-    /// a step. `Memory` comes only where it is wanting. No strategy is called.
+    /// Gives a permit for a command that the image accepts, and otherwise shows the first refusal. The last one that is
+    /// looked for is that of a movement whose ranges are locked: it shows the first movement, by node, that has a token
+    /// in its ranges which is in the new one's, too, under the same keyspace, and where the first row of such tokens
+    /// ends.
+    ///
+    /// All memory that the command needs is taken here, for a copy of the list that it changes, or for the row of the
+    /// movement that takes a step. `Memory` comes only where it is wanting. No strategy is called. For a movement that
+    /// is prepared, the ranges of all movements are found anew, under each replication: for m movements and r replications
+    /// this costs m times r times what `ring_reach::reached` costs.
+    ///
+    /// In the image at most one movement has a token in its ranges. Whatever movements are done or given up, the
+    /// placement at a token depends on those alone that have it in their ranges; and the rings that are read and written
+    /// come of such outcomes.
+    #[tactic(auto, using(crate::proofs::OutcomeLemmas::placed, crate::proofs::OutcomeLemmas::rings))]
     pub fn admit<L: Ledger>(
         &self,
         cmd: &Command,
@@ -98,32 +113,42 @@ impl Metadata {
         ensures permit { IfOk result (λ permit. permit ≡ record { image = self.now; command = cmd.now }) }
         ensures refusal { MatchResult result (λ _. refusal_of self.now cmd.now ≡ None) (ShowsRefusal (refusal_of self.now cmd.now)) }
         ensures uncounted { walks.new ≡ walks.old }
+        ensures apart { AreApart self.now }
+        ensures outcomes { PlacedByRanges self.now }
+        ensures rings { AreOutcomes self.now }
     {
-        let _ = walks;
         if let Some(refusal) = early_refusal(self.alloc, &self.image, cmd)? {
             return Err(AdmitFault::Refused(refusal));
         }
-        let change = change_of(self.alloc, &self.image, cmd)?;
+        let change = change_of(self.alloc, &self.image, cmd, walks)?;
+        let room = room_for(self.alloc, &change)?;
         Ok(Permit {
             change,
+            room,
             image: Snapshot::of(&self.image),
             command: Snapshot::of(cmd),
         })
     }
 
     /// Makes the image that the permit's command leads to, and answers its epoch. It can't be refused, and takes no
-    /// memory: what the permit holds is put in its place.
+    /// memory: what the permit holds is put in its place. Each movement that goes on keeps its ranges, and still at most
+    /// one has a token in its own.
     pub fn enact(&mut self, permit: Permit) -> u64
         requires { permit.image ≡ self.old }
         ensures image { self.new ≡ next_image self.old permit.command }
         ensures epoch { result ≡ self.new.epoch }
+        ensures apart { AreApart self.new }
+        ensures outcomes { PlacedByRanges self.new }
+        ensures rings { AreOutcomes self.new }
+        ensures ranges { KeepsRanges self.old self.new }
     {
         let Permit {
             change,
+            room,
             image: _,
             command: _,
         } = permit;
-        make(self.alloc, &mut self.image, &mut self.running, change);
+        make(&mut self.image, &mut self.running, change, room);
         self.image.epoch
     }
 
@@ -147,16 +172,13 @@ impl Metadata {
         }
     }
 
-    /// Ends the metadata. A movement in flight is forgotten with it.
+    /// Ends the metadata. The movements in flight are forgotten with it.
     pub fn close(self) {
         let Metadata {
             alloc: _,
             image: _,
             running,
         } = self;
-        match running {
-            None => {}
-            Some(movement) => movement.close(),
-        }
+        close_all(running);
     }
 }

@@ -1,7 +1,24 @@
+ghost use Rattle.std.specs.Prelude.{◌≡◌, ◌≤◌, IfOk, vec_capacity, vec_len};
+ghost use Rattle.cluster_metadata.specs.Change.{grown_to};
+
 use crate::change::Change;
+use crate::running::Running;
+use cluster_terms::Memory;
+use std::alloc::Global;
 use std::marker::Model;
 use std::snapshot::Snapshot;
 use transformations::{Command, Image};
+
+/// Memory for the values of the movements, where a change begins one.
+pub(crate) fn room_for(alloc: Global, change: &Change) -> Result<Vec<Running>, Memory>
+    ensures { IfOk result (λ room. (vec_len room ≡ 0) × (grown_to change.now ≤ vec_capacity room)) }
+{
+    let count = match change {
+        Change::Begun { sequences, .. } => sequences.as_slice().len(),
+        _ => 0,
+    };
+    Ok(Vec::with_capacity(alloc, count)?)
+}
 
 /// The leave to enact a command: it is given for an image that accepts the command, and is seen as both. It holds the
 /// memory that the command needs.
@@ -9,18 +26,21 @@ use transformations::{Command, Image};
 /// The value has to be spent, once: `Metadata::enact` does what it allows, `decline` gives it back.
 pub struct Permit {
     pub(crate) change: Change,
+    pub(crate) room: Vec<Running>,
     pub(crate) image: Snapshot<Image>,
     pub(crate) command: Snapshot<Command>,
 }
 
 impl Model for Permit {
+    ghost use Rattle.std.specs.Prelude.{◌≡◌, ◌≤◌, vec_capacity, vec_len};
+    ghost use Rattle.cluster_metadata.specs.Change.{grown_to};
     ghost use Rattle.cluster_metadata.specs.Permission.{Permission, IsPermitted};
 
     ghost Value = { Permission };
 
     ghost view = { λ p. record { image = p.image.value; command = p.command.value } };
 
-    ghost invariant = { λ p. IsPermitted p.image.value p.command.value p.change };
+    ghost invariant = { λ p. IsPermitted p.image.value p.command.value p.change × (vec_len p.room ≡ 0) × (grown_to p.change ≤ vec_capacity p.room) };
 }
 
 impl Permit {
@@ -28,8 +48,10 @@ impl Permit {
     pub fn decline(self) {
         let Permit {
             change: _,
+            room,
             image: _,
             command: _,
         } = self;
+        room.destroy_empty();
     }
 }

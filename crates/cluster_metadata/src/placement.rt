@@ -11,7 +11,6 @@ ghost use Rattle.transformations.specs.Rings.{reads_at, writes_at};
 ghost use Rattle.transformations.specs.Valid.{IsValid};
 ghost use Rattle.cluster_metadata.specs.Served.{keyspace_of as the_keyspace_of, served_by as are_served_by};
 
-use crate::rings::{RingKind, ring_with};
 use cluster_terms::{Memory, Name, Pair, Replication, Steps, Token};
 use node_directory::Directory;
 use node_sets::NodeSet;
@@ -19,7 +18,7 @@ use std::alloc::Global;
 use std::marker::Brand;
 use std::sync::ledger::{Blank, Ledger};
 use token_ring::Ring;
-use transformations::{Image, KeyspaceRow};
+use transformations::{Image, KeyspaceRow, RingKind, ring_with};
 
 /// A keyspace.
 pub fn keyspace_of<'a>(image: &'a Image, name: &Name) -> Option<&'a KeyspaceRow>

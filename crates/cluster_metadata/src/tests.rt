@@ -20,7 +20,7 @@ fn name_of(alloc: Global, text: &str) -> Result<Name, Fail> {
     Ok(found.ok_or("no name")?)
 }
 
-fn register(alloc: Global, name: &str) -> Result<Command, Fail>
+pub(crate) fn register(alloc: Global, name: &str) -> Result<Command, Fail>
     ensures { IfOk result (λ cmd. IsTrue (is_command cmd)) }
 {
     Ok(Command::Register {
@@ -38,7 +38,7 @@ fn one_token(alloc: Global, token: i64) -> Result<TokenList, Memory>
     Ok(tokens)
 }
 
-fn unsafe_join(alloc: Global, node: u32, token: i64) -> Result<Command, Memory>
+pub(crate) fn unsafe_join(alloc: Global, node: u32, token: i64) -> Result<Command, Memory>
     ensures { IfOk result (λ cmd. IsTrue (is_command cmd)) }
 {
     Ok(Command::UnsafeJoin {
@@ -47,7 +47,7 @@ fn unsafe_join(alloc: Global, node: u32, token: i64) -> Result<Command, Memory>
     })
 }
 
-fn prepare_join(alloc: Global, node: u32, token: i64) -> Result<Command, Memory>
+pub(crate) fn prepare_join(alloc: Global, node: u32, token: i64) -> Result<Command, Memory>
     ensures { IfOk result (λ cmd. IsTrue (is_command cmd)) }
 {
     Ok(Command::PrepareJoin {
@@ -56,24 +56,24 @@ fn prepare_join(alloc: Global, node: u32, token: i64) -> Result<Command, Memory>
     })
 }
 
-/// The next step of the join of node 5.
-fn step(goal: Goal) -> Command
+/// A step of the join of a node.
+pub(crate) fn step(node: u32, goal: Goal) -> Command
     ensures { IsTrue (is_command result) }
 {
     Command::Step {
         goal,
         kind: Kind::Join,
-        node: NodeId(5),
+        node: NodeId(node),
     }
 }
 
-/// A keyspace with three replicas.
-fn simple(alloc: Global, name: &str) -> Result<Command, Fail>
+/// A keyspace with so many replicas.
+pub(crate) fn simple(alloc: Global, name: &str, rf: u8) -> Result<Command, Fail>
     ensures { IfOk result (λ cmd. IsTrue (is_command cmd)) }
 {
     Ok(Command::Keyspace {
         name: name_of(alloc, name)?,
-        replication: Replication::Simple(Rf::new(3).ok_or("no factor")?),
+        replication: Replication::Simple(Rf::new(rf).ok_or("no factor")?),
     })
 }
 
@@ -89,7 +89,7 @@ fn topology(alloc: Global, name: &str) -> Result<Command, Fail>
     })
 }
 
-fn enact<L: Ledger>(
+pub(crate) fn enact<L: Ledger>(
     metadata: &mut Metadata,
     cmd: &Command,
     walks: &mut Steps<L>,
@@ -106,7 +106,7 @@ fn enact<L: Ledger>(
 }
 
 /// Why a command is refused, if it is. A permit is declined.
-fn refusal<L: Ledger>(
+pub(crate) fn refusal<L: Ledger>(
     metadata: &Metadata,
     cmd: &Command,
     walks: &mut Steps<L>,
@@ -134,18 +134,18 @@ fn has_ids<A: Abort>(rt: &A, nodes: &NodeSet, wanted: &[u32], at: &str) {
     }
 }
 
-/// The nodes that are read and those that are written at 50.
-fn serves<A: Abort>(
+/// The nodes that are read and those that are written at a token.
+pub(crate) fn serves<A: Abort>(
     rt: &A,
     alloc: Global,
     metadata: &Metadata,
     keyspace: &str,
-    reads: &[u32],
-    writes: &[u32],
+    token: i64,
+    (reads, writes): (&[u32], &[u32]),
 ) -> Result<(), Fail> {
     let name = name_of(alloc, keyspace)?;
     let found = metadata
-        .replicas(alloc, &name, Token::new(50))
+        .replicas(alloc, &name, Token::new(token))
         .map_err(|_| "memory")?;
     let (read, written) = found.ok_or("no keyspace")?;
     has_ids(rt, &read, reads, "reads");
@@ -166,7 +166,7 @@ fn four_nodes<L: Ledger>(
         let cmd = unsafe_join(alloc, node, token).map_err(|_| "memory")?;
         enact(metadata, &cmd, walks)?;
     }
-    enact(metadata, &simple(alloc, "ks")?, walks)?;
+    enact(metadata, &simple(alloc, "ks", 3)?, walks)?;
     enact(metadata, &topology(alloc, "kt")?, walks)?;
     Ok(())
 }
@@ -194,12 +194,12 @@ fn join_by_steps<L: Ledger, A: Abort>(
     assert_eq!(rt; refusal(metadata, &cmd, &mut walks)?, None);
     assert_eq!(rt; metadata.epoch(), 11);
     assert_eq!(rt; enact(metadata, &cmd, &mut walks)?, 12);
-    serves(rt, alloc, metadata, "ks", &[2, 3, 4], &[2, 3, 4])?;
+    serves(rt, alloc, metadata, "ks", 50, (&[2, 3, 4], &[2, 3, 4]))?;
     for (goal, reads, writes) in STEPS {
-        enact(metadata, &step(goal), &mut walks)?;
-        serves(rt, alloc, metadata, "ks", reads, writes)?;
+        enact(metadata, &step(5, goal), &mut walks)?;
+        serves(rt, alloc, metadata, "ks", 50, (reads, writes))?;
     }
-    serves(rt, alloc, metadata, "kt", &[2, 5], &[2, 5])?;
+    serves(rt, alloc, metadata, "kt", 50, (&[2, 5], &[2, 5]))?;
     assert_eq!(rt; metadata.epoch(), 15);
     Ok(())
 }
@@ -228,7 +228,7 @@ fn refused_at_rest<L: Ledger, A: Abort>(
     let taken = Some(Refusal::TokenTaken(Token::new(100)));
     assert_eq!(rt; refusal(metadata, &cmd, walks)?, taken);
     let none = Some(Refusal::NoSequence);
-    assert_eq!(rt; refusal(metadata, &step(Goal::Start), walks)?, none);
+    assert_eq!(rt; refusal(metadata, &step(5, Goal::Start), walks)?, none);
     Ok(())
 }
 
@@ -240,9 +240,9 @@ fn refused_in_flight<L: Ledger, A: Abort>(
     walks: &mut Steps<L>,
 ) -> Result<(), Fail> {
     let early = Some(Refusal::WrongStep(Kind::Join, Phase::Prepared));
-    assert_eq!(rt; refusal(metadata, &step(Goal::Mid), walks)?, early);
+    assert_eq!(rt; refusal(metadata, &step(5, Goal::Mid), walks)?, early);
     let busy = Some(Refusal::NotIdle(NodeId(5)));
-    assert_eq!(rt; refusal(metadata, &simple(alloc, "ku")?, walks)?, busy);
+    assert_eq!(rt; refusal(metadata, &simple(alloc, "ku", 3)?, walks)?, busy);
     Ok(())
 }
 

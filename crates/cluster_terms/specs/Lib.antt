@@ -4,6 +4,8 @@ pub mod Factors
 pub mod Group
 pub mod Name
 pub mod NodeRow
+pub mod Pair
+pub mod Reach
 pub mod Replication
 pub mod ReplicationText
 pub mod Rf

@@ -1,5 +1,6 @@
 -- What a replication asks for.
-use Rattle.std.specs.Prelude.{ℕ, if◌then◌else◌, List, [], ◌∷◌, map, Option, Some, None}
+use Rattle.std.specs.Prelude.{ℕ, Bool, false, ◌&&◌, ◌==◌, if◌then◌else◌, List, [], ◌∷◌, map, Option, Some, None}
+use Rattle.std.specs.Cmp.Lexicographic.{pointwise}
 use Rattle.std.specs.Str.{bytes_eq}
 use Rattle.cluster_terms.specs.Factors.{IsFactors, sum_of_factors}
 use Rattle.cluster_terms.specs.Group.{Group}
@@ -36,3 +37,13 @@ total_of (Topology factors) = sum_of_factors factors
 abbrev pub IsReplication : Replication → Type 0
 IsReplication (Simple rf) = IsFactor rf
 IsReplication (Topology factors) = IsFactors factors
+
+-- whether two replications ask for the same
+abbrev pub same_factor_row : List ℕ × ℕ → List ℕ × ℕ → Bool
+same_factor_row f e = bytes_eq f.0 e.0 && (f.1 == e.1)
+
+abbrev pub same_replication : Replication → Replication → Bool
+same_replication (Simple rf) (Simple other) = rf == other
+same_replication (Simple rf) (Topology others) = false
+same_replication (Topology factors) (Simple other) = false
+same_replication (Topology factors) (Topology others) = pointwise same_factor_row factors others

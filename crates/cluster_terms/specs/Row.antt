@@ -1,8 +1,8 @@
 -- The rows between cuts: ranges that are open on the left and closed on the right.
-use Rattle.std.specs.Prelude.{Bool, false, if◌then◌else◌, ℤ, List, [], ◌∷◌, Option, Some, None}
+use Rattle.std.specs.Prelude.{Bool, true, false, ◌&&◌, if◌then◌else◌, ℤ, int_lt, int_le, List, [], ◌∷◌, Option, Some, None}
 use Rattle.std.specs.Ordering.{int_eq}
 use Rattle.cluster_terms.specs.Arc.{greatest_token}
-use Rattle.cluster_terms.specs.declared.row.Row.{Row}
+use Rattle.cluster_terms.specs.declared.row.TokenRange.{TokenRange}
 use Rattle.cluster_terms.specs.declared.token.RightEnd.{RightEnd}
 use Rattle.cluster_terms.specs.declared.token.RightEnd.TheVariants.{At, Max}
 
@@ -12,15 +12,23 @@ is_last None = false
 is_last (Some t) = int_eq t greatest_token
 
 -- the rows from this left end on: one up to each cut, and one past the last cut where a token is left
-abbrev pub rows_from : Option ℤ → List ℤ → List Row
+abbrev pub rows_from : Option ℤ → List ℤ → List TokenRange
 rows_from left [] = if is_last left then [] else (record { left = left; right = Max }) ∷ []
 rows_from left (cut ∷ cuts) = (record { left = left; right = At cut }) ∷ rows_from (Some cut) cuts
 
 -- the rows between ascending cuts
-abbrev pub rows_between : List ℤ → List Row
+abbrev pub rows_between : List ℤ → List TokenRange
 rows_between cuts = rows_from None cuts
 
 -- the last token of a row
 abbrev pub last_token : RightEnd → ℤ
 last_token (At t) = t
 last_token Max = greatest_token
+
+-- whether a token is past a left end, and whether it is within a range
+abbrev pub is_past : Option ℤ → ℤ → Bool
+is_past None t = true
+is_past (Some left) t = int_lt left t
+
+abbrev pub is_within : ℤ → TokenRange → Bool
+is_within t range = is_past range.left t && int_le t (last_token range.right)

@@ -22,6 +22,6 @@ pub use name::Name;
 pub use node::{NodeId, NodeRow, NodeRows};
 pub use replication::Replication;
 pub use rf::Rf;
-pub use row::{Row, Rows, rows_between};
+pub use row::{Rows, TokenRange, rows_between};
 pub use steps::Steps;
-pub use token::{Pair, RightEnd, Token};
+pub use token::{Pair, RightEnd, Token, tokens_in_range};

@@ -10,21 +10,21 @@ use std::alloc::Global;
 /// A range of tokens, without its left end and with its right end. No left end stands for the place before the
 /// least token.
 #[derive(Clone, Copy, Debug, PartialEq, Eq)]
-pub struct Row {
+pub struct TokenRange {
     pub left: Option<Token>,
     pub right: RightEnd,
 }
 
 /// Ranges in a row.
-pub type Rows = SmallList<Row>;
+pub type Rows = SmallList<TokenRange>;
 
-impl TryCopy for Row {
-    fn copy(&self) -> Result<Row, Memory> {
+impl TryCopy for TokenRange {
+    fn copy(&self) -> Result<TokenRange, Memory> {
         Ok(*self)
     }
 }
 
-impl Row {
+impl TokenRange {
     /// The last token of the row.
     pub fn last_token(&self) -> Token
         ensures { result ≡ last_in self.now.right }
@@ -61,12 +61,12 @@ pub fn rows_between(alloc: Global, cuts: &[Token]) -> Result<Rows, Memory>
     let mut left = None;
     for cut in cuts {
         let right = RightEnd::At(*cut);
-        rows.push(Row { left, right })?;
+        rows.push(TokenRange { left, right })?;
         left = Some(*cut);
     }
     if !is_last(&left) {
         let right = RightEnd::Max;
-        rows.push(Row { left, right })?;
+        rows.push(TokenRange { left, right })?;
     }
     Ok(rows)
 }

@@ -1,4 +1,6 @@
 ghost use Rattle.std.specs.Prelude.{◌≡◌, ℕ, ℤ, IfOk};
+ghost use Rattle.std.specs.List.{AllByRecursion};
+ghost use Rattle.cluster_terms.specs.Arc.{IsToken};
 
 use crate::list::TryCopy;
 use crate::memory::Memory;
@@ -38,6 +40,15 @@ impl Token {
 impl TryCopy for Token {
     fn copy(&self) -> Result<Token, Memory> {
         Ok(*self)
+    }
+}
+
+/// Looks at each of some tokens: each is a number from -2^63 to 2^63 - 1.
+pub fn tokens_in_range(tokens: &[Token])
+    ensures { AllByRecursion IsToken tokens.now }
+{
+    for token in tokens {
+        let _value = token.value();
     }
 }
 

@@ -54,6 +54,18 @@ impl Directory {
         }
     }
 
+    /// The directory of these rows and of the id that the next node gets. The ids ascend from 1 or more, all of them are
+    /// below the next one, and no name comes twice.
+    pub fn from_valid(alloc: Global, rows: &[NodeRow], next: u32) -> Result<Directory, Memory>
+        requires { IsTrue (is_directory 1 rows.now next) }
+        ensures { IfOk result (λ d. d ≡ record { rows = rows.now; next = next }) }
+    {
+        match Directory::from_rows(alloc, rows, next)? {
+            Some(directory) => Ok(directory),
+            None => unreachable!(),
+        }
+    }
+
     /// Registers a node in a datacenter and a rack, and answers its id. No node has the name, nodes that left
     /// included, and the next id is not the greatest number of 32 bits. Want of memory hands the names back and changes
     /// nothing.

@@ -4,7 +4,7 @@ use Rattle.std.specs.Fmt.{signed_decimal}
 use Rattle.cluster_terms.specs.Row.{rows_between, last_token}
 use Rattle.cluster_terms.specs.declared.node.NodeRow.{NodeRow}
 use Rattle.cluster_terms.specs.declared.replication.Replication.{Replication}
-use Rattle.cluster_terms.specs.declared.row.Row.{Row}
+use Rattle.cluster_terms.specs.declared.row.TokenRange.{TokenRange}
 use Rattle.cluster_terms.specs.declared.token.Pair.{Pair}
 use Rattle.cluster_terms.specs.declared.token.RightEnd.{RightEnd}
 use Rattle.cluster_terms.specs.declared.token.RightEnd.TheVariants.{At, Max}
@@ -13,7 +13,7 @@ use Rattle.transformations.specs.States.{node_tokens, state_of_row}
 use Rattle.transformations.specs.declared.image.Image.{Image}
 use Rattle.transformations.specs.declared.keyspace.KeyspaceRow.{KeyspaceRow}
 use Rattle.transformations.specs.declared.refusal.Refusal.{Refusal}
-use Rattle.transformations.specs.declared.refusal.Refusal.TheVariants.{NameTaken, NodesFull, NoNode, WrongState, InSequence, NoSequence, WrongStep, TokenTaken, TokensFull, NotIdle, NoKeyspace, KeyspacesFull, EpochsFull}
+use Rattle.transformations.specs.declared.refusal.Refusal.TheVariants.{NameTaken, NodesFull, NoNode, WrongState, InSequence, NoSequence, WrongStep, TokenTaken, TokensFull, NotIdle, NoKeyspace, KeyspacesFull, Locked, EpochsFull}
 use Rattle.transformations.specs.declared.sequence.Kind.{Kind}
 use Rattle.transformations.specs.declared.sequence.Kind.TheVariants as kind
 use Rattle.transformations.specs.declared.sequence.Phase.{Phase}
@@ -69,6 +69,19 @@ phase_text phase.Mid = codes "MID"
 abbrev pub progress_text : Kind × Phase → List ℕ
 progress_text p = kind_text p.0 ++ codes " " ++ phase_text p.1
 
+-- the ends of a row
+abbrev pub left_text : Option ℤ → List ℕ
+left_text None = codes "min"
+left_text (Some t) = signed_decimal t
+
+abbrev pub right_text : RightEnd → List ℕ
+right_text (At t) = signed_decimal t
+right_text Max = codes "max"
+
+-- the node whose ranges are locked, and the right end of the first row that is shared
+abbrev pub locked_text : ℕ × RightEnd → List ℕ
+locked_text p = decimal p.0 ++ codes " " ++ right_text p.1
+
 -- why a command was refused
 unfoldable pub refusal_text : Refusal → List ℕ
 refusal_text (NameTaken n) = codes "NAME-TAKEN " ++ decimal n
@@ -83,6 +96,7 @@ refusal_text TokensFull = codes "TOKENS-FULL"
 refusal_text (NotIdle n) = codes "NOT-IDLE " ++ decimal n
 refusal_text NoKeyspace = codes "NO-KEYSPACE"
 refusal_text KeyspacesFull = codes "KEYSPACES-FULL"
+refusal_text (Locked n end) = codes "LOCKED " ++ locked_text (n, end)
 refusal_text EpochsFull = codes "EPOCHS-FULL"
 
 -- the answer to a commit that is accepted as an epoch, and to a line that is refused
@@ -92,23 +106,14 @@ ok_text epoch = line (codes "OK " ++ decimal epoch)
 abbrev pub no_text : List ℕ → List ℕ
 no_text reason = line (codes "NO " ++ reason)
 
--- the ends of a row
-abbrev pub left_text : Option ℤ → List ℕ
-left_text None = codes "min"
-left_text (Some t) = signed_decimal t
-
-abbrev pub right_text : RightEnd → List ℕ
-right_text (At t) = signed_decimal t
-right_text Max = codes "max"
-
 -- a row with the nodes that are read and written in it
-unfoldable pub placed_text : Row → List ℕ → List ℕ → List ℕ
+unfoldable pub placed_text : TokenRange → List ℕ → List ℕ → List ℕ
 placed_text row reads writes =
     line (codes "(" ++ left_text row.left ++ codes "," ++ right_text row.right
     ++ codes "] read " ++ list_text reads ++ codes " write " ++ list_text writes)
 
 -- a row, and the nodes that are read and written at its last token
-abbrev pub row_text : Image → Replication → Row → List ℕ
+abbrev pub row_text : Image → Replication → TokenRange → List ℕ
 row_text image replication row =
     let x = last_token row.right in
     placed_text row (reads_at image replication x) (writes_at image replication x)

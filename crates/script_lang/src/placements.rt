@@ -5,7 +5,7 @@ ghost use Rattle.script_lang.specs.Texts as spec;
 
 use crate::lists::list_text;
 use crate::shown::{Shown, labelled};
-use cluster_terms::{ByteText, Memory, Name, NodeId, RightEnd, Row, Token};
+use cluster_terms::{ByteText, Memory, Name, NodeId, RightEnd, Token, TokenRange};
 use node_sets::NodeSet;
 
 /// Adds the head of the placements of a keyspace, with the number of rows. After want of memory the output begins with
@@ -29,7 +29,7 @@ pub fn place_head_text(
 /// with what it held.
 #[tactic(auto, unfolding(crate::specs::Texts::placed_text))]
 pub fn placed_text(
-    row: &Row,
+    row: &TokenRange,
     reads: &NodeSet,
     writes: &NodeSet,
     out: &mut ByteText,
@@ -42,7 +42,7 @@ pub fn placed_text(
 }
 
 // Adds the ends of a row.
-fn add_ends(row: &Row, out: &mut ByteText) -> Result<(), Memory>
+fn add_ends(row: &TokenRange, out: &mut ByteText) -> Result<(), Memory>
     ensures added { OnOk result (out.new ≡ out.old
         ++ (codes "(" ++ spec.left_text row.now.left ++ codes "," ++ spec.right_text row.now.right)) }
     ensures kept { take (length out.old) out.new ≡ out.old }
@@ -50,7 +50,7 @@ fn add_ends(row: &Row, out: &mut ByteText) -> Result<(), Memory>
     out.extend(b"(")?;
     add_left(row.left, out)?;
     out.extend(b",")?;
-    add_right(row.right, out)
+    row.right.show(out)
 }
 
 fn add_left(left: Option<Token>, out: &mut ByteText) -> Result<(), Memory>
@@ -60,16 +60,6 @@ fn add_left(left: Option<Token>, out: &mut ByteText) -> Result<(), Memory>
     match left {
         None => out.extend(b"min"),
         Some(token) => token.show(out),
-    }
-}
-
-fn add_right(right: RightEnd, out: &mut ByteText) -> Result<(), Memory>
-    ensures added { OnOk result (out.new ≡ out.old ++ spec.right_text right) }
-    ensures kept { take (length out.old) out.new ≡ out.old }
-{
-    match right {
-        RightEnd::At(token) => token.show(out),
-        RightEnd::Max => out.extend(b"max"),
     }
 }
 
@@ -107,11 +97,11 @@ mod tests {
         let some = set_of(rt.alloc(), &[3, 1, 20])?;
         let none = set_of(rt.alloc(), &[])?;
         let cut = Token::new(-7);
-        let first = Row {
+        let first = TokenRange {
             left: None,
             right: RightEnd::At(cut),
         };
-        let last = Row {
+        let last = TokenRange {
             left: Some(cut),
             right: RightEnd::Max,
         };

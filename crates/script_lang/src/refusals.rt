@@ -26,6 +26,7 @@ pub fn refusal_text(refusal: &Refusal, out: &mut ByteText) -> Result<(), Memory>
         Refusal::NotIdle(node) => labelled(b"NOT-IDLE ", node, out),
         Refusal::NoKeyspace => out.extend(b"NO-KEYSPACE"),
         Refusal::KeyspacesFull => out.extend(b"KEYSPACES-FULL"),
+        Refusal::Locked(node, end) => labelled(b"LOCKED ", &(*node, *end), out),
         Refusal::EpochsFull => out.extend(b"EPOCHS-FULL"),
     }
 }

@@ -4,7 +4,7 @@ ghost use Rattle.std.specs.Prelude.{◌≡◌, ◌++◌, ℕ, List, decimal, tak
 ghost use Rattle.std.specs.Fmt.{signed_decimal};
 ghost use Rattle.script_lang.specs.Texts as spec;
 
-use cluster_terms::{ByteText, Memory, Name, NodeId, Pair, Token};
+use cluster_terms::{ByteText, Memory, Name, NodeId, Pair, RightEnd, Token};
 use itoa::Buffer;
 use transformations::{Kind, NodeState, Phase};
 
@@ -66,6 +66,27 @@ impl Shown for Pair {
         self.token.show(out)?;
         out.extend(b"@")?;
         self.node.show(out)
+    }
+}
+
+impl Shown for RightEnd {
+    ghost text = { spec.right_text };
+
+    fn show(&self, out: &mut ByteText) -> Result<(), Memory> {
+        match self {
+            RightEnd::At(token) => token.show(out),
+            RightEnd::Max => out.extend(b"max"),
+        }
+    }
+}
+
+impl Shown for (NodeId, RightEnd) {
+    ghost text = { spec.locked_text };
+
+    fn show(&self, out: &mut ByteText) -> Result<(), Memory> {
+        self.0.show(out)?;
+        out.extend(b" ")?;
+        self.1.show(out)
     }
 }
 

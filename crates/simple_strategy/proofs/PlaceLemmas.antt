@@ -10,8 +10,9 @@ use Rattle.cluster_terms.specs.Ascending.{ascending}
 use Rattle.cluster_terms.specs.Group.{nodes_of, is_chosen_rack, place}
 use Rattle.cluster_terms.specs.Replication.{whole_group}
 use Rattle.cluster_terms.specs.declared.token.Pair.{Pair}
-use Rattle.token_ring.proofs.GroupLemmas.{has, or_elim}
-use Rattle.token_ring.proofs.PlaceLemmas.{finds, finds_at, has-permuted, nodes_of-append, placed_by, replica_on_walk, walk_permuted}
+use Rattle.cluster_terms.proofs.GroupLemmas.{has, or_elim}
+use Rattle.cluster_terms.proofs.PlacementLemmas.{has-permuted, nodes_of-append, placed_by}
+use Rattle.token_ring.proofs.PlaceLemmas.{finds, finds_at, replica_on_walk, walk_permuted}
 use Rattle.token_ring.proofs.RingLemmas.{walk_from}
 use Rattle.token_ring.specs.Ring.{IsRing, IsFirstAt}
 use Rattle.simple_strategy.proofs.CountLemmas.{chosen_where}

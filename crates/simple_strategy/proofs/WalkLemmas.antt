@@ -6,7 +6,7 @@ use Rattle.std.proofs.lemmas.List.{length_push}
 use Rattle.std.specs.Cmp.{nat_eq_equiv}
 use Rattle.std.specs.Set.{distinct_count}
 use Rattle.cluster_terms.proofs.DistinctCounts.{is_member-alike, is_member-push, distinct_count-new, distinct_count-old}
-use Rattle.token_ring.proofs.GroupLemmas.{has, or_elim}
+use Rattle.cluster_terms.proofs.GroupLemmas.{has, or_elim}
 use Rattle.simple_strategy.specs.Walk.{taken_with, taken_after}
 
 -- ---- what the fold takes, by what was met

@@ -1,14 +1,9 @@
 -- Lemmas on the answers to some lines.
-use Rattle.std.proofs.Common.{◌≡◌, ℕ, ◌+◌, ◌≤◌, List, [], ◌∷◌, ◌++◌, length, Option, Some, None, refl, sym, ap, ◌∙◌, append_assoc, length-append, arith}
-use Rattle.transformations.specs.History.{empty_image, image_after}
-use Rattle.transformations.specs.Refusals.{refusal_of}
+use Rattle.std.proofs.Common.{◌≡◌, ℕ, List, [], ◌∷◌, ◌++◌, Option, refl, sym, ap, ◌∙◌, append_assoc}
 use Rattle.transformations.specs.declared.command.Command.{Command}
-use Rattle.transformations.specs.declared.refusal.Refusal.{Refusal}
 use Rattle.script_lang.specs.Grammar.{line_of}
-use Rattle.tcm_session.specs.Machine.{reply, reply_to, decided, answers, history_after}
+use Rattle.tcm_session.specs.Machine.{reply, reply_to, answers, history_after}
 use Rattle.script_lang.specs.declared.script_line.ScriptLine.{ScriptLine}
-use Rattle.script_lang.specs.declared.script_line.ScriptLine.TheVariants.{Commit, Place}
-use Rattle.script_lang.specs.declared.script_line.Target.TheVariants.{Epoch}
 
 -- lines and more lines
 pub answers-append : (h : List Command) (a b : List (List ℕ)) → answers h (a ++ b) ≡ answers h a ++ answers (history_after h a) b

@@ -1,5 +1,5 @@
 -- The loop that takes a piece of a script.
-use Rattle.std.proofs.Common.{◌≡◌, ℕ, ◌+◌, ◌≤◌, List, [], ◌∷◌, ◌++◌, length, Option, sym, ap, ◌∙◌, subst, append_assoc, length-append, arith}
+use Rattle.std.proofs.Common.{◌≡◌, ℕ, List, [], ◌∷◌, ◌++◌, Option, sym, ap, ◌∙◌, subst, append_assoc}
 use Rattle.std.specs.Io.KnownBytes.{Appends}
 use Rattle.tcm_edges.specs.Owed.{Owes, WritesPrefix}
 use Rattle.tcm_edges.proofs.OwedLemmas.{Owes-write, Owes-done, WritesPrefix-owed}

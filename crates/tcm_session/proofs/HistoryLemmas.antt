@@ -1,7 +1,7 @@
 -- Images of histories answer queries.
-use Rattle.std.proofs.Common.{◌≡◌, ℕ, ◌+◌, ◌<◌, ◌≤◌, Bool, true, false, not, ◌&&◌, ◌||◌, ℤ, List, [], ◌∷◌, ◌++◌, Option, Some, None, is_none, nat_le, get_or, length, map, take, true≢false, IsTrue, refl, sym, ap, ◌∙◌, subst, arith, length-take}
+use Rattle.std.proofs.Common.{◌≡◌, ℕ, ◌+◌, ◌<◌, ◌≤◌, Bool, true, false, not, ◌&&◌, ◌||◌, ℤ, List, [], ◌∷◌, ◌++◌, Option, Some, None, is_none, nat_le, get_or, length, take, true≢false, IsTrue, refl, sym, ap, ◌∙◌, subst, arith, length-take}
 use Rattle.std.proofs.lemmas.Bool.Decides.{nat_tests}
-use Rattle.std.specs.List.{AllByRecursion, IsDistinct, list_any}
+use Rattle.std.specs.List.{AllByRecursion, IsDistinct}
 use Rattle.std.proofs.lemmas.Map.Keys.{IsDistinct-head, IsDistinct-tail, sorted_head, sorted_tail, sorted_from_strictly_increasing}
 use Rattle.std.specs.List.Sorted.{IsStrictlySortedBy}
 use Rattle.std.specs.Ordering.{int_eq, nat_cmp}
@@ -9,7 +9,6 @@ use Rattle.std.specs.declared.cmp.Ordering.TheVariants.{Less}
 use Rattle.std.specs.Set.{is_member}
 use Rattle.std.specs.Str.{bytes_eq}
 use Rattle.cluster_terms.specs.declared.node.NodeRow.{NodeRow}
-use Rattle.cluster_terms.specs.declared.token.Pair.{Pair}
 use Rattle.node_directory.proofs.RowLemmas.{ascending_cons, directory_from}
 use Rattle.node_directory.specs.Directory.{are_ascending, are_distinct as are_names_distinct, ids_of, is_directory, names_of}
 use Rattle.token_ring.specs.Ring.{are_distinct, tokens_of}
@@ -64,9 +63,9 @@ directory nodes next are =
 
 pub serving : (image : Image) → IsValid image → IsServing image
 serving image valid =
-    let rings = widest-tokens image valid in
+    let rings = widest-tokens image valid.sound in
     record {
-      directory = directory image.nodes image.next valid.nodes;
+      directory = directory image.nodes image.next valid.sound.nodes;
       low = tokens_distinct (tokens_of (low_ring image)) rings.0;
       read = tokens_distinct (tokens_of (read_ring image)) rings.1;
       high = tokens_distinct (tokens_of (high_ring image)) rings.2;

@@ -4,6 +4,5 @@ pub mod Lines
 pub mod Machine
 pub mod Outcome
 pub mod Placers
-pub mod RingKinds
 pub mod Runs
 pub mod Serving

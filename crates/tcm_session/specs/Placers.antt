@@ -5,7 +5,6 @@ use Rattle.cluster_terms.specs.Replication.{datacenter_group, groups_of, whole_g
 use Rattle.cluster_terms.specs.declared.replication.Replication.{Replication}
 use Rattle.transformations.specs.Rings.{low_ring, read_ring, high_ring}
 use Rattle.transformations.specs.declared.image.Image.{Image}
-use Rattle.topology_strategy.specs.GroupedRing.{GroupedRing}
 use Rattle.tcm_session.specs.declared.placement.Placer.{Placer}
 use Rattle.tcm_session.specs.declared.placement.Placer.TheVariants.{Simple, Topology}
 use Rattle.tcm_session.specs.declared.placement.Placers.{Placers}

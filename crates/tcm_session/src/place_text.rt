@@ -6,11 +6,11 @@ ghost use Rattle.tcm_session.specs.Placers.{IsPlacing};
 ghost use Rattle.transformations.specs.Valid.{IsValid};
 
 use crate::placement::Placers;
-use crate::rings::{cuts, directory_of, rings_of};
-use cluster_terms::{ByteText, Memory, Replication, Row, rows_between};
+use crate::rings::{directory_of, rings_of};
+use cluster_terms::{ByteText, Memory, Replication, TokenRange, rows_between};
 use script_lang::{place_head_text, placed_text};
 use std::alloc::Global;
-use transformations::{Image, KeyspaceRow};
+use transformations::{Image, KeyspaceRow, cuts};
 
 /// Adds the placements of a keyspace: a head with the number of rows, and the rows between the cuts.
 #[tactic(auto, using(crate::proofs::HistoryLemmas::serving), unfolding(script_lang::specs::Texts::place_text))]
@@ -40,7 +40,7 @@ fn rows_text(
     image: &Image,
     replication: &Replication,
     placers: &Placers,
-    rows: &[Row],
+    rows: &[TokenRange],
     out: &mut ByteText,
 ) -> Result<(), Memory>
     requires { IsPlacing image.now replication.now placers.now }
@@ -59,7 +59,7 @@ fn row_text(
     image: &Image,
     replication: &Replication,
     placers: &Placers,
-    row: &Row,
+    row: &TokenRange,
     out: &mut ByteText,
 ) -> Result<(), Memory>
     requires { IsPlacing image.now replication.now placers.now }

@@ -5,6 +5,7 @@ ghost use Rattle.std.specs.Prelude.{◌≤◌};
 use crate::{Status, run};
 use cluster_terms::ByteText;
 use std::alloc::Global;
+use std::process::Abort;
 use std::test::Fail;
 use tcm_edges::{CallList, MemSink, MemSource, SureSink, SureSource, SureStore};
 
@@ -42,7 +43,7 @@ fn ran(alloc: Global, word: &str, script: &[u8], piece: usize) -> Result<(Status
 }
 
 /// Names of worked scripts, with the scripts and their answers.
-const SCRIPTS: [(&str, &str, &str); 19] = [
+const SCRIPTS: [(&str, &str, &str); 24] = [
     (
         "one-node",
         "commit 1 register a dc1 r1\ncommit 2 unsafe-join 1 0\ncommit 3 keyspace ks simple 1\nplace @3 ks\n",
@@ -72,8 +73,8 @@ const SCRIPTS: [(&str, &str, &str); 19] = [
     ),
     (
         "racks-and-repeats",
-        "commit 1 register a dc1 a\ncommit 2 register b dc1 a\ncommit 3 register c dc1 a\ncommit 4 register d dc1 b\ncommit 5 unsafe-join 1 0\ncommit 6 unsafe-join 2 100\ncommit 7 unsafe-join 3 200\ncommit 8 unsafe-join 4 300\ncommit 9 keyspace kt topology dc1:3\nplace @9 kt\n",
-        "OK 1\nOK 2\nOK 3\nOK 4\nOK 5\nOK 6\nOK 7\nOK 8\nOK 9\nPLACE 9 kt 5\n(min,0] read 1,2,4 write 1,2,4\n(0,100] read 2,3,4 write 2,3,4\n(100,200] read 1,3,4 write 1,3,4\n(200,300] read 1,2,4 write 1,2,4\n(300,max] read 1,2,4 write 1,2,4\n",
+        "commit 1 register a dc1 a\ncommit 2 register b dc1 a\ncommit 3 register c dc1 a\ncommit 4 register d dc1 b\ncommit 5 unsafe-join 1 0\ncommit 6 unsafe-join 2 100\ncommit 7 unsafe-join 3 200\ncommit 8 unsafe-join 4 300\ncommit 9 keyspace kt topology dc1:3\nplace @9 kt\ncommit 10 register e dc1 c\ncommit 11 register f dc1 a\ncommit 12 prepare-join 5 50\ncommit 13 prepare-join 6 150\n",
+        "OK 1\nOK 2\nOK 3\nOK 4\nOK 5\nOK 6\nOK 7\nOK 8\nOK 9\nPLACE 9 kt 5\n(min,0] read 1,2,4 write 1,2,4\n(0,100] read 2,3,4 write 2,3,4\n(100,200] read 1,3,4 write 1,3,4\n(200,300] read 1,2,4 write 1,2,4\n(300,max] read 1,2,4 write 1,2,4\nOK 10\nOK 11\nOK 12\nNO LOCKED 5 0\n",
     ),
     (
         "two-datacenters",
@@ -113,7 +114,7 @@ const SCRIPTS: [(&str, &str, &str); 19] = [
     (
         "join-to-finish",
         "commit 1 register a dc1 r1\ncommit 2 register b dc1 r1\ncommit 3 register c dc1 r1\ncommit 4 register d dc1 r1\ncommit 5 unsafe-join 1 0\ncommit 6 unsafe-join 2 100\ncommit 7 unsafe-join 3 200\ncommit 8 unsafe-join 4 300\ncommit 9 keyspace ks simple 3\ncommit 10 register e dc1 r1\ncommit 11 register f dc1 r1\ncommit 12 prepare-join 5 150\ncommit 13 start-join 5\ncommit 14 prepare-join 6 250\nnodes @13\ncommit 15 mid-join 5\nplace @14 ks\ncommit 16 finish-join 5\nplace @15 ks\nnodes @15\ncommit 17 prepare-join 6 250\n",
-        "OK 1\nOK 2\nOK 3\nOK 4\nOK 5\nOK 6\nOK 7\nOK 8\nOK 9\nOK 10\nOK 11\nOK 12\nOK 13\nNO NOT-IDLE 5\nNODES 13 6 1\n1 a dc1 r1 JOINED 0\n2 b dc1 r1 JOINED 100\n3 c dc1 r1 JOINED 200\n4 d dc1 r1 JOINED 300\n5 e dc1 r1 BOOTSTRAPPING -\n6 f dc1 r1 REGISTERED -\nSEQ 5 join STARTED out - in 150@5\nOK 14\nPLACE 14 ks 6\n(min,0] read 1,2,5 write 1,2,3,5\n(0,100] read 2,3,5 write 2,3,4,5\n(100,150] read 3,4,5 write 1,3,4,5\n(150,200] read 1,3,4 write 1,3,4\n(200,300] read 1,2,4 write 1,2,4\n(300,max] read 1,2,5 write 1,2,3,5\nOK 15\nPLACE 15 ks 6\n(min,0] read 1,2,5 write 1,2,5\n(0,100] read 2,3,5 write 2,3,5\n(100,150] read 3,4,5 write 3,4,5\n(150,200] read 1,3,4 write 1,3,4\n(200,300] read 1,2,4 write 1,2,4\n(300,max] read 1,2,5 write 1,2,5\nNODES 15 6 0\n1 a dc1 r1 JOINED 0\n2 b dc1 r1 JOINED 100\n3 c dc1 r1 JOINED 200\n4 d dc1 r1 JOINED 300\n5 e dc1 r1 JOINED 150\n6 f dc1 r1 REGISTERED -\nOK 16\n",
+        "OK 1\nOK 2\nOK 3\nOK 4\nOK 5\nOK 6\nOK 7\nOK 8\nOK 9\nOK 10\nOK 11\nOK 12\nOK 13\nNO LOCKED 5 100\nNODES 13 6 1\n1 a dc1 r1 JOINED 0\n2 b dc1 r1 JOINED 100\n3 c dc1 r1 JOINED 200\n4 d dc1 r1 JOINED 300\n5 e dc1 r1 BOOTSTRAPPING -\n6 f dc1 r1 REGISTERED -\nSEQ 5 join STARTED out - in 150@5\nOK 14\nPLACE 14 ks 6\n(min,0] read 1,2,5 write 1,2,3,5\n(0,100] read 2,3,5 write 2,3,4,5\n(100,150] read 3,4,5 write 1,3,4,5\n(150,200] read 1,3,4 write 1,3,4\n(200,300] read 1,2,4 write 1,2,4\n(300,max] read 1,2,5 write 1,2,3,5\nOK 15\nPLACE 15 ks 6\n(min,0] read 1,2,5 write 1,2,5\n(0,100] read 2,3,5 write 2,3,5\n(100,150] read 3,4,5 write 3,4,5\n(150,200] read 1,3,4 write 1,3,4\n(200,300] read 1,2,4 write 1,2,4\n(300,max] read 1,2,5 write 1,2,5\nNODES 15 6 0\n1 a dc1 r1 JOINED 0\n2 b dc1 r1 JOINED 100\n3 c dc1 r1 JOINED 200\n4 d dc1 r1 JOINED 300\n5 e dc1 r1 JOINED 150\n6 f dc1 r1 REGISTERED -\nOK 16\n",
     ),
     (
         "steps in another order",
@@ -130,20 +131,57 @@ const SCRIPTS: [(&str, &str, &str); 19] = [
         "commit 1 register a dc1 r1\ncommit 2 register b dc1 r2\ncommit 3 register c dc2 r1\ncommit 4 register d dc1 r1\ncommit 5 unsafe-join 1 0\ncommit 6 unsafe-join 2 100\ncommit 7 unsafe-join 3 50\ncommit 8 keyspace kt topology dc1:2 dc2:1\ncommit 9 prepare-join 4 -100 75\ncommit 10 start-join 4\nplace @10 kt\ncommit 11 mid-join 4\nplace @11 kt\ncommit 12 finish-join 4\nplace @12 kt\n",
         "OK 1\nOK 2\nOK 3\nOK 4\nOK 5\nOK 6\nOK 7\nOK 8\nOK 9\nOK 10\nPLACE 10 kt 6\n(min,-100] read 1,2,3 write 1,2,3,4\n(-100,0] read 1,2,3 write 1,2,3\n(0,50] read 1,2,3 write 1,2,3,4\n(50,75] read 1,2,3 write 1,2,3,4\n(75,100] read 1,2,3 write 1,2,3,4\n(100,max] read 1,2,3 write 1,2,3,4\nOK 11\nPLACE 11 kt 6\n(min,-100] read 2,3,4 write 1,2,3,4\n(-100,0] read 1,2,3 write 1,2,3\n(0,50] read 2,3,4 write 1,2,3,4\n(50,75] read 2,3,4 write 1,2,3,4\n(75,100] read 2,3,4 write 1,2,3,4\n(100,max] read 2,3,4 write 1,2,3,4\nOK 12\nPLACE 12 kt 6\n(min,-100] read 2,3,4 write 2,3,4\n(-100,0] read 1,2,3 write 1,2,3\n(0,50] read 2,3,4 write 2,3,4\n(50,75] read 2,3,4 write 2,3,4\n(75,100] read 2,3,4 write 2,3,4\n(100,max] read 2,3,4 write 2,3,4\n",
     ),
+    (
+        "join-locked",
+        "commit 1 register a dc1 r1\ncommit 2 register b dc1 r1\ncommit 3 register c dc1 r1\ncommit 4 register d dc1 r1\ncommit 5 unsafe-join 1 0\ncommit 6 unsafe-join 2 100\ncommit 7 unsafe-join 3 200\ncommit 8 unsafe-join 4 300\ncommit 9 keyspace ks simple 3\ncommit 10 register e dc1 r1\ncommit 11 register f dc1 r1\ncommit 12 prepare-join 5 150\ncommit 13 prepare-join 6 250\ncommit 14 start-join 5\ncommit 15 mid-join 5\ncommit 16 prepare-join 6 250\ncommit 17 finish-join 5\ncommit 18 prepare-join 6 250\nnodes @16\n",
+        "OK 1\nOK 2\nOK 3\nOK 4\nOK 5\nOK 6\nOK 7\nOK 8\nOK 9\nOK 10\nOK 11\nOK 12\nNO LOCKED 5 100\nOK 13\nOK 14\nNO LOCKED 5 100\nOK 15\nOK 16\nNODES 16 6 1\n1 a dc1 r1 JOINED 0\n2 b dc1 r1 JOINED 100\n3 c dc1 r1 JOINED 200\n4 d dc1 r1 JOINED 300\n5 e dc1 r1 JOINED 150\n6 f dc1 r1 REGISTERED -\nSEQ 6 join PREPARED out - in 250@6\n",
+    ),
+    (
+        "joins-on-empty-ring",
+        "commit 1 register a dc1 r1\ncommit 2 register b dc1 r1\ncommit 3 keyspace ks simple 1\ncommit 4 prepare-join 1 0\ncommit 5 prepare-join 2 100\nplace @4 ks\n",
+        "OK 1\nOK 2\nOK 3\nOK 4\nNO LOCKED 1 0\nPLACE 4 ks 2\n(min,0] read - write -\n(0,max] read - write -\n",
+    ),
+    (
+        "two-joins",
+        "commit 1 register a dc1 r1\ncommit 2 register b dc1 r1\ncommit 3 register c dc1 r1\ncommit 4 register d dc1 r1\ncommit 5 register e dc1 r1\ncommit 6 register f dc1 r1\ncommit 7 register g dc1 r1\ncommit 8 register h dc1 r1\ncommit 9 unsafe-join 1 0\ncommit 10 unsafe-join 2 100\ncommit 11 unsafe-join 3 200\ncommit 12 unsafe-join 4 300\ncommit 13 unsafe-join 5 400\ncommit 14 unsafe-join 6 500\ncommit 15 unsafe-join 7 600\ncommit 16 unsafe-join 8 700\ncommit 17 keyspace ks simple 3\ncommit 18 register i dc1 r1\ncommit 19 register j dc1 r1\ncommit 20 prepare-join 9 50\ncommit 21 prepare-join 10 450\nnodes @21\ncommit 22 start-join 10\ncommit 23 start-join 9\nplace @23 ks\ncommit 24 mid-join 10\ncommit 25 finish-join 10\nplace @25 ks\ncommit 26 mid-join 9\ncommit 27 finish-join 9\nplace @27 ks\n",
+        "OK 1\nOK 2\nOK 3\nOK 4\nOK 5\nOK 6\nOK 7\nOK 8\nOK 9\nOK 10\nOK 11\nOK 12\nOK 13\nOK 14\nOK 15\nOK 16\nOK 17\nOK 18\nOK 19\nOK 20\nOK 21\nNODES 21 10 2\n1 a dc1 r1 JOINED 0\n2 b dc1 r1 JOINED 100\n3 c dc1 r1 JOINED 200\n4 d dc1 r1 JOINED 300\n5 e dc1 r1 JOINED 400\n6 f dc1 r1 JOINED 500\n7 g dc1 r1 JOINED 600\n8 h dc1 r1 JOINED 700\n9 i dc1 r1 REGISTERED -\n10 j dc1 r1 REGISTERED -\nSEQ 9 join PREPARED out - in 50@9\nSEQ 10 join PREPARED out - in 450@10\nOK 22\nOK 23\nPLACE 23 ks 11\n(min,0] read 1,2,3 write 1,2,3,9\n(0,50] read 2,3,4 write 2,3,4,9\n(50,100] read 2,3,4 write 2,3,4\n(100,200] read 3,4,5 write 3,4,5\n(200,300] read 4,5,6 write 4,5,6,10\n(300,400] read 5,6,7 write 5,6,7,10\n(400,450] read 6,7,8 write 6,7,8,10\n(450,500] read 6,7,8 write 6,7,8\n(500,600] read 1,7,8 write 1,7,8\n(600,700] read 1,2,8 write 1,2,8,9\n(700,max] read 1,2,3 write 1,2,3,9\nOK 24\nOK 25\nPLACE 25 ks 11\n(min,0] read 1,2,3 write 1,2,3,9\n(0,50] read 2,3,4 write 2,3,4,9\n(50,100] read 2,3,4 write 2,3,4\n(100,200] read 3,4,5 write 3,4,5\n(200,300] read 4,5,10 write 4,5,10\n(300,400] read 5,6,10 write 5,6,10\n(400,450] read 6,7,10 write 6,7,10\n(450,500] read 6,7,8 write 6,7,8\n(500,600] read 1,7,8 write 1,7,8\n(600,700] read 1,2,8 write 1,2,8,9\n(700,max] read 1,2,3 write 1,2,3,9\nOK 26\nOK 27\nPLACE 27 ks 11\n(min,0] read 1,2,9 write 1,2,9\n(0,50] read 2,3,9 write 2,3,9\n(50,100] read 2,3,4 write 2,3,4\n(100,200] read 3,4,5 write 3,4,5\n(200,300] read 4,5,10 write 4,5,10\n(300,400] read 5,6,10 write 5,6,10\n(400,450] read 6,7,10 write 6,7,10\n(450,500] read 6,7,8 write 6,7,8\n(500,600] read 1,7,8 write 1,7,8\n(600,700] read 1,8,9 write 1,8,9\n(700,max] read 1,2,9 write 1,2,9\n",
+    ),
+    (
+        "locked under a later keyspace",
+        "commit 1 register a dc1 r1\ncommit 2 register b dc1 r1\ncommit 3 register c dc1 r1\ncommit 4 register d dc1 r1\ncommit 5 register e dc1 r1\ncommit 6 register f dc1 r1\ncommit 7 register g dc1 r1\ncommit 8 register h dc1 r1\ncommit 9 unsafe-join 1 0\ncommit 10 unsafe-join 2 100\ncommit 11 unsafe-join 3 200\ncommit 12 unsafe-join 4 300\ncommit 13 unsafe-join 5 400\ncommit 14 unsafe-join 6 500\ncommit 15 unsafe-join 7 600\ncommit 16 unsafe-join 8 700\ncommit 17 keyspace ks simple 3\ncommit 18 register i dc1 r1\ncommit 19 register j dc1 r1\ncommit 20 prepare-join 9 50\ncommit 21 prepare-join 10 450\ncommit 22 start-join 10\ncommit 23 mid-join 10\ncommit 24 finish-join 10\ncommit 25 start-join 9\ncommit 26 mid-join 9\ncommit 27 finish-join 9\ncommit 28 keyspace kt topology dc1:6\ncommit 29 register k dc1 r1\ncommit 30 register l dc1 r1\ncommit 31 prepare-join 11 60\ncommit 32 prepare-join 12 460\ncommit 33 prepare-join 12 260\ncommit 34 drop-keyspace kt\n",
+        "OK 1\nOK 2\nOK 3\nOK 4\nOK 5\nOK 6\nOK 7\nOK 8\nOK 9\nOK 10\nOK 11\nOK 12\nOK 13\nOK 14\nOK 15\nOK 16\nOK 17\nOK 18\nOK 19\nOK 20\nOK 21\nOK 22\nOK 23\nOK 24\nOK 25\nOK 26\nOK 27\nOK 28\nOK 29\nOK 30\nOK 31\nNO LOCKED 11 60\nNO LOCKED 11 0\nNO NOT-IDLE 11\n",
+    ),
+    (
+        "joins of two datacenters",
+        "commit 1 register a dc1 r1\ncommit 2 register b dc1 r2\ncommit 3 register c dc1 r3\ncommit 4 register d dc2 r1\ncommit 5 register e dc2 r2\ncommit 6 register f dc1 r1\ncommit 7 register g dc2 r1\ncommit 8 unsafe-join 1 0 1000\ncommit 9 unsafe-join 2 100 1100\ncommit 10 unsafe-join 3 200 1200\ncommit 11 unsafe-join 4 300 1300\ncommit 12 unsafe-join 5 400 1400\ncommit 13 keyspace kt topology dc1:1 dc2:1\ncommit 14 prepare-join 6 50\ncommit 15 prepare-join 7 60\ncommit 16 prepare-join 7 350\nnodes @15\n",
+        "OK 1\nOK 2\nOK 3\nOK 4\nOK 5\nOK 6\nOK 7\nOK 8\nOK 9\nOK 10\nOK 11\nOK 12\nOK 13\nOK 14\nNO LOCKED 6 50\nOK 15\nNODES 15 7 2\n1 a dc1 r1 JOINED 0,1000\n2 b dc1 r2 JOINED 100,1100\n3 c dc1 r3 JOINED 200,1200\n4 d dc2 r1 JOINED 300,1300\n5 e dc2 r2 JOINED 400,1400\n6 f dc1 r1 REGISTERED -\n7 g dc2 r1 REGISTERED -\nSEQ 6 join PREPARED out - in 50@6\nSEQ 7 join PREPARED out - in 350@7\n",
+    ),
 ];
+
+/// Runs a script, which is read in pieces of several sizes, and compares what it prints.
+fn has_its_answers<A: Abort>(
+    rt: &A,
+    alloc: Global,
+    name: &str,
+    script: &str,
+    answers: &str,
+) -> Result<(), Fail> {
+    for piece in [1, 7, 1_000_000] {
+        let (status, printed) = ran(alloc, "commit", script.as_bytes(), piece)?;
+        assert_eq!(rt; status, Status(0), "{name} in pieces of {piece}");
+        assert_eq!(rt;
+            printed.as_slice(),
+            answers.as_bytes(),
+            "{name} in pieces of {piece}"
+        );
+    }
+    Ok(())
+}
 
 #[test]
 fn scripts_have_their_answers(rt: HostRuntime) -> Result<(), Fail> {
     for (name, script, answers) in SCRIPTS {
-        for piece in [1, 7, 1_000_000] {
-            let (status, printed) = ran(rt.alloc(), "commit", script.as_bytes(), piece)?;
-            assert_eq!(rt; status, Status(0), "{name} in pieces of {piece}");
-            assert_eq!(rt;
-                printed.as_slice(),
-                answers.as_bytes(),
-                "{name} in pieces of {piece}"
-            );
-        }
+        has_its_answers(&rt, rt.alloc(), name, script, answers)?;
     }
     Ok(())
 }

@@ -1,4 +1,8 @@
+pub mod BoundLemmas
+pub mod CommonLemmas
+pub mod DistinctLemmas
+pub mod JoinLemmas
 pub mod OrderLemmas
-pub mod RingLemmas
-pub mod GroupLemmas
 pub mod PlaceLemmas
+pub mod RangeLemmas
+pub mod RingLemmas

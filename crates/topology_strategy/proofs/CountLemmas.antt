@@ -9,7 +9,7 @@ use Rattle.std.specs.Set.{is_member, distinct_count}
 use Rattle.std.specs.Str.{bytes_eq}
 use Rattle.cluster_terms.proofs.DistinctCounts.{is_member-alike, is_member-push, distinct_count-new, distinct_count-old}
 use Rattle.cluster_terms.specs.Group.{Group, node_count, rack_count}
-use Rattle.token_ring.proofs.GroupLemmas.{has, has_rack, has-of, has_rack-same, node_count-same, rack_count-same}
+use Rattle.cluster_terms.proofs.GroupLemmas.{has, has_rack, has-of, has_rack-same, node_count-same, rack_count-same}
 
 module _ (g : Group) (ahead : List ℕ) (n : ℕ) where
   -- the nodes and the racks of the group, with the node

@@ -7,8 +7,9 @@ use Rattle.cluster_terms.specs.Group.{Group, nodes_of, place, is_replica, is_rep
 use Rattle.cluster_terms.specs.Replication.{datacenter_group}
 use Rattle.cluster_terms.specs.declared.node.NodeRow.{NodeRow}
 use Rattle.cluster_terms.specs.declared.token.Pair.{Pair}
-use Rattle.token_ring.proofs.GroupLemmas.{has, wanted-same, spare-same}
-use Rattle.token_ring.proofs.PlaceLemmas.{nodes_of-append, placed_by, replica_on_walk}
+use Rattle.cluster_terms.proofs.GroupLemmas.{has, wanted-same, spare-same}
+use Rattle.cluster_terms.proofs.PlacementLemmas.{nodes_of-append, placed_by}
+use Rattle.token_ring.proofs.PlaceLemmas.{replica_on_walk}
 use Rattle.token_ring.proofs.RingLemmas.{walk_from}
 use Rattle.token_ring.specs.Ring.{IsRing, IsFirstAt}
 use Rattle.topology_strategy.proofs.WalkLemmas.{has-taken_along, found_after-append}

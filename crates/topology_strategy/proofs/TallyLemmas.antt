@@ -11,7 +11,7 @@ use Rattle.std.specs.Set.{is_member}
 use Rattle.std.specs.Str.{bytes_eq}
 use Rattle.cluster_terms.proofs.DistinctCounts.{is_member-alike, is_member-push}
 use Rattle.cluster_terms.specs.Group.{Group, node_count, rack_count}
-use Rattle.token_ring.proofs.GroupLemmas.{has, has_rack}
+use Rattle.cluster_terms.proofs.GroupLemmas.{has, has_rack}
 use Rattle.topology_strategy.proofs.CountLemmas.{node_count-outside, rack_count-outside, has_rack-outside, has_rack-push, node_count-new, rack_count-new, rack_count-old}
 
 -- the nodes of the group among these are counted, and their racks are kept, but no more than there are to be replicas

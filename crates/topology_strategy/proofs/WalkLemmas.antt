@@ -10,7 +10,7 @@ use Rattle.std.specs.Set.{is_member}
 use Rattle.std.specs.Str.{bytes_eq}
 use Rattle.cluster_terms.proofs.DistinctCounts.{is_member-alike, is_member-push}
 use Rattle.cluster_terms.specs.Group.{Group, node_count, rack_count, wanted, spare, is_chosen}
-use Rattle.token_ring.proofs.GroupLemmas.{has, has_rack, is_chosen_by, is_chosen_rack-by, or_elim, rack_there}
+use Rattle.cluster_terms.proofs.GroupLemmas.{has, has_rack, is_chosen_by, is_chosen_rack-by, or_elim, rack_there}
 use Rattle.token_ring.proofs.PlaceLemmas.{finds}
 use Rattle.topology_strategy.proofs.CountLemmas.{node_count-outside, rack_count-outside, has_rack-outside, node_count-again, rack_count-again, has_rack-again, has_rack-push, node_count-new, rack_count-new, rack_count-old}
 use Rattle.topology_strategy.specs.Shape.{shape_of}

@@ -8,14 +8,15 @@ use Rattle.cluster_terms.specs.NodeRow.{row_of}
 use Rattle.cluster_terms.specs.declared.node.NodeRow.{NodeRow}
 use Rattle.cluster_terms.specs.declared.token.Pair.{Pair}
 use Rattle.transformations.proofs.ListLemmas.{all_weaker, any_false, found_passes, none_found}
-use Rattle.transformations.specs.Refusals.{first_of, has_keyspace, is_idle, is_idle_or_left, is_taken, keyspaces_full, in_sequence, most_keyspaces, most_nodes, most_tokens, name_taken, no_node, nodes_full, not_idle, refusal_of, refused_if, token_taken, tokens_full, tokens_with, unless_allowed, wrong_state}
+use Rattle.transformations.specs.Refusals.{first_of, has_keyspace, is_idle, is_idle_or_left, is_taken, keyspaces_full, in_sequence, most_keyspaces, most_nodes, most_tokens, name_taken, no_keyspace, no_node, nodes_full, not_idle, ranges_locked, early_refusal_of, refusal_of, refused_if, token_taken, tokens_full, tokens_with, unless_allowed, wrong_state}
 use Rattle.transformations.specs.States.{is_joined, started_of, state_by, state_in, state_of_row}
 use Rattle.transformations.specs.Steps.{takes_part}
 use Rattle.transformations.specs.Valid.{IsOwned, is_standing, stands}
-use Rattle.transformations.specs.declared.command.Command.TheVariants.{Register, Unregister, UnsafeJoin, Keyspace, PrepareJoin}
+use Rattle.transformations.specs.declared.command.Command.{Command}
+use Rattle.transformations.specs.declared.command.Command.TheVariants.{Register, Unregister, UnsafeJoin, Keyspace, DropKeyspace, PrepareJoin}
 use Rattle.transformations.specs.declared.image.Image.{Image}
 use Rattle.transformations.specs.declared.refusal.Refusal.{Refusal}
-use Rattle.transformations.specs.declared.refusal.Refusal.TheVariants.{InSequence, KeyspacesFull, NameTaken, NoNode, NodesFull, TokensFull, TokenTaken, WrongState}
+use Rattle.transformations.specs.declared.refusal.Refusal.TheVariants.{InSequence, KeyspacesFull, NameTaken, NoNode, NodesFull, NotIdle, TokensFull, TokenTaken, WrongState}
 use Rattle.cluster_terms.specs.declared.replication.Replication.{Replication}
 use Rattle.transformations.specs.declared.sequence.Kind.{Kind}
 use Rattle.transformations.specs.declared.sequence.Kind.TheVariants.{Join, Move, Leave, Replace}
@@ -26,7 +27,7 @@ use Rattle.transformations.specs.declared.state.NodeState.TheVariants.{Left, Joi
 -- ---- where no refusal comes
 
 -- none of some refusals comes where their first does not
-first_none : (a : Option Refusal) (later : List (Option Refusal)) → first_of (a ∷ later) ≡ None → (a ≡ None) × (first_of later ≡ None)
+pub first_none : (a : Option Refusal) (later : List (Option Refusal)) → first_of (a ∷ later) ≡ None → (a ≡ None) × (first_of later ≡ None)
 first_none None later h = (refl, h)
 first_none (Some r) later h = absurd (none-some r (sym h))
 
@@ -34,7 +35,7 @@ test_false : (b : Bool) (r : Refusal) → refused_if b r ≡ None → b ≡ fals
 test_false true r h = absurd (none-some r (sym h))
 test_false false r h = refl
 
-mapped_none : {X : Type 0} (f : X → Refusal) (o : Option X) → option_map f o ≡ None → o ≡ None
+pub mapped_none : {X Y : Type 0} (f : X → Y) (o : Option X) → option_map f o ≡ None → o ≡ None
 mapped_none f None h = refl
 mapped_none f (Some x) h = absurd (none-some (f x) (sym h))
 
@@ -154,9 +155,18 @@ new image tokens free room =
 
 -- ---- commands
 
-pub register_accepted : (image : Image) (name dc rack : List ℕ) → refusal_of image (Register name dc rack) ≡ None
-    → AllByRecursion (λ (row : NodeRow). bytes_eq row.name name ≡ false) image.nodes × (length image.nodes < most_nodes)
+-- a command that isn't refused has no early refusal, and the ranges of the movement that it prepares aren't locked
+pub early_accepted : (image : Image) (c : Command) → refusal_of image c ≡ None → early_refusal_of image c ≡ None
 unfolding refusal_of
+early_accepted image c h = (first_none (early_refusal_of image c) (ranges_locked image c ∷ []) h).0
+
+pub ranges_accepted : (image : Image) (c : Command) → refusal_of image c ≡ None → ranges_locked image c ≡ None
+unfolding refusal_of
+ranges_accepted image c h = (first_none (ranges_locked image c) [] (first_none (early_refusal_of image c) (ranges_locked image c ∷ []) h).1).0
+
+pub register_accepted : (image : Image) (name dc rack : List ℕ) → early_refusal_of image (Register name dc rack) ≡ None
+    → AllByRecursion (λ (row : NodeRow). bytes_eq row.name name ≡ false) image.nodes × (length image.nodes < most_nodes)
+unfolding early_refusal_of
 register_accepted image name dc rack h =
     let a = first_none (name_taken image name) (nodes_full image ∷ []) h in
     let b = first_none (nodes_full image) [] a.1 in
@@ -165,8 +175,8 @@ register_accepted image name dc rack h =
     let none = mapped_none (λ (row : NodeRow). NameTaken row.id) (find (λ (row : NodeRow). bytes_eq row.name name) image.nodes) a.0 in
     (none_found (λ (row : NodeRow). bytes_eq row.name name) image.nodes none, room)
 
-pub unregister_accepted : (image : Image) (n : ℕ) → IsOwned image → refusal_of image (Unregister n) ≡ None → IsApart image n × (is_joined image n ≡ false)
-unfolding refusal_of
+pub unregister_accepted : (image : Image) (n : ℕ) → IsOwned image → early_refusal_of image (Unregister n) ≡ None → IsApart image n × (is_joined image n ≡ false)
+unfolding early_refusal_of
 unregister_accepted image n owned h =
     let a = first_none (no_node image n) (in_sequence image n ∷ wrong_state is_idle_or_left image n ∷ []) h in
     let b = first_none (in_sequence image n) (wrong_state is_idle_or_left image n ∷ []) a.1 in
@@ -178,8 +188,8 @@ unregister_accepted image n owned h =
     by r (inl left) = (let down : stands (row_of image.nodes n) ≡ false = rw (r.found, left) refl in bare_unless_standing image n owned down)
     by r (inr bare) = rw r.is at bare
 
-pub unsafe_join_accepted : (image : Image) (n : ℕ) (tokens : List ℤ) → refusal_of image (UnsafeJoin n tokens) ≡ None → IsIdle image n × AreNew image tokens
-unfolding refusal_of
+pub unsafe_join_accepted : (image : Image) (n : ℕ) (tokens : List ℤ) → early_refusal_of image (UnsafeJoin n tokens) ≡ None → IsIdle image n × AreNew image tokens
+unfolding early_refusal_of
 unsafe_join_accepted image n tokens h =
     let a = first_none (no_node image n) (in_sequence image n ∷ wrong_state is_idle image n ∷ not_idle image.sequences ∷ token_taken image tokens ∷ tokens_full image tokens ∷ []) h in
     let b = first_none (in_sequence image n) (wrong_state is_idle image n ∷ not_idle image.sequences ∷ token_taken image tokens ∷ tokens_full image tokens ∷ []) a.1 in
@@ -189,9 +199,34 @@ unsafe_join_accepted image n tokens h =
     let f = first_none (tokens_full image tokens) [] e.1 in
     (idle image n a.0 b.0 c.0, new image tokens e.0 f.0)
 
-pub keyspace_accepted : (image : Image) (name : List ℕ) (replication : Replication) → refusal_of image (Keyspace name replication) ≡ None
+-- no movement is in flight
+idle_sequences : (sequences : List SeqRow) → not_idle sequences ≡ None → sequences ≡ []
+idle_sequences [] h = refl
+idle_sequences (s ∷ later) h = absurd (none-some (NotIdle s.node) (sym h))
+
+pub unsafe_join_idle : (image : Image) (n : ℕ) (tokens : List ℤ) → early_refusal_of image (UnsafeJoin n tokens) ≡ None → image.sequences ≡ []
+unfolding early_refusal_of
+unsafe_join_idle image n tokens h =
+    let a = first_none (no_node image n) (in_sequence image n ∷ wrong_state is_idle image n ∷ not_idle image.sequences ∷ token_taken image tokens ∷ tokens_full image tokens ∷ []) h in
+    let b = first_none (in_sequence image n) (wrong_state is_idle image n ∷ not_idle image.sequences ∷ token_taken image tokens ∷ tokens_full image tokens ∷ []) a.1 in
+    let c = first_none (wrong_state is_idle image n) (not_idle image.sequences ∷ token_taken image tokens ∷ tokens_full image tokens ∷ []) b.1 in
+    idle_sequences image.sequences (first_none (not_idle image.sequences) (token_taken image tokens ∷ tokens_full image tokens ∷ []) c.1).0
+
+pub keyspace_idle : (image : Image) (name : List ℕ) (replication : Replication) → early_refusal_of image (Keyspace name replication) ≡ None → image.sequences ≡ []
+unfolding early_refusal_of
+keyspace_idle image name replication h =
+    let a = first_none (keyspaces_full image name) (not_idle image.sequences ∷ []) h in
+    idle_sequences image.sequences (first_none (not_idle image.sequences) [] a.1).0
+
+pub drop_keyspace_idle : (image : Image) (name : List ℕ) → early_refusal_of image (DropKeyspace name) ≡ None → image.sequences ≡ []
+unfolding early_refusal_of
+drop_keyspace_idle image name h =
+    let a = first_none (no_keyspace image name) (not_idle image.sequences ∷ []) h in
+    idle_sequences image.sequences (first_none (not_idle image.sequences) [] a.1).0
+
+pub keyspace_accepted : (image : Image) (name : List ℕ) (replication : Replication) → early_refusal_of image (Keyspace name replication) ≡ None
     → (length image.keyspaces < most_keyspaces) ⊎ (has_keyspace image name ≡ true)
-unfolding refusal_of
+unfolding early_refusal_of
 keyspace_accepted image name replication h =
     let a = first_none (keyspaces_full image name) (not_idle image.sequences ∷ []) h in
     let test = test_false (nat_le most_keyspaces (length image.keyspaces) && not (has_keyspace image name)) KeyspacesFull a.0 in
@@ -201,12 +236,12 @@ keyspace_accepted image name replication h =
     by true e t = inr e
     by false e t = inl (grind (arith, nat_tests))
 
-pub prepare_join_accepted : (image : Image) (n : ℕ) (tokens : List ℤ) → refusal_of image (PrepareJoin n tokens) ≡ None → IsIdle image n × AreNew image tokens
-unfolding refusal_of
+pub prepare_join_accepted : (image : Image) (n : ℕ) (tokens : List ℤ) → early_refusal_of image (PrepareJoin n tokens) ≡ None → IsIdle image n × AreNew image tokens
+unfolding early_refusal_of
 prepare_join_accepted image n tokens h =
-    let a = first_none (no_node image n) (in_sequence image n ∷ wrong_state is_idle image n ∷ token_taken image tokens ∷ tokens_full image tokens ∷ not_idle image.sequences ∷ []) h in
-    let b = first_none (in_sequence image n) (wrong_state is_idle image n ∷ token_taken image tokens ∷ tokens_full image tokens ∷ not_idle image.sequences ∷ []) a.1 in
-    let c = first_none (wrong_state is_idle image n) (token_taken image tokens ∷ tokens_full image tokens ∷ not_idle image.sequences ∷ []) b.1 in
-    let d = first_none (token_taken image tokens) (tokens_full image tokens ∷ not_idle image.sequences ∷ []) c.1 in
-    let e = first_none (tokens_full image tokens) (not_idle image.sequences ∷ []) d.1 in
+    let a = first_none (no_node image n) (in_sequence image n ∷ wrong_state is_idle image n ∷ token_taken image tokens ∷ tokens_full image tokens ∷ []) h in
+    let b = first_none (in_sequence image n) (wrong_state is_idle image n ∷ token_taken image tokens ∷ tokens_full image tokens ∷ []) a.1 in
+    let c = first_none (wrong_state is_idle image n) (token_taken image tokens ∷ tokens_full image tokens ∷ []) b.1 in
+    let d = first_none (token_taken image tokens) (tokens_full image tokens ∷ []) c.1 in
+    let e = first_none (tokens_full image tokens) [] d.1 in
     (idle image n a.0 b.0 c.0, new image tokens d.0 e.0)

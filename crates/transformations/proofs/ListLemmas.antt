@@ -1,5 +1,5 @@
 -- Lists with some items left out or put in: what holds of them still.
-use Rattle.std.proofs.Common.{◌≡◌, ◌+◌, ◌≤◌, Bool, true, false, cond, ◌&&◌, ◌||◌, true≢false, List, [], ◌∷◌, ◌++◌, map, filter, find, length, Some, None, refl, sym, ap, arith}
+use Rattle.std.proofs.Common.{◌≡◌, ◌+◌, ◌≤◌, Bool, true, false, cond, ◌&&◌, ◌||◌, true≢false, List, [], ◌∷◌, ◌++◌, map, filter, flat_map, find, length, Some, None, refl, sym, subst, ap, arith}
 use Rattle.std.proofs.lemmas.List.Sorted.{IsPermutation-append_comm, IsPermutation-append_left, IsPermutation-cons, IsPermutation-middle, IsPermutation-refl, IsPermutation-sym, IsPermutation-trans}
 use Rattle.std.proofs.lemmas.Map.Keys.{IsDistinct-head, IsDistinct-tail}
 use Rattle.std.proofs.lemmas.Option.{none-some}
@@ -9,7 +9,10 @@ use Rattle.std.specs.Ordering.{eq_by_cmp, is_eq, match_ordering}
 use Rattle.std.specs.declared.cmp.Ordering.{Ordering}
 use Rattle.std.specs.declared.cmp.Ordering.TheVariants.{Less, Equal, Greater}
 use Rattle.std.proofs.Common.{append_assoc}
+use Rattle.std.proofs.lemmas.Bool.{false≢true, or_left as or_true_left, or_right as or_true_right}
+use Rattle.std.specs.Set.{is_member}
 use Rattle.cluster_terms.proofs.AscendingLemmas.{All-put_all}
+use Rattle.cluster_terms.proofs.GroupLemmas.{or_elim}
 use Rattle.cluster_terms.specs.Ascending.{put, put_all}
 
 -- ---- what holds of each item
@@ -35,6 +38,26 @@ pub all_from_map : {X Y : Type 0} (P : Y → Type 0) (f : X → Y) (xs : List X)
 all_from_map P f [] all = tt
 all_from_map P f (x ∷ xs) all = (all.0, all_from_map P f xs all.1)
 
+pub all_flat_map : {X Y : Type 0} (P : Y → Type 0) (f : X → List Y) (xs : List X) → AllByRecursion (λ x. AllByRecursion P (f x)) xs → AllByRecursion P (flat_map f xs)
+all_flat_map P f [] all = tt
+all_flat_map P f (x ∷ xs) all = all_append P (f x) (flat_map f xs) all.0 (all_flat_map P f xs all.1)
+
+pub all_each : {X : Type 0} (P : X → Type 0) → ((x : X) → P x) → (xs : List X) → AllByRecursion P xs
+all_each P each [] = tt
+all_each P each (x ∷ xs) = (each x, all_each P each xs)
+
+pub all_none : {X : Type 0} (P : X → Type 0) (xs : List X) → xs ≡ [] → AllByRecursion P xs
+all_none P xs none = subst (λ l. AllByRecursion P l) (sym none) tt
+
+-- those that pass a test
+pub all_filter : {X : Type 0} (p : X → Bool) (P : X → Type 0) (xs : List X) → AllByRecursion (λ x. p x ≡ true → P x) xs → AllByRecursion P (filter p xs)
+all_filter p P [] all = tt
+all_filter p P (x ∷ xs) all = by (p x) refl (all_filter p P xs all.1)
+  where
+    by : (b : Bool) → p x ≡ b → AllByRecursion P (filter p xs) → AllByRecursion P (cond b (x ∷ filter p xs) (filter p xs))
+    by true e rest = (all.0 e, rest)
+    by false e rest = rest
+
 -- both parts of a test
 pub both_left : (a b : Bool) → (a && b) ≡ true → a ≡ true
 both_left a b h = grind arith
@@ -56,6 +79,24 @@ all_false p (x ∷ xs) h = (or_left (p x) (list_any p xs) h, all_false p xs (or_
 pub any_false : {X : Type 0} (p : X → Bool) (xs : List X) → AllByRecursion (λ x. p x ≡ false) xs → list_any p xs ≡ false
 any_false p [] all = refl
 any_false p (x ∷ xs) all = rw all.0 (any_false p xs all.1)
+
+-- ---- what holds of each member
+
+pub all_members : {X : Type 0} (e : X → X → Bool) (itself : (x : X) → e x x ≡ true) (P : X → Type 0) (xs : List X)
+    → ((x : X) → is_member e xs x ≡ true → P x) → AllByRecursion P xs
+all_members e itself P [] each = tt
+all_members e itself P (x ∷ xs) each = (
+  each x (or_true_left (e x x) (is_member e xs x) (itself x)),
+  all_members e itself P xs (λ y there. each y (or_true_right (e y x) (is_member e xs y) there)),
+)
+
+pub member_holds : {X : Type 0} (e : X → X → Bool) (tells : (x y : X) → e x y ≡ true → x ≡ y) (P : X → Type 0) (xs : List X)
+    → AllByRecursion P xs → (x : X) → is_member e xs x ≡ true → P x
+member_holds e tells P [] all x there = absurd (false≢true there)
+member_holds e tells P (y ∷ ys) all x there =
+    or_elim (e x y) (is_member e ys x) there
+    (λ same. subst P (sym (tells x y same)) all.0)
+    (λ more. member_holds e tells P ys all.1 x more)
 
 -- ---- what is found
 
@@ -82,6 +123,10 @@ none_found p (y ∷ ys) h = by (p y) refl (none_found p ys)
     by : (b : Bool) → p y ≡ b → (find p ys ≡ None → AllByRecursion (λ x. p x ≡ false) ys) → (p y ≡ false) × AllByRecursion (λ x. p x ≡ false) ys
     by true e rest = let is : Some y ≡ None = rw e at h in absurd (none-some y (sym is))
     by false e rest = (e, rest (rw e at h))
+
+pub find_none : {X : Type 0} (p : X → Bool) (xs : List X) → AllByRecursion (λ x. p x ≡ false) xs → find p xs ≡ None
+find_none p [] all = refl
+find_none p (x ∷ xs) all = rw all.0 (find_none p xs all.1)
 
 -- ---- filters that keep all, or none
 
@@ -125,6 +170,12 @@ pub part_append : {X : Type 0} {xs ys us vs : List X} → IsPart xs ys → IsPar
 part_append nothing more = more
 part_append (kept part) more = kept (part_append part more)
 part_append (dropped part) more = dropped (part_append part more)
+
+pub part_trans : {X : Type 0} {xs ys zs : List X} → IsPart xs ys → IsPart ys zs → IsPart xs zs
+part_trans part nothing = part
+part_trans (kept part) (kept more) = kept (part_trans part more)
+part_trans (dropped part) (kept more) = dropped (part_trans part more)
+part_trans part (dropped more) = dropped (part_trans part more)
 
 pub part_all_of : {X : Type 0} (P : X → Type 0) {xs ys : List X} → IsPart xs ys → AllByRecursion P ys → AllByRecursion P xs
 part_all_of P nothing all = tt

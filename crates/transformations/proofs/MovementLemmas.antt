@@ -1,5 +1,5 @@
 -- Movements in flight: one that is prepared, one that goes on, and one that is done.
-use Rattle.std.proofs.Common.{◌≡◌, ℕ, ◌≤◌, Bool, true, false, cond, not, ◌&&◌, ◌==◌, ℤ, List, [], ◌∷◌, ◌++◌, map, filter, find, length, Some, nat_le, if◌then◌else◌, true≢false, refl, sym, ap, ◌∙◌, subst, arith}
+use Rattle.std.proofs.Common.{◌≡◌, ℕ, ◌≤◌, Bool, true, false, cond, not, ◌&&◌, ◌==◌, ℤ, List, [], ◌∷◌, ◌++◌, map, filter, find, length, Some, None, is_some, nat_le, if◌then◌else◌, true≢false, refl, sym, ap, ◌∙◌, subst, arith}
 use Rattle.std.proofs.lemmas.Bool.Decides.{nat_tests}
 use Rattle.std.proofs.lemmas.Cmp.{nat_cmp_total, on_total, ranked}
 use Rattle.std.proofs.lemmas.List.Sorted.{IsPermutation-append_right, IsPermutation-refl, IsPermutation-trans}
@@ -14,11 +14,14 @@ use Rattle.std.specs.declared.cmp.Ordering.TheVariants.{Less, Equal, Greater}
 use Rattle.cluster_terms.specs.Ascending.{put, put_all}
 use Rattle.cluster_terms.specs.declared.token.Pair.{Pair}
 use Rattle.transformations.proofs.AcceptedLemmas.{IsIdle, same_id}
-use Rattle.transformations.proofs.ListLemmas.{all_map, all_weaker, exchanged, filter_all}
+use Rattle.transformations.proofs.ListLemmas.{all_map, all_weaker, exchanged, filter_all, find_none, put_permutes}
 use Rattle.transformations.proofs.RingLemmas.{length-pairs, pairs_own, pairs_sorted, tokens_sorted}
 use Rattle.transformations.specs.History.{are_tokens, ascend}
-use Rattle.transformations.specs.Orders.{by_node, by_token, same_pair}
-use Rattle.transformations.specs.Rings.{incoming, outgoing}
+use Rattle.cluster_terms.specs.Pair.{same_pair}
+use Rattle.transformations.specs.Orders.{by_node, by_token}
+use Rattle.transformations.specs.Ranges.{moved_by}
+use Rattle.transformations.specs.Refusals.{with_movement}
+use Rattle.transformations.specs.Rings.{incoming, outgoing, widest}
 use Rattle.transformations.specs.States.{is_joined}
 use Rattle.transformations.specs.Steps.{at_phase, join_of, others, ring_after}
 use Rattle.transformations.specs.Valid.{IsJoin, is_standing}
@@ -83,6 +86,11 @@ ring_after-join ring s out =
 apart_ties : (n m : ℕ) → (m == n) ≡ false → is_eq (nat_cmp n m) ≡ false
 apart_ties n m h = grind (arith, nat_tests)
 
+pub sequences_put : (j : SeqRow) (sequences : List SeqRow) → AllByRecursion (λ s. (s.node == j.node) ≡ false) sequences → IsPermutation (j ∷ sequences) (put by_node j sequences)
+sequences_put j sequences apart =
+    put_permutes by_node j sequences
+    (all_weaker (λ (s : SeqRow). (s.node == j.node) ≡ false) (λ (s : SeqRow). is_eq (by_node j s) ≡ false) (λ s other. apart_ties j.node s.node other) sequences apart)
+
 pub incoming_put : (j : SeqRow) (sequences : List SeqRow) → AllByRecursion (λ s. (s.node == j.node) ≡ false) sequences → IsPermutation (j.in_pairs ++ incoming sequences) (incoming (put by_node j sequences))
 incoming_put j [] all = IsPermutation-refl (j.in_pairs ++ [])
 incoming_put j (s ∷ sequences) all = by (by_node j s) (apart_ties j.node s.node all.0) (incoming_put j sequences all.1)
@@ -95,6 +103,36 @@ incoming_put j (s ∷ sequences) all = by (by_node j s) (apart_ties j.node s.nod
         IsPermutation-trans (j.in_pairs ++ (s.in_pairs ++ incoming sequences)) (s.in_pairs ++ (j.in_pairs ++ incoming sequences)) (s.in_pairs ++ incoming (put by_node j sequences))
         (exchanged j.in_pairs s.in_pairs (incoming sequences))
         (IsPermutation-append_right s.in_pairs (j.in_pairs ++ incoming sequences) (incoming (put by_node j sequences)) rest)
+
+-- all that may come to stand with it
+pub widest_with : (image : Image) (j : SeqRow) → AllByRecursion (λ s. (s.node == j.node) ≡ false) image.sequences → IsPermutation (j.in_pairs ++ widest image) (widest (with_movement image j))
+widest_with image j apart =
+    IsPermutation-trans (j.in_pairs ++ (image.tokens ++ incoming image.sequences)) (image.tokens ++ (j.in_pairs ++ incoming image.sequences)) (image.tokens ++ incoming (put by_node j image.sequences))
+    (exchanged j.in_pairs image.tokens (incoming image.sequences))
+    (IsPermutation-append_right image.tokens (j.in_pairs ++ incoming image.sequences) (incoming (put by_node j image.sequences)) (incoming_put j image.sequences apart))
+
+-- the others are those before
+others_all : (n : ℕ) (sequences : List SeqRow) → AllByRecursion (λ s. (s.node == n) ≡ false) sequences → others sequences n ≡ sequences
+others_all n sequences all =
+    filter_all (λ (s : SeqRow). not (s.node == n)) sequences
+    (all_weaker (λ (s : SeqRow). (s.node == n) ≡ false) (λ (s : SeqRow). not (s.node == n) ≡ true) (λ s other. ap not other) sequences all)
+
+others_after : (j : SeqRow) (sequences : List SeqRow) → others (j ∷ sequences) j.node ≡ others sequences j.node
+others_after j sequences = ap (λ b. cond (not b) (j ∷ others sequences j.node) (others sequences j.node)) (itself j.node)
+  where
+    itself : (n : ℕ) → (n == n) ≡ true
+    itself n = grind (arith, nat_tests)
+
+pub others_put : (j : SeqRow) (sequences : List SeqRow) → AllByRecursion (λ s. (s.node == j.node) ≡ false) sequences → others (put by_node j sequences) j.node ≡ sequences
+others_put j [] all = others_after j []
+others_put j (s ∷ sequences) all = by (by_node j s) (apart_ties j.node s.node all.0) (others_put j sequences all.1)
+  where
+    by : (o : Ordering) → is_eq o ≡ false → others (put by_node j sequences) j.node ≡ sequences
+        → others (match_ordering o (j ∷ (s ∷ sequences)) (j ∷ sequences) (s ∷ put by_node j sequences)) j.node ≡ s ∷ sequences
+    by Less e rest = others_after j (s ∷ sequences) ∙ others_all j.node (s ∷ sequences) all
+    by Equal e rest = absurd (true≢false e)
+    by Greater e rest =
+        ap (λ b. cond (not b) (s ∷ others (put by_node j sequences) j.node) (others (put by_node j sequences) j.node)) all.0 ∙ ap (λ l. s ∷ l) rest
 
 -- ---- a movement less
 
@@ -127,6 +165,15 @@ incoming_without n (q ∷ sequences) s up found = by (q.node == n) refl found (i
         (IsPermutation-append_right q.in_pairs (incoming sequences) (s.in_pairs ++ incoming (others sequences n)) (rest found))
         (exchanged q.in_pairs s.in_pairs (incoming (others sequences n)))
 
+-- all that may come to stand, with its pairs apart
+pub widest_without : (image : Image) (s : SeqRow) → IsStrictlySortedBy by_node image.sequences → find (λ (q : SeqRow). q.node == s.node) image.sequences ≡ Some s
+    → IsPermutation (widest image) (s.in_pairs ++ (image.tokens ++ incoming (others image.sequences s.node)))
+widest_without image s up found =
+    let rest : List SeqRow = others image.sequences s.node in
+    IsPermutation-trans (image.tokens ++ incoming image.sequences) (image.tokens ++ (s.in_pairs ++ incoming rest)) (s.in_pairs ++ (image.tokens ++ incoming rest))
+    (IsPermutation-append_right image.tokens (incoming image.sequences) (s.in_pairs ++ incoming rest) (incoming_without s.node image.sequences s up found))
+    (exchanged image.tokens s.in_pairs (incoming rest))
+
 -- the others are of other nodes
 pub others_apart : (n : ℕ) (sequences : List SeqRow) → AllByRecursion (λ s. (s.node == n) ≡ false) (others sequences n)
 others_apart n [] = tt
@@ -135,6 +182,16 @@ others_apart n (s ∷ sequences) = by (s.node == n) refl (others_apart n sequenc
     by : (b : Bool) → (s.node == n) ≡ b → AllByRecursion (λ q. (q.node == n) ≡ false) (others sequences n) → AllByRecursion (λ q. (q.node == n) ≡ false) (cond (not b) (s ∷ others sequences n) (others sequences n))
     by true e rest = rest
     by false e rest = (e, rest)
+
+-- a node that still has a movement is another one
+pub still_other : (n m : ℕ) (sequences : List SeqRow) → is_some (find (λ (s : SeqRow). s.node == m) (others sequences n)) ≡ true → (m == n) ≡ false
+still_other n m sequences some = by (m == n) refl
+  where
+    by : (b : Bool) → (m == n) ≡ b → (m == n) ≡ false
+    by false e = e
+    by true e =
+        let gone : find (λ (s : SeqRow). s.node == n) (others sequences n) ≡ None = find_none (λ (s : SeqRow). s.node == n) (others sequences n) (others_apart n sequences) in
+        absurd (true≢false (sym some ∙ ap (λ k. is_some (find (λ (s : SeqRow). s.node == k) (others sequences n))) (same_id m n e) ∙ ap is_some gone))
 
 -- ---- a movement in another phase
 
@@ -177,3 +234,17 @@ module _ (phase : Phase) (n : ℕ) where
   pub phase_incoming : (sequences : List SeqRow) → incoming (map (at_phase phase n) sequences) ≡ incoming sequences
   phase_incoming [] = refl
   phase_incoming (s ∷ sequences) = ap (λ l. l ++ incoming (map (at_phase phase n) sequences)) (phase_in_pairs s) ∙ ap (λ l. s.in_pairs ++ l) (phase_incoming sequences)
+
+  phase_out_pairs : (s : SeqRow) → (at_phase phase n s).out_pairs ≡ s.out_pairs
+  phase_out_pairs s = by (s.node == n)
+    where
+      by : (b : Bool) → (let changed : SeqRow = record s { phase = phase } in if b then changed else s).out_pairs ≡ s.out_pairs
+      by true = refl
+      by false = refl
+
+  pub phase_outgoing : (sequences : List SeqRow) → outgoing (map (at_phase phase n) sequences) ≡ outgoing sequences
+  phase_outgoing [] = refl
+  phase_outgoing (s ∷ sequences) = λ i. phase_out_pairs s i ++ phase_outgoing sequences i
+
+  pub phase_moved : (s : SeqRow) → moved_by (at_phase phase n s) ≡ moved_by s
+  phase_moved s = λ i. phase_out_pairs s i ++ phase_in_pairs s i

@@ -58,6 +58,13 @@ standing_push nodes more n h = ap stands (find-append (λ (row : NodeRow). row.i
     by None p h = absurd (true≢false (sym h))
     by (Some row) p h = h
 
+pub row_push : (nodes more : List NodeRow) (n : ℕ) → is_standing nodes n ≡ true → row_of nodes n ≡ row_of (nodes ++ more) n
+row_push nodes more n h = sym (find-append (λ (row : NodeRow). row.id == n) nodes more ∙ by (row_of nodes n) h)
+  where
+    by : (o : Option NodeRow) → stands o ≡ true → option_or o (row_of more n) ≡ o
+    by None h = absurd (true≢false (sym h))
+    by (Some row) h = refl
+
 -- ---- one less
 
 abbrev without : List NodeRow → ℕ → List NodeRow
@@ -76,7 +83,7 @@ nodes_without nodes next n h =
     }
 
 -- the row of another node stays
-row_without : (nodes : List NodeRow) (n m : ℕ) → (m == n) ≡ false → row_of (without nodes n) m ≡ row_of nodes m
+pub row_without : (nodes : List NodeRow) (n m : ℕ) → (m == n) ≡ false → row_of (without nodes n) m ≡ row_of nodes m
 row_without [] n m other = refl
 row_without (row ∷ nodes) n m other = by (row.id == n) refl (row_without nodes n m other)
   where

@@ -44,12 +44,15 @@ few_moved pairs others moved h = record {
 }
 
 -- pairs put into a ring stand there beside its own
-pub put_into_ring : (pairs ring more : List Pair) → AreFew (pairs ++ (ring ++ more)) → IsPermutation (pairs ++ (ring ++ more)) (put_all by_token pairs ring ++ more)
-put_into_ring pairs ring more h =
+pub put_permuted : (pairs ring more : List Pair) → AreFew (pairs ++ (ring ++ more)) → IsPermutation (pairs ++ ring) (put_all by_token pairs ring)
+put_permuted pairs ring more h =
     let whole : IsDistinct int_eq (tokens_of ((pairs ++ ring) ++ more)) = rw (append_assoc pairs ring more) h.fresh in
     let front : IsDistinct int_eq (tokens_of (pairs ++ ring)) = part_distinct int_eq (part_map (λ (p : Pair). p.token) (part_front (pairs ++ ring) more)) whole in
-    let moved = put_all_permutes by_token pairs ring (distinct_by int_eq (λ (p : Pair). p.token) (pairs ++ ring) front) in
-    rw (← append_assoc pairs ring more) (IsPermutation-append_left more (pairs ++ ring) (put_all by_token pairs ring) moved)
+    put_all_permutes by_token pairs ring (distinct_by int_eq (λ (p : Pair). p.token) (pairs ++ ring) front)
+
+pub put_into_ring : (pairs ring more : List Pair) → AreFew (pairs ++ (ring ++ more)) → IsPermutation (pairs ++ (ring ++ more)) (put_all by_token pairs ring ++ more)
+put_into_ring pairs ring more h =
+    rw (← append_assoc pairs ring more) (IsPermutation-append_left more (pairs ++ ring) (put_all by_token pairs ring) (put_permuted pairs ring more h))
 
 -- ---- the pairs that a command brings
 

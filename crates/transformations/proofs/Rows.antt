@@ -1,7 +1,8 @@
 -- Small clusters, and what the definitions say of them. Each fact is computed.
-use Rattle.std.specs.Prelude.{◌≡◌, ℕ, false, true, ℤ, pos, negsuc, List, [], ◌∷◌, Some, None, refl, codes}
+use Rattle.std.specs.Prelude.{◌≡◌, ℕ, false, true, ℤ, pos, negsuc, List, [], ◌∷◌, ◌++◌, Some, None, refl, codes}
 use Rattle.cluster_terms.specs.Arc.{greatest_token}
 use Rattle.cluster_terms.specs.Group.{is_chosen_rack, is_replica, place}
+use Rattle.cluster_terms.specs.Reach.{reaches}
 use Rattle.cluster_terms.specs.Row.{rows_between}
 use Rattle.cluster_terms.specs.declared.node.NodeRow.{NodeRow}
 use Rattle.cluster_terms.specs.declared.replication.Replication.{Replication}
@@ -9,14 +10,15 @@ use Rattle.cluster_terms.specs.declared.replication.Replication.TheVariants.{Sim
 use Rattle.cluster_terms.specs.declared.token.Pair.{Pair}
 use Rattle.cluster_terms.specs.declared.token.RightEnd.TheVariants.{At, Max}
 use Rattle.transformations.specs.History.{next_image, state_after, IsHistory}
-use Rattle.transformations.specs.Refusals.{refusal_of}
+use Rattle.transformations.specs.Ranges.{in_ranges}
+use Rattle.transformations.specs.Refusals.{refusal_of, early_refusal_of, locked}
 use Rattle.transformations.specs.Rings.{reads_at, writes_at, cuts}
 use Rattle.transformations.specs.States.{node_state, state_of_row}
 use Rattle.transformations.specs.declared.command.Command.{Command}
 use Rattle.transformations.specs.declared.command.Command.TheVariants.{Register, Unregister, UnsafeJoin, Keyspace, DropKeyspace, PrepareJoin, Step}
 use Rattle.transformations.specs.declared.image.Image.{Image}
 use Rattle.transformations.specs.declared.keyspace.KeyspaceRow.{KeyspaceRow}
-use Rattle.transformations.specs.declared.refusal.Refusal.TheVariants.{NameTaken, NoNode, WrongState, TokenTaken, NoKeyspace, InSequence, NoSequence, WrongStep, NotIdle}
+use Rattle.transformations.specs.declared.refusal.Refusal.TheVariants.{NameTaken, NoNode, WrongState, TokenTaken, NoKeyspace, InSequence, NoSequence, WrongStep, NotIdle, Locked}
 use Rattle.transformations.specs.declared.sequence.Goal.TheVariants as goal
 use Rattle.transformations.specs.declared.sequence.Kind.TheVariants.{Join, Move}
 use Rattle.transformations.specs.declared.sequence.Phase.{Phase}
@@ -182,7 +184,7 @@ one_node_history = Register (codes "a") (codes "dc1") (codes "r1") ∷ UnsafeJoi
 
 -- they are accepted one after another, and make it
 pub one_node_after : IsHistory one_node_history × (state_after one_node_history 3 ≡ one_node_image)
-unfolding next_image refusal_of state_of_row
+unfolding next_image refusal_of early_refusal_of state_of_row
 one_node_after = (refl, refl)
 
 -- the commands that make the cluster of four nodes
@@ -196,30 +198,30 @@ four_nodes_history = register_in_r1 (codes "a") ∷ register_in_r1 (codes "b") �
 
 -- they are accepted one after another, and make it
 pub four_nodes_after : IsHistory four_nodes_history × (state_after four_nodes_history 11 ≡ four_nodes_image)
-unfolding next_image refusal_of state_of_row
+unfolding next_image refusal_of early_refusal_of state_of_row
 four_nodes_after = (refl, refl)
 
 -- a node of the cluster has the name that is to be registered
 pub name_taken : refusal_of one_node_image (Register (codes "a") (codes "dc2") (codes "r2")) ≡ Some (NameTaken 1)
-unfolding refusal_of
+unfolding refusal_of early_refusal_of
 name_taken = refl
 
 -- a node that isn't registered gets no tokens, and is not removed
 pub no_node : (refusal_of one_node_image (UnsafeJoin 2 (pos 0 ∷ [])) ≡ Some NoNode) × (refusal_of one_node_image (Unregister 2) ≡ Some NoNode)
-unfolding refusal_of
+unfolding refusal_of early_refusal_of
 no_node = (refl, refl)
 
 -- a node that has tokens gets no others at once, whether they are taken or not, and is not removed
 pub joined_stays : (refusal_of one_node_image (UnsafeJoin 1 (pos 0 ∷ [])) ≡ Some (WrongState Joined))
     × (refusal_of one_node_image (UnsafeJoin 1 (pos 7 ∷ [])) ≡ Some (WrongState Joined))
     × (refusal_of one_node_image (Unregister 1) ≡ Some (WrongState Joined))
-unfolding refusal_of state_of_row
+unfolding refusal_of early_refusal_of state_of_row
 joined_stays = (refl, refl, refl)
 
 -- the least token that stands in the ring already is refused, and so is one that a movement brings
 pub token_taken : (refusal_of four_nodes_image (UnsafeJoin 5 (negsuc 4 ∷ pos 0 ∷ pos 200 ∷ [])) ≡ Some (TokenTaken (pos 0)))
     × (refusal_of (joining_image 12 Prepared) (PrepareJoin 6 (pos 149 ∷ pos 150 ∷ [])) ≡ Some (TokenTaken (pos 150)))
-unfolding refusal_of state_of_row
+unfolding refusal_of early_refusal_of state_of_row
 token_taken = (refl, refl)
 
 -- a node that is removed makes room for its name, and for its id never
@@ -229,7 +231,7 @@ removed_history = register_in_r1 (codes "a") ∷ register_in_r1 (codes "b") ∷ 
 pub ids_are_not_used_again : IsHistory removed_history
     × ((state_after removed_history 4).nodes ≡ dc1_node 1 (codes "a") (codes "r1") ∷ dc1_node 3 (codes "b") (codes "r1") ∷ [])
     × (refusal_of (state_after removed_history 4) (Unregister 2) ≡ Some NoNode)
-unfolding next_image refusal_of state_of_row
+unfolding next_image refusal_of early_refusal_of state_of_row
 ids_are_not_used_again = (refl, refl, refl)
 
 -- a keyspace that is dropped is gone, and is not dropped again
@@ -237,7 +239,7 @@ pub keyspace_dropped : (next_image one_node_image (DropKeyspace (codes "ks")) �
     × (refusal_of one_node_image (DropKeyspace (codes "ks")) ≡ None)
     × (refusal_of one_node_image (DropKeyspace (codes "kt")) ≡ Some NoKeyspace)
     × (refusal_of (next_image one_node_image (DropKeyspace (codes "ks"))) (DropKeyspace (codes "ks")) ≡ Some NoKeyspace)
-unfolding next_image refusal_of
+unfolding next_image refusal_of early_refusal_of
 keyspace_dropped = (refl, refl, refl, refl)
 
 -- ---- the states of nodes
@@ -262,7 +264,7 @@ left_image = record one_node_image { nodes = record (dc1_node 1 (codes "a") (cod
 pub left_node : (node_state left_image 1 ≡ Some Left)
     × (refusal_of left_image (Unregister 1) ≡ None)
     × (refusal_of left_image (UnsafeJoin 1 (pos 0 ∷ [])) ≡ Some (WrongState Left))
-unfolding refusal_of state_of_row
+unfolding refusal_of early_refusal_of state_of_row
 left_node = (refl, refl, refl)
 
 -- ---- a join, step by step
@@ -283,16 +285,65 @@ pub wrong_steps : (refusal_of (joining_image 13 Started) (Step goal.Finish Join 
     × (refusal_of (joining_image 13 Started) (Step goal.Mid Join 1) ≡ Some NoSequence)
     × (refusal_of (joining_image 13 Started) (Step goal.Mid Join 77) ≡ Some NoNode)
     × (refusal_of (joining_image 13 Started) (Step goal.Mid Join 5) ≡ None)
-unfolding refusal_of
+unfolding refusal_of early_refusal_of
 wrong_steps = (refl, refl, refl, refl, refl, refl)
 
 -- while a node joins, it is left alone, and the ring and the keyspaces stay as they are
 pub while_joining : (refusal_of (joining_image 12 Prepared) (Unregister 5) ≡ Some (InSequence 5))
     × (refusal_of (joining_image 12 Prepared) (UnsafeJoin 6 (pos 150 ∷ [])) ≡ Some (NotIdle 5))
-    × (refusal_of (joining_image 12 Prepared) (PrepareJoin 6 (pos 250 ∷ [])) ≡ Some (NotIdle 5))
     × (refusal_of (joining_image 12 Prepared) (Keyspace (codes "k2") (Simple 1)) ≡ Some (NotIdle 5))
     × (refusal_of (joining_image 12 Prepared) (DropKeyspace (codes "ks")) ≡ Some (NotIdle 5))
     × (refusal_of (joining_image 12 Prepared) (DropKeyspace (codes "zz")) ≡ Some NoKeyspace)
     × (refusal_of (joining_image 12 Prepared) (Unregister 6) ≡ None)
-unfolding refusal_of state_of_row
-while_joining = (refl, refl, refl, refl, refl, refl, refl)
+unfolding refusal_of early_refusal_of state_of_row
+while_joining = (refl, refl, refl, refl, refl, refl)
+
+-- ---- joins at the same time
+
+-- a further join is refused where its ranges overlap those of the first
+pub join_locked : (refusal_of (joining_image 12 Prepared) (PrepareJoin 6 (pos 250 ∷ [])) ≡ Some (Locked 5 (At (pos 100))))
+unfolding refusal_of early_refusal_of locked in_ranges reaches state_of_row
+join_locked = refl
+
+-- two nodes without tokens, the first of which joins at 0, and a keyspace with one replica
+abbrev pub first_join_image : Image
+first_join_image =
+    let join : SeqRow = record { node = 1; kind = Join; out_pairs = []; in_pairs = pair (pos 0) 1 ∷ []; phase = Prepared } in
+    record {
+      epoch = 4;
+      next = 3;
+      nodes = dc1_node 1 (codes "a") (codes "r1") ∷ dc1_node 2 (codes "b") (codes "r1") ∷ [];
+      tokens = [];
+      keyspaces = keyspace (codes "ks") (Simple 1) ∷ [];
+      sequences = join ∷ [];
+    }
+
+-- on the empty ring a join reaches every token
+pub joins_on_empty_ring : refusal_of first_join_image (PrepareJoin 2 (pos 100 ∷ [])) ≡ Some (Locked 1 (At (pos 0)))
+unfolding refusal_of early_refusal_of locked in_ranges reaches state_of_row
+joins_on_empty_ring = refl
+
+-- racks a and b, with a node of rack c that joins at 50, and a further node of rack a
+abbrev pub racks_joining_image : Image
+racks_joining_image =
+    let join : SeqRow = record { node = 5; kind = Join; out_pairs = []; in_pairs = pair (pos 50) 5 ∷ []; phase = Prepared } in
+    record racks_image {
+      epoch = 12;
+      next = 7;
+      nodes = racks_image.nodes ++ dc1_node 5 (codes "e") (codes "c") ∷ dc1_node 6 (codes "f") (codes "a") ∷ [];
+      sequences = join ∷ [];
+    }
+
+-- a third rack changes the shape, so the join reaches every token
+pub racks_locked : refusal_of racks_joining_image (PrepareJoin 6 (pos 150 ∷ [])) ≡ Some (Locked 5 (At (pos 0)))
+unfolding refusal_of early_refusal_of locked in_ranges reaches state_of_row
+racks_locked = refl
+
+-- four nodes and the join at 150, under a keyspace with one replica
+abbrev pub far_image : Image
+far_image = record four_nodes_image { keyspaces = keyspace (codes "ks") (Simple 1) ∷ []; sequences = (joining_image 12 Prepared).sequences }
+
+-- a join whose ranges overlap no other's is accepted
+pub join_apart : refusal_of far_image (PrepareJoin 6 (pos 50 ∷ [])) ≡ None
+unfolding refusal_of early_refusal_of locked in_ranges reaches state_of_row
+join_apart = refl

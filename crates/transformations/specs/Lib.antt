@@ -1,6 +1,8 @@
 pub mod History
 pub mod Orders
+pub mod Ranges
 pub mod Refusals
+pub mod RingKind
 pub mod Rings
 pub mod States
 pub mod Steps

@@ -1,6 +1,5 @@
 -- The orders in which an image keeps its rows.
-use Rattle.std.specs.Prelude.{Bool, ◌&&◌, ◌==◌}
-use Rattle.std.specs.Ordering.{nat_cmp, int_cmp, int_eq}
+use Rattle.std.specs.Ordering.{nat_cmp, int_cmp}
 use Rattle.std.specs.Cmp.Lexicographic.{slice_cmp}
 use Rattle.std.specs.declared.cmp.Ordering.{Ordering}
 use Rattle.cluster_terms.specs.declared.token.Pair.{Pair}
@@ -18,7 +17,3 @@ by_name k l = slice_cmp nat_cmp k.name l.name
 -- movements by node
 abbrev pub by_node : SeqRow → SeqRow → Ordering
 by_node s q = nat_cmp s.node q.node
-
--- whether two pairs are the same
-abbrev pub same_pair : Pair → Pair → Bool
-same_pair p q = int_eq p.token q.token && (p.node == q.node)

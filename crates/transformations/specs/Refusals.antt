@@ -4,15 +4,18 @@ use Rattle.std.specs.List.{list_any}
 use Rattle.std.specs.Ordering.{int_eq}
 use Rattle.std.specs.Set.{distinct_count}
 use Rattle.std.specs.Str.{bytes_eq}
+use Rattle.cluster_terms.specs.Ascending.{put}
 use Rattle.cluster_terms.specs.NodeRow.{row_of}
+use Rattle.transformations.specs.Orders.{by_node}
+use Rattle.transformations.specs.Ranges.{first_shared}
 use Rattle.transformations.specs.Rings.{widest}
 use Rattle.transformations.specs.States.{node_state}
-use Rattle.transformations.specs.Steps.{movement_of, takes_part, is_next_step}
+use Rattle.transformations.specs.Steps.{join_of, movement_of, takes_part, is_next_step, others}
 use Rattle.transformations.specs.declared.command.Command.{Command}
 use Rattle.transformations.specs.declared.command.Command.TheVariants.{Register, Unregister, UnsafeJoin, Keyspace, DropKeyspace, PrepareJoin, Step}
 use Rattle.transformations.specs.declared.image.Image.{Image}
 use Rattle.transformations.specs.declared.refusal.Refusal.{Refusal}
-use Rattle.transformations.specs.declared.refusal.Refusal.TheVariants.{NameTaken, NodesFull, NoNode, WrongState, InSequence, NoSequence, WrongStep, TokenTaken, TokensFull, NotIdle, NoKeyspace, KeyspacesFull}
+use Rattle.transformations.specs.declared.refusal.Refusal.TheVariants.{NameTaken, NodesFull, NoNode, WrongState, InSequence, NoSequence, WrongStep, TokenTaken, TokensFull, NotIdle, NoKeyspace, KeyspacesFull, Locked}
 use Rattle.transformations.specs.declared.sequence.Goal.{Goal}
 use Rattle.transformations.specs.declared.sequence.Kind.{Kind}
 use Rattle.transformations.specs.declared.sequence.SeqRow.{SeqRow}
@@ -114,18 +117,42 @@ first_of [] = None
 first_of (Some refusal ∷ later) = Some refusal
 first_of (None ∷ later) = first_of later
 
--- the refusals of each command in their order, of which the first that comes is answered; a command's tokens ascend
-unfoldable pub refusal_of : Image → Command → Option Refusal
-refusal_of image (Register name dc rack) = first_of (name_taken image name ∷ nodes_full image ∷ [])
-refusal_of image (Unregister node) =
+-- a new movement, in the image that has it, overlaps another one: the node of the first such one is shown, and the right
+-- end of the first row that is in the ranges of both
+abbrev pub with_movement : Image → SeqRow → Image
+with_movement image s = record image { sequences = put by_node s image.sequences }
+
+abbrev pub locked_by : Image → SeqRow → SeqRow → Option Refusal
+locked_by image s q = option_map (Locked q.node) (first_shared image s q)
+
+unfoldable pub locked : Image → SeqRow → Option Refusal
+locked image s = first_of (map (locked_by image s) (others image.sequences s.node))
+
+-- the refusals of each command in their order, but for that of ranges that are locked, of which the first that comes is
+-- answered; a command's tokens ascend
+unfoldable pub early_refusal_of : Image → Command → Option Refusal
+early_refusal_of image (Register name dc rack) = first_of (name_taken image name ∷ nodes_full image ∷ [])
+early_refusal_of image (Unregister node) =
     first_of (no_node image node ∷ in_sequence image node ∷ wrong_state is_idle_or_left image node ∷ [])
-refusal_of image (UnsafeJoin node tokens) =
+early_refusal_of image (UnsafeJoin node tokens) =
     first_of (no_node image node ∷ in_sequence image node ∷ wrong_state is_idle image node ∷ not_idle image.sequences
     ∷ token_taken image tokens ∷ tokens_full image tokens ∷ [])
-refusal_of image (Keyspace name replication) = first_of (keyspaces_full image name ∷ not_idle image.sequences ∷ [])
-refusal_of image (DropKeyspace name) = first_of (no_keyspace image name ∷ not_idle image.sequences ∷ [])
-refusal_of image (PrepareJoin node tokens) =
+early_refusal_of image (Keyspace name replication) = first_of (keyspaces_full image name ∷ not_idle image.sequences ∷ [])
+early_refusal_of image (DropKeyspace name) = first_of (no_keyspace image name ∷ not_idle image.sequences ∷ [])
+early_refusal_of image (PrepareJoin node tokens) =
     first_of (no_node image node ∷ in_sequence image node ∷ wrong_state is_idle image node
-    ∷ token_taken image tokens ∷ tokens_full image tokens ∷ not_idle image.sequences ∷ [])
-refusal_of image (Step goal kind node) =
+    ∷ token_taken image tokens ∷ tokens_full image tokens ∷ [])
+early_refusal_of image (Step goal kind node) =
     first_of (no_node image node ∷ no_sequence image node ∷ wrong_step goal kind image node ∷ [])
+
+-- the movement that a command prepares; and its ranges are locked
+abbrev pub prepared_by : Command → Option SeqRow
+prepared_by (PrepareJoin node tokens) = Some (join_of node tokens)
+prepared_by _ = None
+
+abbrev pub ranges_locked : Image → Command → Option Refusal
+ranges_locked image command = option_and_then (λ s. locked (with_movement image s) s) (prepared_by command)
+
+-- the first refusal of a command; that of locked ranges is the last
+unfoldable pub refusal_of : Image → Command → Option Refusal
+refusal_of image command = first_of (early_refusal_of image command ∷ ranges_locked image command ∷ [])

@@ -7,7 +7,7 @@ use Rattle.cluster_terms.specs.Group.{place}
 use Rattle.cluster_terms.specs.Replication.{groups_of}
 use Rattle.cluster_terms.specs.declared.token.Pair.{Pair}
 use Rattle.cluster_terms.specs.declared.replication.Replication.{Replication}
-use Rattle.transformations.specs.Orders.{same_pair}
+use Rattle.cluster_terms.specs.Pair.{same_pair}
 use Rattle.transformations.specs.declared.image.Image.{Image}
 use Rattle.transformations.specs.declared.sequence.Phase.{Phase}
 use Rattle.transformations.specs.declared.sequence.Phase.TheVariants.{Prepared, Started, Mid}

@@ -4,7 +4,8 @@ use Rattle.std.specs.List.{list_any}
 use Rattle.std.specs.Set.{is_member}
 use Rattle.cluster_terms.specs.Ascending.{put_all}
 use Rattle.cluster_terms.specs.declared.token.Pair.{Pair}
-use Rattle.transformations.specs.Orders.{by_token, same_pair}
+use Rattle.cluster_terms.specs.Pair.{same_pair}
+use Rattle.transformations.specs.Orders.{by_token}
 use Rattle.transformations.specs.declared.image.Image.{Image}
 use Rattle.transformations.specs.declared.sequence.Goal.{Goal}
 use Rattle.transformations.specs.declared.sequence.Goal.TheVariants as goal

@@ -8,6 +8,7 @@ use Rattle.cluster_terms.specs.NodeRow.{row_of}
 use Rattle.cluster_terms.specs.declared.node.NodeRow.{NodeRow}
 use Rattle.transformations.specs.History.{most_epochs}
 use Rattle.transformations.specs.Orders.{by_token, by_name, by_node}
+use Rattle.transformations.specs.Ranges.{AreApart}
 use Rattle.transformations.specs.Refusals.{most_nodes, most_tokens, most_keyspaces}
 use Rattle.transformations.specs.Rings.{widest}
 use Rattle.transformations.specs.States.{is_joined, node_tokens}
@@ -48,8 +49,9 @@ pub record IsJoin (image : Image) (s : SeqRow) : Type 0 where
   pub stands : is_standing image.nodes s.node ≡ true
   pub bare : is_joined image s.node ≡ false
 
--- an image that commands lead to
-pub record IsValid (image : Image) : Type 0 where
+-- an image that is sound taken list by list: all that holds of an image that commands lead to, but for the ranges of its
+-- movements
+pub record IsSound (image : Image) : Type 0 where
   pub epochs : image.epoch ≤ most_epochs
   pub first_id : 1 ≤ image.next
   pub next_id : image.next ≤ image.epoch + 1
@@ -62,3 +64,8 @@ pub record IsValid (image : Image) : Type 0 where
   -- no token stands twice, in the ring or in what movements bring, and there are at most 16,384
   pub fresh : IsDistinct int_eq (map (λ p. p.token) (widest image))
   pub few_tokens : length (widest image) ≤ most_tokens
+
+-- an image that commands lead to: no two of its movements overlap
+pub record IsValid (image : Image) : Type 0 where
+  pub sound : IsSound image
+  pub apart : AreApart image

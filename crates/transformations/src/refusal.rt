@@ -1,6 +1,6 @@
 use crate::sequence::{Kind, Phase};
 use crate::state::NodeState;
-use cluster_terms::{NodeId, Token};
+use cluster_terms::{NodeId, RightEnd, Token};
 
 /// Why a command was refused.
 #[derive(Clone, Copy, Debug, PartialEq, Eq)]
@@ -29,6 +29,9 @@ pub enum Refusal {
     NoKeyspace,
     /// 64 keyspaces are there, and none of them has the name.
     KeyspacesFull,
+    /// The ranges of the new movement overlap those of this node's, the least such one. The right end is that of the
+    /// first row between cuts that lies in the ranges of both under the replication of one keyspace.
+    Locked(NodeId, RightEnd),
     /// 65,536 epochs are committed.
     EpochsFull,
 }

@@ -1,7 +1,7 @@
 ghost use Rattle.std.specs.Prelude.{◌≡◌, [], ◌∷◌, not, IfOk, MatchOption};
 ghost use Rattle.std.specs.List.{list_any};
 ghost use Rattle.std.specs.Ordering.{int_eq};
-ghost use Rattle.transformations.specs.Refusals.{has_keyspace, in_sequence, is_idle, is_idle_or_left, is_registered, is_taken, keyspaces_full, name_taken, no_keyspace, no_node, no_sequence, nodes_full, not_idle, first_of, refusal_of, refused_if, token_taken, tokens_full, wrong_state, wrong_step};
+ghost use Rattle.transformations.specs.Refusals.{has_keyspace, in_sequence, is_idle, is_idle_or_left, is_registered, is_taken, keyspaces_full, name_taken, no_keyspace, no_node, no_sequence, nodes_full, not_idle, first_of, early_refusal_of, refused_if, token_taken, tokens_full, wrong_state, wrong_step};
 ghost use Rattle.transformations.specs.States.{node_state};
 ghost use Rattle.transformations.specs.declared.command.Command.TheVariants as command;
 
@@ -211,26 +211,34 @@ fn tokens_full(alloc: Global, image: &Image, tokens: &[Token]) -> Result<Option<
 fn not_ready(image: &Image, n: NodeId) -> Option<Refusal>
     ensures { result ≡ first_of (no_node image.now n ∷ in_sequence image.now n ∷ wrong_state is_idle image.now n ∷ []) }
 {
-    let early = no_node(image, n).or_else(|| in_sequence(image, n));
-    early.or_else(|| wrong_state(image, n, is_idle))
+    if let Some(refusal) = no_node(image, n) {
+        return Some(refusal);
+    }
+    if let Some(refusal) = in_sequence(image, n) {
+        return Some(refusal);
+    }
+    wrong_state(image, n, is_idle)
 }
 
 /// A movement is in flight, or one of some tokens is taken: what comes first.
 fn not_free(image: &Image, tokens: &[Token]) -> Option<Refusal>
     ensures { result ≡ first_of (not_idle image.now.sequences ∷ token_taken image.now tokens.now ∷ []) }
 {
-    not_idle(image.sequences.as_slice()).or_else(|| token_taken(image, tokens))
+    if let Some(refusal) = not_idle(image.sequences.as_slice()) {
+        return Some(refusal);
+    }
+    token_taken(image, tokens)
 }
 
 /// The first refusal of tokens that a node is to get at once.
-#[tactic(auto, unfolding(crate::specs::Refusals::refusal_of))]
+#[tactic(auto, unfolding(crate::specs::Refusals::early_refusal_of))]
 fn unsafe_join(
     alloc: Global,
     image: &Image,
     node: NodeId,
     tokens: &[Token],
 ) -> Result<Option<Refusal>, Memory>
-    ensures { IfOk result (λ found. found ≡ refusal_of image.now (command.UnsafeJoin node tokens.now)) }
+    ensures { IfOk result (λ found. found ≡ early_refusal_of image.now (command.UnsafeJoin node tokens.now)) }
 {
     let early = not_ready(image, node).or_else(|| not_free(image, tokens));
     if early.is_some() {
@@ -240,34 +248,34 @@ fn unsafe_join(
 }
 
 /// The first refusal of a join that is to be prepared.
-#[tactic(auto, unfolding(crate::specs::Refusals::refusal_of))]
+#[tactic(auto, unfolding(crate::specs::Refusals::early_refusal_of))]
 fn prepare_join(
     alloc: Global,
     image: &Image,
     node: NodeId,
     tokens: &[Token],
 ) -> Result<Option<Refusal>, Memory>
-    ensures { IfOk result (λ found. found ≡ refusal_of image.now (command.PrepareJoin node tokens.now)) }
+    ensures { IfOk result (λ found. found ≡ early_refusal_of image.now (command.PrepareJoin node tokens.now)) }
 {
     let early = not_ready(image, node).or_else(|| token_taken(image, tokens));
     if early.is_some() {
         return Ok(early);
     }
-    let full = tokens_full(alloc, image, tokens)?;
-    Ok(full.or_else(|| not_idle(image.sequences.as_slice())))
+    tokens_full(alloc, image, tokens)
 }
 
-/// The first refusal of a command in an image, if it is refused there: the first that comes of the command's refusals
-/// in their order. None after it is looked for. A search for a node or a keyspace is one pass over the rows. For k
-/// tokens of `UnsafeJoin` the search for one that is taken is at most k passes over the pairs of the ring and those
-/// that movements bring. `Err` comes only where memory is wanting to count the tokens of such a command.
-#[tactic(auto, using(crate::proofs::RefusalLemmas::first_of_two), unfolding(crate::specs::Refusals::refusal_of))]
+/// The first refusal of a command in an image, if it is refused there, but for that of locked ranges, which is the last
+/// one: the first that comes of the command's refusals in their order. None after it is looked for. A search for a node
+/// or a keyspace is one pass over the rows. For k tokens of a command the search for one that is taken is at most k
+/// passes over the pairs of the ring and those that movements bring. `Err` comes only where memory is wanting to count
+/// the tokens of such a command.
+#[tactic(auto, using(crate::proofs::RefusalLemmas::first_of_two), unfolding(crate::specs::Refusals::early_refusal_of))]
 pub fn early_refusal(
     alloc: Global,
     image: &Image,
     command: &Command,
 ) -> Result<Option<Refusal>, Memory>
-    ensures { IfOk result (λ found. found ≡ refusal_of image.now command.now) }
+    ensures { IfOk result (λ found. found ≡ early_refusal_of image.now command.now) }
 {
     match command {
         Command::Register { name, .. } => Ok(name_taken(image, name).or_else(|| nodes_full(image))),

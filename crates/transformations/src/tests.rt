@@ -1,8 +1,8 @@
 //! Commands on small images and on full ones.
 
 use crate::{
-    Command, Goal, Image, KeyspaceRow, Kind, NodeState, Phase, Refusal, SeqRow, early_refusal,
-    node_state,
+    Command, Goal, Image, KeyspaceRow, Kind, NodeState, Phase, Refusal, RingKind, SeqRow, cuts,
+    early_refusal, fixed_ring, node_state, ring_with, widest,
 };
 use cluster_terms::{
     Name, NodeId, NodeRow, Pair, PairList, Replication, Rf, SmallList, Token, TokenList,
@@ -204,7 +204,7 @@ fn refusals_of_a_small_image(rt: HostRuntime) -> Result<(), Fail> {
         (Asked::Join(1, &[0]), wrong(NodeState::Joined)),
         (Asked::Join(3, &[-5, 100, 150]), taken(100)),
         (Asked::Join(3, &[149, 250]), taken(250)),
-        (Asked::Join(3, &[-5, 5]), not_idle(2)),
+        (Asked::Join(3, &[-5, 5]), None),
         (
             Asked::Step(Goal::Start, Kind::Join, 7),
             Some(Refusal::NoNode),
@@ -279,11 +279,47 @@ fn a_token_of_two_nodes_counts_once(rt: HostRuntime) -> Result<(), Fail> {
     let mut image = large_image(rt.alloc(), 3, 0, 16_383)?;
     add_movement(rt.alloc(), &mut image, 3, Kind::Replace, 7, Phase::Prepared)?;
     for (tokens, wanted) in [
-        ([-1].as_slice(), not_idle(3)),
+        ([-1].as_slice(), None),
         ([-2, -1].as_slice(), Some(Refusal::TokensFull)),
     ] {
         let found = refusal(rt.alloc(), &image, &Asked::Join(2, tokens))?;
         assert_eq!(rt; found, wanted);
     }
+    Ok(())
+}
+
+fn have_tokens(pairs: &PairList, tokens: &[i64]) -> bool {
+    let found = pairs.as_slice().iter().map(|pair| pair.token.value());
+    found.eq(tokens.iter().copied())
+}
+
+/// The small image, where node 1 is to leave.
+fn image_with_a_leave(alloc: Global) -> Result<Image, Fail> {
+    let mut image = small_image(alloc)?;
+    let mut out_pairs = PairList::empty(alloc);
+    add_pair(&mut out_pairs, 0, 1)?;
+    let row = SeqRow {
+        node: NodeId(1),
+        kind: Kind::Leave,
+        out_pairs,
+        in_pairs: PairList::empty(alloc),
+        phase: Phase::Started,
+    };
+    image.sequences.push(row).map_err(|_| "memory")?;
+    Ok(image)
+}
+
+#[test]
+fn rings_of_movements(rt: HostRuntime) -> Result<(), Fail> {
+    let image = image_with_a_leave(rt.alloc())?;
+    let read = ring_with(rt.alloc(), &image, RingKind::Read)?;
+    let high = ring_with(rt.alloc(), &image, RingKind::High)?;
+    assert!(rt; have_tokens(&read, &[0, 100, 350]));
+    assert!(rt; have_tokens(&high, &[100, 350, 150]));
+    assert!(rt; have_tokens(&fixed_ring(rt.alloc(), &image)?, &[100]));
+    assert!(rt; have_tokens(&widest(&image)?, &[0, 100, 350, 150, 250]));
+    let cuts = cuts(rt.alloc(), &image)?;
+    let tokens = cuts.as_slice().iter().map(|token| token.value());
+    assert!(rt; tokens.eq([0, 100, 150, 250, 350]));
     Ok(())
 }

@@ -1,30 +1,13 @@
-ghost use Rattle.std.specs.Prelude.{◌≡◌, ◌+◌, length, map, min, IfOk};
+ghost use Rattle.std.specs.Prelude.{◌≡◌, ◌+◌, length, min, IfOk};
 ghost use Rattle.std.specs.Ordering.{int_eq};
 ghost use Rattle.std.specs.Set.{distinct_count};
 ghost use Rattle.transformations.specs.Refusals.{tokens_with};
 ghost use Rattle.transformations.specs.Rings.{widest};
 
 use crate::image::Image;
-use cluster_terms::{Memory, Pair, PairList, Token, TryCopy};
+use crate::rings::{tokens_of, widest};
+use cluster_terms::{Memory, Token};
 use std::alloc::Global;
-
-/// The pairs of the ring, and all that movements in flight put in.
-fn widest(image: &Image) -> Result<PairList, Memory>
-    ensures { IfOk result (λ pairs. pairs ≡ widest image.now) }
-{
-    let mut pairs = image.tokens.copy()?;
-    for row in image.sequences.as_slice() {
-        pairs.extend(row.in_pairs.as_slice())?;
-    }
-    Ok(pairs)
-}
-
-/// The tokens of some pairs.
-fn tokens_of(alloc: Global, pairs: &[Pair]) -> Result<Vec<Token>, Memory>
-    ensures { IfOk result (λ tokens. tokens.items ≡ map (λ p. p.token) pairs.now) }
-{
-    Ok(pairs.iter().map(|pair| pair.token).collect(alloc)?)
-}
 
 /// How many tokens there are, where equal ones count once.
 fn distinct(mut tokens: Vec<Token>) -> usize

@@ -1,11 +1,19 @@
 //! What the definitions say of the images that commands lead to.
 
-ghost use Rattle.std.specs.Prelude.{◌≡◌, ◌<◌, List, None, IsTrue};
+ghost use Rattle.std.specs.Prelude.{◌≡◌, ◌<◌, ℕ, ℤ, true, false, List, Some, None, IsTrue};
+ghost use Rattle.std.specs.List.{All, Any, Contains};
+ghost use Rattle.cluster_terms.specs.Arc.{IsToken};
+ghost use Rattle.cluster_terms.specs.Row.{last_token};
+ghost use Rattle.cluster_terms.specs.declared.token.RightEnd.{RightEnd};
 ghost use Rattle.transformations.specs.History.{IsHistory, empty_image, image_after, is_command, most_epochs, next_image};
-ghost use Rattle.transformations.specs.Refusals.{refusal_of};
-ghost use Rattle.transformations.specs.Valid.{IsValid};
+ghost use Rattle.transformations.specs.Ranges.{AreApart, AreOutcomes, KeepsRanges, PlacedByRanges, first_shared, in_both};
+ghost use Rattle.transformations.specs.Refusals.{locked, refusal_of};
+ghost use Rattle.transformations.specs.Steps.{others};
+ghost use Rattle.transformations.specs.Valid.{IsSound, IsValid};
 ghost use Rattle.transformations.specs.declared.command.Command.{Command};
 ghost use Rattle.transformations.specs.declared.image.Image.{Image};
+ghost use Rattle.transformations.specs.declared.refusal.Refusal.TheVariants.{Locked};
+ghost use Rattle.transformations.specs.declared.sequence.SeqRow.{SeqRow};
 
 /// What the definitions say of the images of histories: a command that is accepted keeps an image valid, while there
 /// is an epoch for it, and so each history leads to a valid image.
@@ -13,4 +21,28 @@ ghost use Rattle.transformations.specs.declared.image.Image.{Image};
 pub fn histories_are_valid()
     ensures kept { (image : Image) (c : Command) → IsValid image → IsTrue (is_command c) → refusal_of image c ≡ None → image.epoch < most_epochs → IsValid (next_image image c) }
     ensures reached { (h : List Command) → IsHistory h → IsValid (image_after empty_image h) }
+{}
+
+/// What the ranges of movements say, in each valid image: at most one movement has a token in its ranges under each
+/// keyspace; whatever movements are done or given up, the placement at a token depends on those alone that have it in
+/// their ranges; the rings by which nodes are read and written come of such outcomes; and a command that is accepted
+/// leaves the ranges of each movement that goes on as they are.
+#[tactic(auto, using(crate::proofs::OutcomeLemmas::placed_by_ranges, crate::proofs::OutcomeLemmas::are_outcomes))]
+pub fn movements_are_apart()
+    ensures apart { (image : Image) → IsValid image → AreApart image }
+    ensures placed { (image : Image) → IsValid image → PlacedByRanges image }
+    ensures outcomes { (image : Image) → IsValid image → AreOutcomes image }
+    ensures kept { (image : Image) (c : Command) → IsValid image → IsTrue (is_command c) → refusal_of image c ≡ None → KeepsRanges image (next_image image c) }
+{}
+
+/// What locked ranges are: two movements share no token where no row between cuts is found for them, and else the last
+/// token of the row that is found is in the ranges of both. So a movement that isn't locked overlaps none of the
+/// others, and one that is locked overlaps the movement whose node is shown, at the last token of the row whose right
+/// end is shown.
+#[tactic(auto, using(crate::proofs::LockedLemmas::none_overlaps, crate::proofs::RangeLemmas::shared_found, crate::proofs::LockedLemmas::locked_overlaps))]
+pub fn locked_ranges_overlap()
+    ensures none_shared { (image : Image) (s q : SeqRow) → IsSound image → Contains image.sequences s → Contains image.sequences q → first_shared image s q ≡ None → (x : ℤ) → IsToken x → in_both image s q x ≡ false }
+    ensures shared { (image : Image) (s q : SeqRow) (right : RightEnd) → first_shared image s q ≡ Some right → in_both image s q (last_token right) ≡ true }
+    ensures free { (image : Image) (s : SeqRow) → IsSound image → Contains image.sequences s → locked image s ≡ None → (x : ℤ) → IsToken x → All (λ q. in_both image s q x ≡ false) (others image.sequences s.node) }
+    ensures taken { (image : Image) (s : SeqRow) (n : ℕ) (right : RightEnd) → locked image s ≡ Some (Locked n right) → Any (λ q. (q.node ≡ n) × (in_both image s q (last_token right) ≡ true)) (others image.sequences s.node) }
 {}

@@ -1,5 +1,5 @@
 use Rattle.cluster_terms.specs.Replication.{groups_of}
-use Rattle.token_ring.proofs.PlaceLemmas.{place-permuted}
+use Rattle.cluster_terms.proofs.PlacementLemmas.{place-permuted}
 use Rattle.cluster_metadata.proofs.placement.placed.Goals as goal
 
 -- the ring has the pairs, in another order

@@ -4,7 +4,7 @@ use Rattle.cluster_terms.specs.Ascending.{ascending}
 use Rattle.cluster_terms.specs.Group.{nodes_of, place}
 use Rattle.cluster_terms.specs.Replication.{whole_group}
 use Rattle.simple_strategy.specs.Walk.{taken_after}
-use Rattle.token_ring.proofs.PlaceLemmas.{placed_nowhere}
+use Rattle.cluster_terms.proofs.PlacementLemmas.{placed_nowhere}
 use Rattle.simple_strategy.proofs.PlaceLemmas.{placed_by_walk}
 use Rattle.simple_strategy.proofs.walk.walk.Goals as goal
 

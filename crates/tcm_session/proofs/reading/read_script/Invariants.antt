@@ -1,4 +1,4 @@
-use Rattle.std.proofs.Common.{◌+◌, ◌-◌, ◌≡◌, ◌≤◌, length, vec_len}
+use Rattle.std.proofs.Common.{◌-◌, ◌≡◌, ◌≤◌, vec_len}
 use Rattle.tcm_session.specs.Lines.{HasNoFeed}
 use Rattle.tcm_session.proofs.ReadLemmas.{ReadsSoFar}
 use Rattle.tcm_session.proofs.reading.read_script.Given as goal

@@ -1,14 +1,31 @@
 use Rattle.std.proofs.Common.{◌≡◌, subst}
-use Rattle.transformations.specs.History.{next_image}
+use Rattle.transformations.specs.Ranges.{KeepsRanges}
 use Rattle.transformations.specs.Valid.{IsValid}
-use Rattle.transformations.proofs.ValidLemmas.{valid_next}
+use Rattle.cluster_metadata.proofs.OutcomeLemmas.{keeps_ranges, placed, rings, valid_after}
 use Rattle.cluster_metadata.proofs.metadata.Metadata.enact.Goals as goal
 
+-- the image that is made is valid
+valid : (c : goal.After-make) → IsValid c.make.new.image
+valid c =
+    let same : c.permit.inside.image.value ≡ c.self.inside.image = cc in
+    let permitted = rw same at c.permit.invariant.0 in
+    valid_after c.self.inside.image c.make.new.image _ _ permitted c.make.ensures.made c.self.invariant.0
+
 pub invariant_of-self : goal.invariant_of-self
-invariant_of-self c =
-    let p = c.permit.invariant in
-    let image = c.permit.inside.image.value in
-    let same : c.self.inside.image ≡ image = cc in
-    let made : c.make.new.image ≡ next_image image c.permit.inside.command.value = cc (c.make.ensures.made, p.makes.0) in
-    let valid : IsValid image = subst IsValid same c.self.invariant.0 in
-    (rw made (valid_next image c.permit.inside.command.value valid p.formed p.accepted p.room), c.make.ensures.running)
+invariant_of-self c = (valid c, c.make.ensures.running)
+
+pub returns-clause-apart : goal.returns-clause-apart
+returns-clause-apart c = (valid c).apart
+
+pub returns-clause-outcomes : goal.returns-clause-outcomes
+returns-clause-outcomes c = placed _ (valid c)
+
+pub returns-clause-rings : goal.returns-clause-rings
+returns-clause-rings c = rings _ (valid c)
+
+pub returns-clause-ranges : goal.returns-clause-ranges
+returns-clause-ranges c =
+    let same : c.permit.inside.image.value ≡ c.self.inside.image = cc in
+    let permitted = rw same at c.permit.invariant.0 in
+    let kept = keeps_ranges c.self.inside.image c.make.new.image _ _ permitted c.make.ensures.made c.self.invariant.0 in
+    subst (λ i. KeepsRanges i c.make.new.image) c.self.view_is kept

@@ -3,7 +3,7 @@ use Rattle.std.specs.List.Sorted.{IsPermutation}
 use Rattle.cluster_terms.specs.Group.{place}
 use Rattle.cluster_terms.specs.Replication.{groups_of}
 use Rattle.cluster_terms.specs.declared.token.Pair.{Pair}
-use Rattle.token_ring.proofs.PlaceLemmas.{place-permuted}
+use Rattle.cluster_terms.proofs.PlacementLemmas.{place-permuted}
 use Rattle.transformations.specs.Rings.{low_ring, read_ring, high_ring}
 use Rattle.tcm_session.specs.Placers.{placed_by}
 use Rattle.tcm_session.specs.declared.placement.Placer.{Placer}

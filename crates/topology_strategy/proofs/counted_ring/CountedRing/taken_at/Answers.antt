@@ -4,7 +4,7 @@ use Rattle.std.specs.Ordering.{nat_cmp}
 use Rattle.cluster_terms.specs.Ascending.{ascending}
 use Rattle.cluster_terms.specs.Group.{nodes_of, place}
 use Rattle.cluster_terms.specs.Replication.{datacenter_group}
-use Rattle.token_ring.proofs.PlaceLemmas.{placed_nowhere}
+use Rattle.cluster_terms.proofs.PlacementLemmas.{placed_nowhere}
 use Rattle.topology_strategy.specs.GroupedRing.{GroupedRing}
 use Rattle.topology_strategy.specs.Shape.{shapes_of}
 use Rattle.topology_strategy.specs.Walk.{taken_in_all}

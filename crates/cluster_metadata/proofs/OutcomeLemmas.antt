@@ -1,0 +1,29 @@
+-- What the ranges of the movements say of a valid image, and of the one that a permit leads to.
+use Rattle.std.proofs.Common.{◌≡◌, ◌∙◌, subst, sym}
+use Rattle.transformations.proofs.OutcomeLemmas.{are_outcomes, placed_by_ranges}
+use Rattle.transformations.proofs.RangesKept.{ranges_kept}
+use Rattle.transformations.proofs.ValidLemmas.{valid_next}
+use Rattle.transformations.specs.History.{next_image}
+use Rattle.transformations.specs.Ranges.{AreOutcomes, KeepsRanges, PlacedByRanges}
+use Rattle.transformations.specs.Valid.{IsValid}
+use Rattle.transformations.specs.declared.command.Command.{Command}
+use Rattle.transformations.specs.declared.image.Image.{Image}
+use Rattle.cluster_metadata.specs.Change.{changed}
+use Rattle.cluster_metadata.specs.Permission.{IsPermitted}
+use Rattle.cluster_metadata.specs.declared.change.Change.{Change}
+
+pub placed : (image : Image) → IsValid image → PlacedByRanges image
+placed image valid = placed_by_ranges image valid.sound
+
+pub rings : (image : Image) → IsValid image → AreOutcomes image
+rings image valid = are_outcomes image valid.sound
+
+module _ (image after : Image) (c : Command) (change : Change) (permitted : IsPermitted image c change) (made : after ≡ changed image change) (valid : IsValid image) where
+  leads : next_image image c ≡ after
+  leads = sym (made ∙ permitted.makes.0)
+
+  pub valid_after : IsValid after
+  valid_after = subst IsValid leads (valid_next image c valid permitted.formed permitted.accepted permitted.room)
+
+  pub keeps_ranges : KeepsRanges image after
+  keeps_ranges = subst (λ i. KeepsRanges image i) leads (ranges_kept image c valid permitted.formed permitted.accepted)

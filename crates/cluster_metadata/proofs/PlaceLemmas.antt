@@ -1,0 +1,124 @@
+-- Movements by their place: one that is put in, one that takes a step, and one that is taken out.
+use Rattle.std.proofs.Common.{◌≡◌, ℕ, suc, zero, ◌<◌, ◌≤◌, Bool, true, false, true≢false, ◌==◌, cond, List, [], ◌∷◌, length, map, find, get_or, set, Option, Some, None, IsSome, ◌≢◌, nat_lt, refl, sym, ap, ◌∙◌, subst, arith}
+use Rattle.std.proofs.lemmas.Bool.Decides.{Decides-eqb, nat_tests}
+use Rattle.std.proofs.lemmas.Option.{none-some}
+use Rattle.std.proofs.lemmas.List.Folds.{find_at}
+use Rattle.std.specs.List.{AllByRecursion, position, position_or_len, remove, slice_get}
+use Rattle.std.specs.List.Sorted.{IsStrictlySortedBy}
+use Rattle.std.specs.Ordering.{nat_cmp}
+use Rattle.std.specs.declared.cmp.Ordering.TheVariants.{Less}
+use Rattle.transformations.specs.Orders.{by_node}
+use Rattle.transformations.specs.Steps.{at_phase, others}
+use Rattle.transformations.specs.declared.sequence.Phase.{Phase}
+use Rattle.transformations.specs.declared.sequence.SeqRow.{SeqRow}
+use Rattle.cluster_metadata.specs.Change.{in_phase}
+
+-- ---- the only movement of a node
+
+less_is : (a b : ℕ) → nat_cmp a b ≡ Less → a < b
+less_is a b h = grind arith
+
+-- a movement with a lesser node, or a greater one, is not the node's
+less_other : (s q : SeqRow) (n : ℕ) → by_node s q ≡ Less → (q.node == n) ≡ true → (s.node == n) ≡ false
+less_other s q n less own = by (s.node == n) refl
+  where
+    by : (b : Bool) → (s.node == n) ≡ b → b ≡ false
+    by false e = refl
+    by true e =
+        let up = less_is s.node q.node less in
+        let one : s.node ≡ n = (Decides-eqb s.node n).0 e in
+        let two : q.node ≡ n = (Decides-eqb q.node n).0 own in
+        absurd (omega arith)
+
+greater_other : (s q : SeqRow) (n : ℕ) → by_node s q ≡ Less → (s.node == n) ≡ true → (q.node == n) ≡ false
+greater_other s q n less own = by (q.node == n) refl
+  where
+    by : (b : Bool) → (q.node == n) ≡ b → b ≡ false
+    by false e = refl
+    by true e =
+        let up = less_is s.node q.node less in
+        let one : s.node ≡ n = (Decides-eqb s.node n).0 own in
+        let two : q.node ≡ n = (Decides-eqb q.node n).0 e in
+        absurd (omega arith)
+
+-- what holds of all movements holds of the one at a place
+at_place : (P : SeqRow → Type 0) (rows : List SeqRow) (at : ℕ) (s : SeqRow) → AllByRecursion P rows → slice_get rows at ≡ Some s → P s
+at_place P [] at s all found = absurd (none-some s found)
+at_place P (q ∷ rows) zero s all found = (let same : q ≡ s = cc in subst P same all.0)
+at_place P (q ∷ rows) (suc at) s all found = at_place P rows at s all.1 found
+
+module _ (n : ℕ) where
+  -- movements that come after the node's stay as they are
+  steps_none : (p : Phase) (rows : List SeqRow) → AllByRecursion (λ (q : SeqRow). (q.node == n) ≡ false) rows → map (at_phase p n) rows ≡ rows
+  steps_none p [] all = refl
+  steps_none p (q ∷ rows) all = rw all.0 (ap (λ l. q ∷ l) (steps_none p rows all.1))
+
+  others_all : (rows : List SeqRow) → AllByRecursion (λ (q : SeqRow). (q.node == n) ≡ false) rows → others rows n ≡ rows
+  others_all [] all = refl
+  others_all (q ∷ rows) all = rw all.0 (ap (λ l. q ∷ l) (others_all rows all.1))
+
+  later_others : (s : SeqRow) (rows : List SeqRow) → (s.node == n) ≡ true → AllByRecursion (λ q. by_node s q ≡ Less) rows → AllByRecursion (λ (q : SeqRow). (q.node == n) ≡ false) rows
+  later_others s [] own less = tt
+  later_others s (q ∷ rows) own less = (greater_other s q n less.0 own, later_others s rows own less.1)
+
+  -- the node's movement takes a step at its place
+  pub stepped_at : (p : Phase) (rows : List SeqRow) (at : ℕ) (s : SeqRow) → IsStrictlySortedBy by_node rows → slice_get rows at ≡ Some s → (s.node == n) ≡ true → map (at_phase p n) rows ≡ set rows at (in_phase p s)
+  unfolding IsStrictlySortedBy
+  stepped_at p [] at s up found own = absurd (none-some s found)
+  stepped_at p (q ∷ rows) zero s up found own =
+      let same : q ≡ s = cc in
+      let mine : (q.node == n) ≡ true = rw same own in
+      rw (mine, steps_none p rows (later_others q rows mine up.0)) (ap (λ (r : SeqRow). in_phase p r ∷ rows) same)
+  stepped_at p (q ∷ rows) (suc at) s up found own =
+      let apart = less_other q s n (at_place (λ r. by_node q r ≡ Less) rows at s up.0 found) own in
+      rw apart (ap (λ l. q ∷ l) (stepped_at p rows at s up.1 found own))
+
+  -- the others are those without the one at its place
+  pub others_at : (rows : List SeqRow) (at : ℕ) (s : SeqRow) → IsStrictlySortedBy by_node rows → slice_get rows at ≡ Some s → (s.node == n) ≡ true → others rows n ≡ remove rows at
+  unfolding IsStrictlySortedBy
+  others_at [] at s up found own = absurd (none-some s found)
+  others_at (q ∷ rows) zero s up found own =
+      let same : q ≡ s = cc in
+      let mine : (q.node == n) ≡ true = rw same own in
+      rw (mine, others_all rows (later_others q rows mine up.0)) refl
+  others_at (q ∷ rows) (suc at) s up found own =
+      let apart = less_other q s n (at_place (λ r. by_node q r ≡ Less) rows at s up.0 found) own in
+      rw apart (ap (λ l. q ∷ l) (others_at rows at s up.1 found own))
+
+-- ---- the place of a movement
+
+beyond : {X : Type 0} (xs : List X) (i : ℕ) → length xs ≤ i → slice_get xs i ≡ None
+beyond [] i over = refl
+beyond (x ∷ xs) zero over = absurd (omega arith)
+beyond (x ∷ xs) (suc i) over = beyond xs i (omega arith)
+
+-- the item at an index, in the two ways to read it
+pub at_index : {X : Type 0} (xs : List X) (i : ℕ) (x : X) → i < length xs → x ≡ get_or xs i x → slice_get xs i ≡ Some x
+at_index [] i x within here = absurd (omega arith)
+at_index (y ∷ ys) zero x within here = ap (λ z. Some z) (sym here)
+at_index (y ∷ ys) (suc i) x within here = at_index ys i x (omega arith) here
+
+-- what is found stands at the first place of its kind, and there is such a place
+pub found_at : (p : SeqRow → Bool) (rows : List SeqRow) (at : ℕ) → position p rows ≡ Some at → slice_get rows at ≡ find p rows
+found_at p rows at h = by (nat_lt (position_or_len p rows) (length rows)) h
+  where
+    by : (b : Bool) → cond b (Some (position_or_len p rows)) None ≡ Some at → slice_get rows at ≡ find p rows
+    by true h = (let same : position_or_len p rows ≡ at = cc h in rw (← same) (sym (find_at p rows)))
+    by false h = absurd (none-some at h)
+
+pub found_within : (p : SeqRow → Bool) (rows : List SeqRow) (at : ℕ) → position p rows ≡ Some at → at < length rows
+found_within p rows at h = by (nat_lt (position_or_len p rows) (length rows)) refl h
+  where
+    by : (b : Bool) → nat_lt (position_or_len p rows) (length rows) ≡ b → cond b (Some (position_or_len p rows)) None ≡ Some at → at < length rows
+    by true e h = (let same : position_or_len p rows ≡ at = cc h in grind (arith, nat_tests))
+    by false e h = absurd (none-some at h)
+
+pub some_place : (p : SeqRow → Bool) (rows : List SeqRow) → IsSome (find p rows) → position p rows ≢ None
+some_place p rows some none = by (nat_lt (position_or_len p rows) (length rows)) refl none
+  where
+    by : (b : Bool) → nat_lt (position_or_len p rows) (length rows) ≡ b → cond b (Some (position_or_len p rows)) None ≡ None → ⊥
+    by true e h = none-some (position_or_len p rows) (sym h)
+    by false e h =
+        let over : length rows ≤ position_or_len p rows = grind (arith, nat_tests) in
+        let missing : find p rows ≡ None = find_at p rows ∙ beyond rows (position_or_len p rows) over in
+        absurd (true≢false (sym (subst (λ (o : Option SeqRow). IsSome o) missing some)))

@@ -1,0 +1,7 @@
+use Rattle.cluster_metadata.proofs.RunningLemmas.{running_step}
+use Rattle.cluster_metadata.proofs.enact.mid.Goals as goal
+
+pub returns-clause-running : goal.returns-clause-running
+returns-clause-running c =
+    let step = running_step _ _ _ _ c.requires.running _ _ _ c.mid.result c.requires.follows.0 c.requires.follows.1 c.remove-movement.ensures.value c.mid.ensures.row c.mid.ensures.phase in
+    rw (c.replace.ensures, c.put.ensures, c.remove-movement.ensures.items) step

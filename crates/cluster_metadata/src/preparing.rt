@@ -1,0 +1,96 @@
+//! A movement that is prepared begins, unless its ranges are locked.
+
+ghost use Rattle.std.specs.Prelude.{◌≡◌, ◌≤◌, ◌==◌, false, true, None, length, IfOk, MatchResult};
+ghost use Rattle.std.specs.List.{AllByRecursion, insert};
+ghost use Rattle.cluster_terms.specs.Ascending.{put};
+ghost use Rattle.transformations.specs.History.{is_command};
+ghost use Rattle.transformations.specs.Orders.{by_node};
+ghost use Rattle.transformations.specs.Refusals.{early_refusal_of, locked, refusal_of, with_movement};
+ghost use Rattle.transformations.specs.Valid.{IsSound};
+ghost use Rattle.transformations.specs.declared.command.Command.TheVariants as command;
+ghost use Rattle.transformations.specs.declared.sequence.Phase.TheVariants as phase;
+ghost use Rattle.transformations.specs.declared.sequence.SeqRow.{SeqRow};
+ghost use Rattle.sequence_plans.specs.Plan.{IsPlan};
+ghost use Rattle.cluster_metadata.specs.Change.{Begins, IsChange};
+ghost use Rattle.cluster_metadata.specs.Permission.{ShowsRefusal};
+
+use crate::admit_fault::AdmitFault;
+use crate::change::Change;
+use crate::locks::first_lock;
+use cluster_terms::{Memory, NodeId, Steps, TokenList, TryCopy};
+use sequence_plans::plan;
+use sequence_rows::join_row;
+use std::alloc::Global;
+use std::sync::ledger::Ledger;
+use transformations::{Image, SeqRow};
+
+/// How many movements have a lesser node: the place of a new one, of a node that has none.
+fn place_for(sequences: &[SeqRow], node: NodeId) -> usize
+    requires { AllByRecursion (λ s. (s.node == node) ≡ false) sequences.now }
+    ensures bound { result ≤ length sequences.now }
+    ensures place { (row : SeqRow) → row.node ≡ node → put by_node row sequences.now ≡ insert sequences.now result row }
+{
+    for (at, other) in sequences.iter().enumerate() {
+        if node < other.node {
+            return at;
+        }
+    }
+    sequences.len()
+}
+
+/// A movement begins, of a node that has none.
+fn begun(image: &Image, row: SeqRow) -> Result<Change, Memory>
+    requires phase { row.phase ≡ phase.Prepared }
+    requires new { AllByRecursion (λ s. (s.node == row.node) ≡ false) image.now.sequences }
+    ensures { IfOk result (Begins image.now row) }
+{
+    let at = place_for(image.sequences.as_slice(), row.node);
+    let mut sequences = image.sequences.copy()?;
+    sequences.insert(at, row.copy()?)?;
+    Ok(Change::Begun { at, row, sequences })
+}
+
+/// A movement begins, of a node that has none. It is refused where its ranges are locked: where those of a movement in
+/// flight have a token in common with them, under the replication of one keyspace.
+fn prepare<L: Ledger>(
+    alloc: Global,
+    image: &Image,
+    row: SeqRow,
+    walks: &mut Steps<L>,
+) -> Result<Change, AdmitFault>
+    requires phase { row.phase ≡ phase.Prepared }
+    requires new { AllByRecursion (λ s. (s.node == row.node) ≡ false) image.now.sequences }
+    requires sound { IsSound (with_movement image.now row) }
+    ensures change { IfOk result (Begins image.now row) }
+    ensures refusal { MatchResult result (λ _. locked (with_movement image.now row) row ≡ None) (ShowsRefusal (locked (with_movement image.now row) row)) }
+    ensures uncounted { walks.new ≡ walks.old }
+{
+    let plan = match plan(alloc, image, row, walks) {
+        Ok(plan) => plan,
+        Err((_row, memory)) => return Err(AdmitFault::from(memory)),
+    };
+    let ranges = plan.ranges.as_slice();
+    if let Some(refusal) = first_lock(ranges, plan.wide.as_slice(), plan.cuts.as_slice()) {
+        return Err(AdmitFault::Refused(refusal));
+    }
+    Ok(begun(image, plan.row)?)
+}
+
+/// A join begins.
+pub fn prepare_join<L: Ledger>(
+    alloc: Global,
+    image: &Image,
+    node: NodeId,
+    tokens: &TokenList,
+    walks: &mut Steps<L>,
+) -> Result<Change, AdmitFault>
+    requires sound { IsSound image.now }
+    requires formed { is_command (command.PrepareJoin node tokens.now) ≡ true }
+    requires early { early_refusal_of image.now (command.PrepareJoin node tokens.now) ≡ None }
+    ensures change { IfOk result (IsChange image.now (command.PrepareJoin node tokens.now)) }
+    ensures refusal { MatchResult result (λ _. refusal_of image.now (command.PrepareJoin node tokens.now) ≡ None) (ShowsRefusal (refusal_of image.now (command.PrepareJoin node tokens.now))) }
+    ensures uncounted { walks.new ≡ walks.old }
+{
+    let row = join_row(alloc, image, node, tokens)?;
+    prepare(alloc, image, row, walks)
+}

@@ -1,0 +1,10 @@
+pub mod EndLemmas
+pub mod ListLemmas
+pub mod MarkLemmas
+pub mod NodeAt
+pub mod PassLemmas
+pub mod ReachedLemmas
+pub mod SweepLemmas
+pub mod TallyLemmas
+pub mod TokenLemmas
+pub mod WalkLemmas

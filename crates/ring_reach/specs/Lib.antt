@@ -1,0 +1,5 @@
+pub mod Members
+pub mod Moved
+pub mod Shape
+pub mod Sweep
+pub mod Tally

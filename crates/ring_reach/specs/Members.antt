@@ -1,0 +1,9 @@
+-- The group of some members.
+use Rattle.cluster_terms.specs.Group.{Group}
+use Rattle.cluster_terms.specs.Replication.{whole_group, datacenter_group}
+use Rattle.ring_reach.specs.declared.members.Members.{Members}
+use Rattle.ring_reach.specs.declared.members.Members.TheVariants.{All, Datacenter}
+
+abbrev pub group_of : Members → Group
+group_of (All rf) = whole_group rf
+group_of (Datacenter dir name rf) = datacenter_group dir.now.rows (name.now, rf)

@@ -1,0 +1,79 @@
+ghost use Rattle.std.specs.Prelude.{◌≡◌, ℤ, IfOk, OnOk, length, map, true};
+ghost use Rattle.std.specs.Ordering.{int_eq};
+ghost use Rattle.std.specs.Set.{is_member};
+ghost use Rattle.cluster_terms.specs.Reach.{is_reached_in};
+ghost use Rattle.ring_reach.specs.Members.{group_of};
+ghost use Rattle.ring_reach.specs.Moved.{AreEnds, tokens_in};
+ghost use Rattle.ring_reach.specs.Sweep.{either};
+
+use crate::members::Members;
+use crate::shape::common_shape;
+use crate::sweep::Sweep;
+use crate::token_set::TokenSet;
+use cluster_terms::{Memory, Pair, Token};
+use std::alloc::Global;
+use token_ring::Ring;
+
+/// A change of a ring: the pairs that stay whatever comes, the widest set of pairs, and those that come or go.
+#[derive(Drop)]
+pub struct Change<'a> {
+    pub fixed: &'a Ring,
+    pub widest: &'a [Pair],
+    pub moved: &'a [Pair],
+}
+
+/// The tokens that nodes of a group have among some pairs.
+fn tokens_of(alloc: Global, members: &Members, pairs: &[Pair]) -> Result<TokenSet, Memory>
+    ensures { IfOk result (λ set. (t : ℤ) → is_member int_eq set t ≡ is_member int_eq (tokens_in (group_of members.now) pairs.now) t) }
+{
+    let mut tokens = Vec::new(alloc);
+    for pair in pairs {
+        if members.rack_of(pair.node).is_some() {
+            tokens.push(pair.token)?;
+        }
+    }
+    Ok(TokenSet::from_tokens(tokens))
+}
+
+/// Marks all rows.
+fn mark_all(marks: &mut [bool])
+    ensures { marks.new ≡ map (λ _. true) marks.old }
+{
+    for mark in marks.iter_mut() {
+        *mark = true;
+    }
+}
+
+impl<'a> Change<'a> {
+    /// Marks the rows that the change reaches in a group, each given by its last token.
+    pub fn mark_reached(
+        &self,
+        alloc: Global,
+        members: &Members<'a>,
+        ends: &[Token],
+        marks: &mut [bool],
+    ) -> Result<(), Memory>
+        requires ends { AreEnds self.now.fixed.now self.now.moved.now ends.now }
+        requires size { length ends.now ≡ length marks.old }
+        ensures { OnOk result (marks.new ≡ either marks.old (map (λ x. is_reached_in self.now.fixed.now self.now.widest.now self.now.moved.now x (group_of members.now)) ends.now)) }
+    {
+        let moved = tokens_of(alloc, members, self.moved)?;
+        if moved.is_empty() {
+            return Ok(());
+        }
+        match common_shape(alloc, members, self.fixed.pairs(), self.widest)? {
+            Some(shape) => {
+                let sweep = Sweep {
+                    fixed: self.fixed,
+                    members,
+                    moved,
+                };
+                sweep.mark(alloc, shape, ends, marks)
+            }
+            None => {
+                mark_all(marks);
+                Ok(())
+            }
+        }
+    }
+}

@@ -1,0 +1,72 @@
+ghost use Rattle.std.specs.Prelude.{◌≡◌, not, ◌&&◌, is_some, map, IfOk};
+ghost use Rattle.std.specs.List.{list_any};
+ghost use Rattle.cluster_terms.specs.Reach.{same_shape};
+ghost use Rattle.cluster_terms.specs.Replication.{datacenter_group, groups_of};
+ghost use Rattle.ring_reach.specs.Members.{group_of};
+
+use crate::members::Members;
+use crate::shape::common_shape;
+use cluster_terms::{Memory, Name, NodeId, Pair, Replication, Rf};
+use node_directory::Directory;
+use std::alloc::Global;
+use token_ring::Ring;
+
+/// Whether a node is in a group, and the group's shape in the fixed ring differs from that in the widest set of pairs.
+fn differs_in(
+    alloc: Global,
+    fixed: &Ring,
+    widest: &[Pair],
+    members: &Members,
+    node: NodeId,
+) -> Result<bool, Memory>
+    ensures { IfOk result (λ differs. let g = group_of members.now in differs ≡ (is_some (g.rack_of node) && not (same_shape g fixed.now widest.now))) }
+{
+    if members.rack_of(node).is_none() {
+        return Ok(false);
+    }
+    let common = common_shape(alloc, members, fixed.pairs(), widest)?;
+    Ok(common.is_none())
+}
+
+/// Whether this is so in one of some datacenters.
+fn differs_in_datacenters(
+    alloc: Global,
+    fixed: &Ring,
+    widest: &[Pair],
+    dir: &Directory,
+    factors: &[(Name, Rf)],
+    node: NodeId,
+) -> Result<bool, Memory>
+    ensures { IfOk result (λ differs. differs ≡ list_any (λ g. is_some (g.rack_of node) && not (same_shape g fixed.now widest.now)) (map (datacenter_group dir.now.rows) factors.now)) }
+{
+    for (name, rf) in factors {
+        let members = Members::Datacenter(dir, name, *rf);
+        if differs_in(alloc, fixed, widest, &members, node)? {
+            return Ok(true);
+        }
+    }
+    Ok(false)
+}
+
+/// Whether a node is in a group of the replication whose shape isn't settled: the group wants more or fewer replicas in
+/// the widest set of pairs than in the fixed ring, or more or fewer of them may stand in a rack that has one.
+///
+/// Costs one pass over the fixed and the widest pairs for each group that the node is in. A pair costs a look-up in the
+/// directory, and a look at no more nodes and racks than there are to be replicas.
+pub fn shape_differs(
+    alloc: Global,
+    fixed: &Ring,
+    widest: &[Pair],
+    dir: &Directory,
+    replication: &Replication,
+    node: NodeId,
+) -> Result<bool, Memory>
+    ensures { IfOk result (λ differs. differs ≡ list_any (λ g. is_some (g.rack_of node) && not (same_shape g fixed.now widest.now)) (groups_of dir.now.rows replication.now)) }
+{
+    match replication {
+        Replication::Simple(rf) => differs_in(alloc, fixed, widest, &Members::All(*rf), node),
+        Replication::Topology(factors) => {
+            differs_in_datacenters(alloc, fixed, widest, dir, factors.rows(), node)
+        }
+    }
+}

@@ -1,0 +1,109 @@
+ghost use Rattle.std.specs.Prelude.{◌≡◌, ℤ, ◌++◌, length, map, IfOk, OnOk};
+ghost use Rattle.std.specs.List.{AllByRecursion};
+ghost use Rattle.std.specs.Ordering.{int_eq};
+ghost use Rattle.std.specs.Set.{is_member};
+ghost use Rattle.cluster_terms.specs.Arc.{IsToken};
+ghost use Rattle.cluster_terms.specs.Reach.{is_reached};
+ghost use Rattle.cluster_terms.specs.Replication.{datacenter_group, groups_of};
+ghost use Rattle.cluster_terms.specs.Row.{last_token as last_in, rows_between as rows_of};
+ghost use Rattle.ring_reach.specs.Moved.{AreEnds};
+ghost use Rattle.ring_reach.specs.Sweep.{either};
+ghost use Rattle.token_ring.specs.Ring.{tokens_of};
+
+use crate::change::Change;
+use crate::members::Members;
+use crate::token_set::TokenSet;
+use cluster_terms::{Memory, Name, Pair, Replication, Rf, Token, rows_between, tokens_in_range};
+use node_directory::Directory;
+use std::alloc::Global;
+
+/// Adds the tokens of some pairs.
+fn push_tokens(tokens: &mut Vec<Token>, pairs: &[Pair]) -> Result<(), Memory>
+    ensures { OnOk result (tokens.new.items ≡ tokens.old.items ++ tokens_of pairs.now) }
+{
+    for pair in pairs {
+        tokens.push(pair.token)?;
+    }
+    Ok(())
+}
+
+/// The tokens of both.
+pub fn tokens_of_both(alloc: Global, pairs: &[Pair], more: &[Pair]) -> Result<TokenSet, Memory>
+    ensures { IfOk result (λ set. (t : ℤ) → is_member int_eq set t ≡ is_member int_eq (tokens_of pairs.now ++ tokens_of more.now) t) }
+{
+    let mut tokens = Vec::with_capacity(alloc, pairs.len() + more.len())?;
+    push_tokens(&mut tokens, pairs)?;
+    push_tokens(&mut tokens, more)?;
+    Ok(TokenSet::from_tokens(tokens))
+}
+
+/// The last tokens of the rows between ascending cuts.
+fn ends_between(alloc: Global, cuts: &[Token]) -> Result<Vec<Token>, Memory>
+    ensures { IfOk result (λ ends. ends.items ≡ map (λ row. last_in row.right) (rows_of cuts.now)) }
+{
+    let rows = rows_between(alloc, cuts)?;
+    let mut ends = Vec::with_capacity(alloc, rows.as_slice().len())?;
+    for row in rows.as_slice() {
+        ends.push(row.last_token())?;
+    }
+    Ok(ends)
+}
+
+/// Marks the rows that a change reaches in one of some datacenters, each row given by its last token.
+fn mark_in_datacenters<'a>(
+    alloc: Global,
+    change: &Change<'a>,
+    dir: &'a Directory,
+    factors: &'a [(Name, Rf)],
+    ends: &[Token],
+    marks: &mut [bool],
+) -> Result<(), Memory>
+    requires ends { AreEnds change.now.fixed.now change.now.moved.now ends.now }
+    requires size { length ends.now ≡ length marks.old }
+    ensures { OnOk result (marks.new ≡ either marks.old (map (λ x. is_reached (map (datacenter_group dir.now.rows) factors.now) change.now.fixed.now change.now.widest.now change.now.moved.now x) ends.now)) }
+{
+    for (name, rf) in factors {
+        change.mark_reached(alloc, &Members::Datacenter(dir, name, *rf), ends, marks)?;
+    }
+    Ok(())
+}
+
+/// Marks the rows that a change reaches in one of a replication's groups, each row given by its last token.
+fn mark_in_all<'a>(
+    alloc: Global,
+    change: &Change<'a>,
+    dir: &'a Directory,
+    replication: &'a Replication,
+    ends: &[Token],
+    marks: &mut [bool],
+) -> Result<(), Memory>
+    requires ends { AreEnds change.now.fixed.now change.now.moved.now ends.now }
+    requires size { length ends.now ≡ length marks.old }
+    ensures { OnOk result (marks.new ≡ either marks.old (map (λ x. is_reached (groups_of dir.now.rows replication.now) change.now.fixed.now change.now.widest.now change.now.moved.now x) ends.now)) }
+{
+    match replication {
+        Replication::Simple(rf) => change.mark_reached(alloc, &Members::All(*rf), ends, marks),
+        Replication::Topology(factors) => {
+            mark_in_datacenters(alloc, change, dir, factors.rows(), ends, marks)
+        }
+    }
+}
+
+/// The rows between ascending cuts that a change reaches, each as a bool: true where it is reached.
+pub fn reached_rows(
+    alloc: Global,
+    change: &Change,
+    dir: &Directory,
+    replication: &Replication,
+    cuts: &[Token],
+) -> Result<Vec<bool>, Memory>
+    requires { AreEnds change.now.fixed.now change.now.moved.now cuts.now }
+    ensures tokens { AllByRecursion IsToken cuts.now }
+    ensures rows { IfOk result (λ marks. marks.items ≡ map (λ row. is_reached (groups_of dir.now.rows replication.now) change.now.fixed.now change.now.widest.now change.now.moved.now (last_in row.right)) (rows_of cuts.now)) }
+{
+    tokens_in_range(cuts);
+    let ends = ends_between(alloc, cuts)?;
+    let mut marks = vec![in alloc; false; ends.len()]?;
+    mark_in_all(alloc, change, dir, replication, &ends, &mut marks)?;
+    Ok(marks)
+}

@@ -1,0 +1,119 @@
+ghost use Rattle.std.specs.Prelude.{◌≡◌, ◌<◌, length, OnOk};
+ghost use Rattle.std.specs.List.{position};
+ghost use Rattle.std.specs.Ordering.{int_eq};
+ghost use Rattle.std.specs.Set.{is_member};
+ghost use Rattle.ring_reach.specs.Sweep.{course_of, either, lacking, lacking_round, marked_from, node_at as node_with, stepped, swept};
+
+use crate::members::Members;
+use crate::shape::Shape;
+use crate::tally::Tally;
+use crate::token_set::TokenSet;
+use cluster_terms::{Memory, NodeId, Token};
+use std::alloc::Global;
+use token_ring::Ring;
+
+/// What a sweep over the ring looks at, in one group: the pairs that stay, the group's nodes, and the tokens of the
+/// group that come or go.
+#[derive(Drop)]
+pub struct Sweep<'a> {
+    pub fixed: &'a Ring,
+    pub members: &'a Members<'a>,
+    pub moved: TokenSet,
+}
+
+/// The node that has a token in a ring: a binary search.
+fn node_at(ring: &Ring, t: Token) -> Option<NodeId>
+    ensures { result ≡ node_with ring.now t }
+{
+    let first = ring.first_at(t)?;
+    let pair = &ring.pairs()[first];
+    if pair.token == t {
+        Some(pair.node)
+    } else {
+        None
+    }
+}
+
+impl<'a> Sweep<'a> {
+    /// Passes one token: one that comes or goes empties the tally, and at any other one its fixed node is met.
+    fn pass(&self, t: Token, tally: &mut Tally<'a>) -> Result<(), Memory>
+        ensures { OnOk result (tally.new ≡ stepped (course_of self.now) t tally.old) }
+    {
+        if self.moved.has(t) {
+            tally.clear();
+            return Ok(());
+        }
+        match node_at(self.fixed, t) {
+            Some(node) => tally.meet(self.members, node),
+            None => Ok(()),
+        }
+    }
+
+    /// Passes some tokens, the last one first, and marks each where the tally lacks nodes or racks.
+    fn pass_all(
+        &self,
+        tokens: &[Token],
+        tally: &mut Tally<'a>,
+        marks: &mut [bool],
+    ) -> Result<(), Memory>
+        requires { length tokens.now ≡ length marks.old }
+        ensures tally { OnOk result (tally.new ≡ swept (course_of self.now) tokens.now tally.old) }
+        ensures marks { OnOk result (marks.new ≡ either marks.old (lacking (course_of self.now) tokens.now tally.old)) }
+    {
+        for at in (0..tokens.len()).rev() {
+            self.pass(tokens[at], tally)?;
+            marks[at] = marks[at] || tally.lacks();
+        }
+        Ok(())
+    }
+
+    /// Passes all tokens once, going round from one of them down to the one after it, and marks each where the tally
+    /// lacks nodes or racks.
+    fn pass_round(
+        &self,
+        begin: usize,
+        tokens: &[Token],
+        tally: &mut Tally<'a>,
+        marks: &mut [bool],
+    ) -> Result<(), Memory>
+        requires begin { begin < length tokens.now }
+        requires one { length tokens.now ≡ length marks.old }
+        ensures { OnOk result (marks.new ≡ either marks.old (lacking_round (course_of self.now) begin tokens.now tally.old)) }
+    {
+        let (front, rest) = tokens.split_at(begin + 1);
+        let (front_marks, rest_marks) = marks.split_at_mut(begin + 1);
+        self.pass_all(front, tally, front_marks)?;
+        self.pass_all(rest, tally, rest_marks)
+    }
+
+    /// The first place of a token that comes or goes. `None` comes exactly where all tokens stay.
+    fn begin(&self, tokens: &[Token]) -> Option<usize>
+        ensures { result ≡ position (is_member int_eq self.now.moved) tokens.now }
+    {
+        tokens.iter().position(|token| self.moved.has(*token))
+    }
+
+    /// Passes ascending tokens once round the ring, beginning at one that comes or goes, and marks those that are
+    /// reached in a group of this shape: where fewer nodes or racks than are wanted are met clockwise before the
+    /// nearest token that comes or goes.
+    ///
+    /// A token costs a search in the ring and one among the tokens that come or go, a look-up in the directory, and a
+    /// look at no more nodes and racks than there are to be replicas.
+    pub fn mark(
+        &self,
+        alloc: Global,
+        shape: Shape,
+        tokens: &[Token],
+        marks: &mut [bool],
+    ) -> Result<(), Memory>
+        requires { length tokens.now ≡ length marks.old }
+        ensures { OnOk result (marks.new ≡ either marks.old (marked_from (course_of self.now) shape tokens.now (position (is_member int_eq self.now.moved) tokens.now))) }
+    {
+        let Some(begin) = self.begin(tokens) else {
+            return Ok(());
+        };
+        let racks = shape.wanted.saturating_sub(shape.spare);
+        let mut tally = Tally::new(alloc, shape.wanted, racks)?;
+        self.pass_round(begin, tokens, &mut tally, marks)
+    }
+}

@@ -1,0 +1,3 @@
+pub mod BasisLemmas
+pub mod BookLemmas
+pub mod ReplicationsLemmas

@@ -1,0 +1,107 @@
+ghost use Rattle.std.specs.Prelude.{◌≡◌, IfOk};
+ghost use Rattle.token_ring.specs.Ranges.{AreCutOut, HaveTokens};
+ghost use Rattle.transformations.specs.Ranges.{in_ranges, moved_by};
+ghost use Rattle.transformations.specs.Rings.{cuts};
+ghost use Rattle.transformations.specs.Steps.{others};
+ghost use Rattle.transformations.specs.Valid.{IsSound};
+ghost use Rattle.sequence_plans.specs.Basis.{IsBasis, MovesWithin};
+ghost use Rattle.sequence_plans.specs.Plan.{AreLocks, IsBook};
+
+use crate::replications::{Replications, replications_of};
+use cluster_terms::{Memory, NodeId, PairList, Replication, TryCopy};
+use node_directory::Directory;
+use ring_reach::reached;
+use std::alloc::Global;
+use token_ring::{LockRow, LockRows, RangeBook, RangeList, RangeRow, Ring};
+use transformations::{Image, SeqRow, fixed_ring, widest};
+
+/// What the ranges of an image's movements are taken from.
+#[derive(Drop)]
+pub struct Basis<'a> {
+    alloc: Global,
+    image: &'a Image,
+    fixed: Ring,
+    widest: PairList,
+    directory: Directory,
+    replications: Replications,
+}
+
+/// The pairs that a movement takes out, and those that it puts in.
+fn moved_by(row: &SeqRow) -> Result<PairList, Memory>
+    ensures { IfOk result (λ pairs. pairs ≡ moved_by row.now) }
+{
+    let mut moved = row.out_pairs.copy()?;
+    moved.extend(row.in_pairs.as_slice())?;
+    Ok(moved)
+}
+
+impl<'a> Basis<'a> {
+    /// The basis of an image's ranges.
+    pub fn of_image(alloc: Global, image: &'a Image) -> Result<Basis<'a>, Memory>
+        requires { IsSound image.now }
+        ensures image { IfOk result (λ basis. basis.image.now ≡ image.now) }
+        ensures basis { IfOk result IsBasis }
+    {
+        let fixed = fixed_ring(alloc, image)?;
+        Ok(Basis {
+            alloc,
+            image,
+            fixed: Ring::from_distinct(alloc, fixed.as_slice())?,
+            widest: widest(image)?,
+            directory: Directory::from_valid(alloc, image.nodes.as_slice(), image.next)?,
+            replications: replications_of(alloc, image.keyspaces.as_slice())?,
+        })
+    }
+
+    /// The ranges of a movement under a replication.
+    fn ranges_of(&self, row: &SeqRow, replication: &Replication) -> Result<RangeList, Memory>
+        requires basis { IsBasis self.now }
+        requires within { MovesWithin self.now.image.now row.now }
+        ensures ranges { IfOk result (λ ranges. HaveTokens (in_ranges self.now.image.now replication.now row.now) ranges) }
+        ensures bounds { IfOk result (λ ranges. AreCutOut (cuts self.now.image.now) ranges) }
+    {
+        let moved = moved_by(row)?;
+        reached(
+            self.alloc,
+            &self.fixed,
+            self.widest.as_slice(),
+            &self.directory,
+            moved.as_slice(),
+            replication,
+        )
+    }
+
+    /// The ranges of a movement under each replication of the keyspaces.
+    pub fn book_of(&self, row: &SeqRow) -> Result<RangeBook, Memory>
+        requires basis { IsBasis self.now }
+        requires within { MovesWithin self.now.image.now row.now }
+        ensures { IfOk result (IsBook self.now.image.now row.now) }
+    {
+        let mut book = RangeBook::empty(self.alloc);
+        for replication in self.replications.as_slice() {
+            book.push(RangeRow {
+                replication: replication.copy()?,
+                ranges: self.ranges_of(row, replication)?,
+            })?;
+        }
+        Ok(book)
+    }
+
+    /// The ranges of all movements but that of a node.
+    pub fn locks_beside(&self, node: NodeId) -> Result<LockRows, Memory>
+        requires basis { IsBasis self.now }
+        requires sound { IsSound self.now.image.now }
+        ensures { IfOk result (AreLocks self.now.image.now (others self.now.image.now.sequences node)) }
+    {
+        let mut locks = LockRows::empty(self.alloc);
+        for row in self.image.sequences.as_slice() {
+            if row.node != node {
+                locks.push(LockRow {
+                    node: row.node,
+                    ranges: self.book_of(row)?,
+                })?;
+            }
+        }
+        Ok(locks)
+    }
+}

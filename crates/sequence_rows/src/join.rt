@@ -1,0 +1,56 @@
+ghost use Rattle.std.specs.Prelude.{◌≡◌, true, None, IfOk};
+ghost use Rattle.transformations.specs.History.{is_command};
+ghost use Rattle.transformations.specs.Refusals.{early_refusal_of, with_movement};
+ghost use Rattle.transformations.specs.Steps.{join_of, pairs_of};
+ghost use Rattle.transformations.specs.Valid.{IsSound};
+ghost use Rattle.transformations.specs.declared.command.Command.TheVariants as command;
+
+use cluster_terms::{Memory, NodeId, Pair, PairList, Token, TokenList};
+use std::alloc::Global;
+use transformations::{Image, Kind, Phase, SeqRow};
+
+/// The pairs of a node and its tokens, in the order of the tokens.
+pub fn pairs_with(alloc: Global, node: NodeId, tokens: &[Token]) -> Result<PairList, Memory>
+    ensures { IfOk result (λ pairs. pairs ≡ pairs_of node tokens.now) }
+{
+    let mut pairs = PairList::empty(alloc);
+    for token in tokens {
+        pairs.push(Pair {
+            token: *token,
+            node,
+        })?;
+    }
+    Ok(pairs)
+}
+
+/// The row of a join that is prepared.
+fn join_with(alloc: Global, node: NodeId, tokens: &[Token]) -> Result<SeqRow, Memory>
+    ensures { IfOk result (λ row. row ≡ join_of node tokens.now) }
+{
+    Ok(SeqRow {
+        node,
+        kind: Kind::Join,
+        out_pairs: PairList::empty(alloc),
+        in_pairs: pairs_with(alloc, node, tokens)?,
+        phase: Phase::Prepared,
+    })
+}
+
+/// The row of a join that is prepared: it takes no pair out, and puts in the node's tokens. The image stays sound with
+/// it, since it refuses the join for its locked ranges at most. `Err` comes only where memory is wanting for the row's
+/// pairs, one for each token.
+pub fn join_row(
+    alloc: Global,
+    image: &Image,
+    node: NodeId,
+    tokens: &TokenList,
+) -> Result<SeqRow, Memory>
+    requires sound { IsSound image.now }
+    requires formed { is_command (command.PrepareJoin node tokens.now) ≡ true }
+    requires early { early_refusal_of image.now (command.PrepareJoin node tokens.now) ≡ None }
+    ensures row { IfOk result (λ row. row ≡ join_of node tokens.now) }
+    ensures sound { IfOk result (λ row. IsSound (with_movement image.now row)) }
+{
+    let _ = image;
+    join_with(alloc, node, tokens.as_slice())
+}

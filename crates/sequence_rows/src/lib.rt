@@ -1,0 +1,6 @@
+//! The rows of movements that are prepared.
+#![tactic(auto)]
+
+pub mod join;
+
+pub use join::{join_row, pairs_with};

@@ -1,0 +1,8 @@
+use Rattle.std.proofs.Common.{◌≡◌, false, ◌&&◌, take}
+use Rattle.std.specs.List.{AllByRecursion}
+use Rattle.token_ring.specs.Ranges.{have_token}
+use Rattle.token_ring.proofs.range_list.RangeList.first_common.Given as goal
+
+-- no cut so far is in both lists
+abbrev pub invariant-loop-cut : goal.invariant-loop-cut
+invariant-loop-cut l = AllByRecursion (λ t. (have_token l.a t && have_token l.b t) ≡ false) (take l.cut-index l.cuts)

@@ -1,0 +1,132 @@
+ghost use Rattle.std.specs.Prelude.{◌≡◌, int_lt, true, false, ◌||◌, [], ◌∷◌, ◌++◌, ◌≤◌, length, map, IfOk, MatchResult};
+ghost use Rattle.std.specs.List.{AllByRecursion};
+ghost use Rattle.std.specs.List.Sorted.{IsPartitionPoint, IsStrictlySortedBy};
+ghost use Rattle.std.specs.Ordering.{int_cmp};
+ghost use Rattle.cluster_terms.specs.Row.{last_token as last_in, is_past as is_past_end, rows_between as rows_of};
+ghost use Rattle.token_ring.specs.Ranges.{have_token, HaveTokens, ends_before, IsRange, IsRangeList, AreCutOut, have_chosen};
+
+use crate::bounds::bounds_of_both;
+use crate::joining::joined;
+use cluster_terms::{Memory, Token, TokenRange, TryCopy, rows_between, tokens_in_range};
+use std::alloc::Global;
+use std::marker::Model;
+
+/// Ascending ranges of tokens, each with some token, and with a token between any two.
+#[derive(Debug, Drop)]
+pub struct RangeList {
+    ranges: Vec<TokenRange>,
+}
+
+impl Model for RangeList {
+    ghost use Rattle.std.specs.Prelude.{List};
+    ghost use Rattle.cluster_terms.specs.declared.row.TokenRange.{TokenRange};
+    ghost use Rattle.token_ring.specs.Ranges.{IsRangeList};
+
+    ghost Value = { List TokenRange };
+
+    ghost view = { λ list. list.ranges.items };
+
+    ghost invariant = { λ list. IsRangeList list.ranges.items };
+}
+
+/// How many ranges end before a token.
+fn count_before(ranges: &[TokenRange], t: Token) -> usize
+    requires { IsRangeList ranges.now }
+    ensures bound { result ≤ length ranges.now }
+    ensures split { IsPartitionPoint (λ r. int_lt (last_in r.right) t ≡ true) (λ r. int_lt (last_in r.right) t ≡ false) ranges.now result }
+{
+    ranges.partition_point(|range| range.last_token() < t)
+}
+
+/// Whether a token is past a left end.
+fn is_past(left: &Option<Token>, t: Token) -> bool
+    ensures { result ≡ is_past_end left.now t }
+{
+    match left {
+        None => true,
+        Some(left) => *left < t,
+    }
+}
+
+impl RangeList {
+    /// The list of no ranges.
+    pub fn empty(alloc: Global) -> RangeList
+        ensures { result ≡ [] }
+    {
+        RangeList {
+            ranges: Vec::new(alloc),
+        }
+    }
+
+    /// The ranges in ascending order.
+    pub fn as_slice(&self) -> &[TokenRange]
+        ensures ranges { result.now ≡ self.now }
+        ensures list { IsRangeList self.now }
+    {
+        self.ranges.as_slice()
+    }
+
+    /// Adds a range past all others. Want of memory hands the range back and changes nothing.
+    pub fn push(&mut self, range: TokenRange) -> Result<(), (TokenRange, Memory)>
+        requires range { IsRange range }
+        requires apart { AllByRecursion (λ r. ends_before r.right range.left ≡ true) self.old }
+        ensures { MatchResult result (λ _. self.new ≡ self.old ++ range ∷ []) (λ e. (self.new ≡ self.old) × (e.0 ≡ range)) }
+    {
+        match self.ranges.push(range) {
+            Ok(()) => Ok(()),
+            Err(failed) => Err((failed.value, Memory)),
+        }
+    }
+
+    /// Whether a range has a token. The cost is a binary search, about log m for m ranges.
+    pub fn contains(&self, t: Token) -> bool
+        ensures { result ≡ have_token self.now t }
+    {
+        let before = count_before(&self.ranges, t);
+        before < self.ranges.len() && is_past(&self.ranges[before].left, t)
+    }
+
+    /// The ranges of those rows between ascending cuts that are chosen, of which neighbours become one. The cost is
+    /// a look at each row.
+    pub fn from_rows(alloc: Global, cuts: &[Token], chosen: &[bool]) -> Result<RangeList, Memory>
+        requires ascending { IsStrictlySortedBy int_cmp cuts.now }
+        requires one { length chosen.now ≡ length (rows_of cuts.now) }
+        ensures ranges { IfOk result (λ ranges. HaveTokens (have_chosen (rows_of cuts.now) chosen.now) ranges) }
+        ensures bounds { IfOk result (λ ranges. AreCutOut cuts.now ranges) }
+    {
+        tokens_in_range(cuts);
+        let rows = rows_between(alloc, cuts)?;
+        let ranges = joined(alloc, rows.as_slice(), chosen)?;
+        Ok(RangeList { ranges })
+    }
+
+    /// For each row whether its last token is in this list or in the other one.
+    fn in_either(&self, other: &RangeList, rows: &[TokenRange]) -> Result<Vec<bool>, Memory>
+        ensures { IfOk result (λ chosen. chosen.items ≡ map (λ row. have_token self.now (last_in row.right) || have_token other.now (last_in row.right)) rows.now) }
+    {
+        let mut chosen = Vec::with_capacity(*self.ranges.allocator(), rows.len())?;
+        for row in rows {
+            let last = row.last_token();
+            chosen.push(self.contains(last) || other.contains(last))?;
+        }
+        Ok(chosen)
+    }
+
+    /// The ranges of the tokens that are in one of the two lists. The cost is about m log m for m ranges in all.
+    pub fn union(&self, other: &RangeList) -> Result<RangeList, Memory>
+        ensures { IfOk result (λ both. HaveTokens (λ t. have_token self.now t || have_token other.now t) both) }
+    {
+        let alloc = *self.ranges.allocator();
+        let cuts = bounds_of_both(alloc, self.as_slice(), other.as_slice())?;
+        let rows = rows_between(alloc, &cuts)?;
+        let chosen = self.in_either(other, rows.as_slice())?;
+        RangeList::from_rows(alloc, &cuts, &chosen)
+    }
+}
+
+impl TryCopy for RangeList {
+    fn copy(&self) -> Result<RangeList, Memory> {
+        let ranges = self.ranges.clone()?;
+        Ok(RangeList { ranges })
+    }
+}

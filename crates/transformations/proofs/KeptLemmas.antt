@@ -1,0 +1,111 @@
+-- Images in which a movement has the same ranges.
+use Rattle.std.proofs.Common.{◌≡◌, Bool, true, false, ◌&&◌, ◌||◌, ℤ, List, [], ◌∷◌, is_some, refl, sym, ap, ◌∙◌, arith}
+use Rattle.std.proofs.lemmas.Bool.{or_left, or_right}
+use Rattle.std.specs.List.{AllByRecursion, list_any}
+use Rattle.cluster_terms.proofs.ReachKept.{IsNarrowed, reached-kept}
+use Rattle.cluster_terms.specs.Arc.{IsToken}
+use Rattle.cluster_terms.specs.Pair.{has_pair}
+use Rattle.cluster_terms.specs.Reach.{is_reached}
+use Rattle.cluster_terms.specs.Replication.{groups_of}
+use Rattle.cluster_terms.specs.declared.replication.Replication.{Replication}
+use Rattle.cluster_terms.specs.declared.token.Pair.{Pair}
+use Rattle.transformations.proofs.ApartLemmas.{both_at}
+use Rattle.transformations.proofs.ListLemmas.{all_both, all_false, all_weaker}
+use Rattle.transformations.specs.Ranges.{KeepsRanges, in_both, in_ranges, moved_by}
+use Rattle.transformations.specs.Rings.{fixed_ring, widest}
+use Rattle.transformations.specs.Steps.{movement_of}
+use Rattle.transformations.specs.declared.image.Image.{Image}
+use Rattle.transformations.specs.declared.keyspace.KeyspaceRow.{KeyspaceRow}
+use Rattle.transformations.specs.declared.sequence.SeqRow.{SeqRow}
+
+-- under each keyspace a movement has x in its ranges before and after, or in neither
+abbrev pub IsKept : Image → Image → ℤ → SeqRow → Type 0
+IsKept before after x s = AllByRecursion (λ k. in_ranges before k.replication s x ≡ in_ranges after k.replication s x) before.keyspaces
+
+-- ---- one movement
+
+module _ (before after : Image) (replication : Replication) (x : ℤ) where
+  -- the ranges depend on the nodes, on the fixed and the widest pairs, and on what moves
+  pub ranges_alike : (s q : SeqRow) → before.nodes ≡ after.nodes → fixed_ring before ≡ fixed_ring after → widest before ≡ widest after → moved_by s ≡ moved_by q
+      → in_ranges before replication s x ≡ in_ranges after replication q x
+  unfolding in_ranges
+  ranges_alike s q nodes fixed all moved = λ i. is_reached (groups_of (nodes i) replication) (fixed i) (all i) (moved i) x
+
+  -- once a movement is done or given up, the others keep what it doesn't reach
+  ranges_narrowed : (s q : SeqRow) → before.nodes ≡ after.nodes → IsNarrowed (moved_by s) (fixed_ring before) (widest before) (fixed_ring after) (widest after)
+      → (in_ranges before replication s x && in_ranges before replication q x) ≡ false → in_ranges before replication q x ≡ in_ranges after replication q x
+  unfolding in_ranges
+  ranges_narrowed s q nodes narrowed apart =
+      reached-kept (groups_of before.nodes replication) (fixed_ring before) (widest before) (fixed_ring after) (widest after) (moved_by s) (moved_by q) x narrowed apart
+      ∙ ap (λ ns. is_reached (groups_of ns replication) (fixed_ring after) (widest after) (moved_by q) x) nodes
+
+pub kept_narrowed : (before after : Image) (x : ℤ) (s q : SeqRow) → before.nodes ≡ after.nodes → IsNarrowed (moved_by s) (fixed_ring before) (widest before) (fixed_ring after) (widest after)
+    → in_both before s q x ≡ false → IsKept before after x q
+kept_narrowed before after x s q nodes narrowed apart =
+    all_weaker (λ (k : KeyspaceRow). (in_ranges before k.replication s x && in_ranges before k.replication q x) ≡ false) (λ (k : KeyspaceRow). in_ranges before k.replication q x ≡ in_ranges after k.replication q x)
+    (λ k none. ranges_narrowed before after k.replication x s q nodes narrowed none) before.keyspaces
+    (all_false (λ (k : KeyspaceRow). in_ranges before k.replication s x && in_ranges before k.replication q x) before.keyspaces apart)
+
+-- the fixed pairs stay, and of the widest those go that move
+pub narrowed_out : (mine fixed widest widest' : List Pair) → ((p : Pair) → has_pair fixed p ≡ true → has_pair widest' p ≡ true)
+    → ((p : Pair) → (has_pair mine p || has_pair widest' p) ≡ has_pair widest p) → IsNarrowed mine fixed widest fixed widest'
+narrowed_out mine fixed widest widest' inner split = record {
+  grows = λ p there. there;
+  inner = inner;
+  shrinks = λ p there. sym (split p) ∙ or_right (has_pair mine p) (has_pair widest' p) there;
+  mine_in = λ p there. or_left (has_pair fixed p) (has_pair mine p) there;
+  mine_out = λ p there. turned (has_pair mine p) (has_pair widest' p) (split p ∙ there);
+}
+  where
+    turned : (a b : Bool) → (a || b) ≡ true → (b || a) ≡ true
+    turned a b h = grind arith
+
+-- what moves is fixed now, and the widest are the same
+pub narrowed_in : (mine fixed widest fixed' widest' : List Pair) → ((p : Pair) → (has_pair mine p || has_pair fixed p) ≡ has_pair fixed' p)
+    → ((p : Pair) → has_pair fixed' p ≡ true → has_pair widest' p ≡ true) → ((p : Pair) → has_pair widest p ≡ has_pair widest' p) → IsNarrowed mine fixed widest fixed' widest'
+narrowed_in mine fixed widest fixed' widest' split inner same = record {
+  grows = λ p there. sym (split p) ∙ or_right (has_pair mine p) (has_pair fixed p) there;
+  inner = inner;
+  shrinks = λ p there. same p ∙ there;
+  mine_in = λ p there. turned (has_pair mine p) (has_pair fixed p) (split p ∙ there);
+  mine_out = λ p there. or_left (has_pair widest' p) (has_pair mine p) (sym (same p) ∙ there);
+}
+  where
+    turned : (a b : Bool) → (a || b) ≡ true → (b || a) ≡ true
+    turned a b h = grind arith
+
+-- ---- two movements
+
+-- tests that agree at each item are passed by the same lists
+pub any_alike : {X : Type 0} (f g : X → Bool) (xs : List X) → AllByRecursion (λ x. f x ≡ g x) xs → list_any f xs ≡ list_any g xs
+any_alike f g [] all = refl
+any_alike f g (x ∷ xs) all = λ i. all.0 i || any_alike f g xs all.1 i
+
+-- two movements that keep their ranges are in both as before
+pub both_kept : (before after : Image) (x : ℤ) → before.keyspaces ≡ after.keyspaces → (s q : SeqRow) → IsKept before after x s → IsKept before after x q → both_at before x s q ≡ both_at after x s q
+both_kept before after x same s q one other =
+    any_alike (λ (k : KeyspaceRow). in_ranges before k.replication s x && in_ranges before k.replication q x) (λ (k : KeyspaceRow). in_ranges after k.replication s x && in_ranges after k.replication q x) before.keyspaces
+    (all_both (λ (k : KeyspaceRow). in_ranges before k.replication s x ≡ in_ranges after k.replication s x) (λ (k : KeyspaceRow). in_ranges before k.replication q x ≡ in_ranges after k.replication q x)
+    (λ (k : KeyspaceRow). (in_ranges before k.replication s x && in_ranges before k.replication q x) ≡ (in_ranges after k.replication s x && in_ranges after k.replication q x))
+    (λ k e f. λ i. e i && f i) before.keyspaces one other)
+    ∙ ap (λ keyspaces. list_any (λ (k : KeyspaceRow). in_ranges after k.replication s x && in_ranges after k.replication q x) keyspaces) same
+
+-- ---- all movements
+
+-- what holds of the items of two lists, taken by those of the second
+all_turned : {X Y : Type 0} (C : X → Type 0) (P : Y → X → Type 0) (xs : List X) (ys : List Y) → AllByRecursion (λ x. C x → AllByRecursion (λ y. P y x) ys) xs → AllByRecursion (λ y. AllByRecursion (λ x. C x → P y x) xs) ys
+all_turned C P xs [] all = tt
+all_turned C P xs (y ∷ ys) all = (
+  all_weaker (λ x. C x → P y x × AllByRecursion (λ z. P z x) ys) (λ x. C x → P y x) (λ x each c. (each c).0) xs all,
+  all_turned C P xs ys (all_weaker (λ x. C x → P y x × AllByRecursion (λ z. P z x) ys) (λ x. C x → AllByRecursion (λ z. P z x) ys) (λ x each c. (each c).1) xs all),
+)
+
+-- each movement that goes on is kept
+pub keeps : (before after : Image) → ((x : ℤ) → IsToken x → AllByRecursion (λ s. is_some (movement_of after s.node) ≡ true → IsKept before after x s) before.sequences) → KeepsRanges before after
+keeps before after each = λ x token.
+    all_turned (λ (s : SeqRow). is_some (movement_of after s.node) ≡ true) (λ (k : KeyspaceRow) (s : SeqRow). in_ranges before k.replication s x ≡ in_ranges after k.replication s x)
+    before.sequences before.keyspaces (each x token)
+
+pub keeps_all : (before after : Image) → ((x : ℤ) → IsToken x → AllByRecursion (IsKept before after x) before.sequences) → KeepsRanges before after
+keeps_all before after each =
+    keeps before after (λ x token. all_weaker (IsKept before after x) (λ (s : SeqRow). is_some (movement_of after s.node) ≡ true → IsKept before after x s) (λ s kept on. kept) before.sequences (each x token))
