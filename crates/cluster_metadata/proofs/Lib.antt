@@ -1,7 +1,10 @@
+pub mod CancelLemmas
+pub mod DirectoryLemmas
 pub mod EndLemmas
 pub mod LockLemmas
 pub mod OutcomeLemmas
 pub mod PlaceLemmas
+pub mod PrepareLemmas
 pub mod RefusalLemmas
 pub mod RingLemmas
 pub mod RunningLemmas

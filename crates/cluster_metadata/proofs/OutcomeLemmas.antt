@@ -1,9 +1,11 @@
--- What the ranges of the movements say of a valid image, and of the one that a permit leads to.
-use Rattle.std.proofs.Common.{◌≡◌, ◌∙◌, subst, sym}
+-- What the ranges of the movements and the quorums say of a valid image, and of the one that a permit leads to.
+use Rattle.std.proofs.Common.{◌≡◌, true, ◌∙◌, subst, sym}
+use Rattle.transformations.proofs.AdjacentLemmas.{meet_next}
 use Rattle.transformations.proofs.OutcomeLemmas.{are_outcomes, placed_by_ranges}
 use Rattle.transformations.proofs.RangesKept.{ranges_kept}
 use Rattle.transformations.proofs.ValidLemmas.{valid_next}
 use Rattle.transformations.specs.History.{next_image}
+use Rattle.transformations.specs.Meeting.{HaveReplications, QuorumsMeet, is_movement}
 use Rattle.transformations.specs.Ranges.{AreOutcomes, KeepsRanges, PlacedByRanges}
 use Rattle.transformations.specs.Valid.{IsValid}
 use Rattle.transformations.specs.declared.command.Command.{Command}
@@ -27,3 +29,8 @@ module _ (image after : Image) (c : Command) (change : Change) (permitted : IsPe
 
   pub keeps_ranges : KeepsRanges image after
   keeps_ranges = subst (λ i. KeepsRanges image i) leads (ranges_kept image c valid permitted.formed permitted.accepted)
+
+  -- the quorums of both meet where the command makes a movement epoch
+  pub quorums_meet : HaveReplications image → is_movement c ≡ true → QuorumsMeet image after
+  quorums_meet have moves =
+      subst (λ i. QuorumsMeet image i) leads (meet_next image c valid have permitted.formed permitted.accepted moves permitted.room)

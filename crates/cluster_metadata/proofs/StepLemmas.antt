@@ -5,13 +5,14 @@ use Rattle.std.proofs.lemmas.Option.{none-some}
 use Rattle.std.specs.List.{insert, remove, slice_get}
 use Rattle.std.specs.List.Sorted.{IsStrictlySortedBy}
 use Rattle.cluster_terms.specs.Ascending.{put}
+use Rattle.cluster_terms.specs.declared.node.NodeRow.{NodeRow}
 use Rattle.cluster_terms.specs.declared.token.Pair.{Pair}
 use Rattle.transformations.proofs.ListLemmas.{found_passes}
 use Rattle.transformations.specs.History.{next_image}
 use Rattle.transformations.specs.Orders.{by_node}
 use Rattle.transformations.specs.Refusals.{early_refusal_of, first_of, no_node, no_sequence, refused_if, unless_next, wrong_step}
-use Rattle.transformations.specs.Steps.{at_phase, finished, is_next_step, join_of, movement_of, others, phase_before, ring_after, same_kind, same_phase}
-use Rattle.transformations.specs.declared.command.Command.TheVariants.{PrepareJoin, Step}
+use Rattle.transformations.specs.Steps.{at_phase, finished, is_next_step, leaver, movement_of, others, phase_before, ring_after, same_kind, same_phase, with_left}
+use Rattle.transformations.specs.declared.command.Command.TheVariants.{Step}
 use Rattle.transformations.specs.declared.image.Image.{Image}
 use Rattle.transformations.specs.declared.refusal.Refusal.{Refusal}
 use Rattle.transformations.specs.declared.refusal.Refusal.TheVariants.{NoSequence, WrongStep}
@@ -28,15 +29,15 @@ use Rattle.cluster_metadata.specs.declared.change.Change.TheVariants.{Begun, Sta
 
 -- ---- where no refusal comes
 
-first_none : (a : Option Refusal) (later : List (Option Refusal)) → first_of (a ∷ later) ≡ None → (a ≡ None) × (first_of later ≡ None)
+pub first_none : (a : Option Refusal) (later : List (Option Refusal)) → first_of (a ∷ later) ≡ None → (a ≡ None) × (first_of later ≡ None)
 first_none None later h = (refl, h)
 first_none (Some r) later h = absurd (none-some r (sym h))
 
-test_false : (b : Bool) (r : Refusal) → refused_if b r ≡ None → b ≡ false
+pub test_false : (b : Bool) (r : Refusal) → refused_if b r ≡ None → b ≡ false
 test_false true r h = absurd (none-some r (sym h))
 test_false false r h = refl
 
-negated : (b : Bool) → not b ≡ false → b ≡ true
+pub negated : (b : Bool) → not b ≡ false → b ≡ true
 negated true h = refl
 negated false h = absurd (true≢false h)
 
@@ -55,14 +56,6 @@ pub begins : (image : Image) (at : ℕ) (row : SeqRow) (after : List SeqRow) →
 begins image at row after prepared within made place =
     let with_rows : List SeqRow → Image = λ rows. record image { epoch = image.epoch + 1; sequences = rows } in
     (ap with_rows (made ∙ sym place), (prepared, within, made))
-
--- that of a join is the change of the command
-pub joins : (image : Image) (n : ℕ) (tokens : List ℤ) (row : SeqRow) → row ≡ join_of n tokens → {E : Type 0} (result : Result Change E) → IfOk result (Begins image row) → IfOk result (IsChange image (PrepareJoin n tokens))
-unfolding next_image
-joins image n tokens row is (Ok change) begin =
-    let with_row : SeqRow → Image = λ s. record image { epoch = image.epoch + 1; sequences = put by_node s image.sequences } in
-    (begin.0 ∙ ap with_row is, begin.1)
-joins image n tokens row is (Err e) begin = begin
 
 -- ---- the movement that takes a step
 
@@ -94,55 +87,56 @@ before_step image g kind n s h found =
 
 -- ---- the changes
 
-module _ (image : Image) (kind : Kind) (n : ℕ) (at : ℕ) (s : SeqRow) (up : IsStrictlySortedBy by_node image.sequences) (within : at < length image.sequences)
+module _ (image : Image) (n : ℕ) (at : ℕ) (s : SeqRow) (up : IsStrictlySortedBy by_node image.sequences) (within : at < length image.sequences)
     (here : s ≡ get_or image.sequences at s) (place : slice_get image.sequences at ≡ movement_of image n) where
-  stands : slice_get image.sequences at ≡ Some s
+  pub stands : slice_get image.sequences at ≡ Some s
   stands = at_index image.sequences at s within here
 
-  found : movement_of image n ≡ Some s
+  pub found : movement_of image n ≡ Some s
   found = sym place ∙ stands
 
-  own : (s.node == n) ≡ true
+  pub own : (s.node == n) ≡ true
   own = found_passes (λ (q : SeqRow). q.node == n) image.sequences s found
 
-  back : (p q : Phase) (row : SeqRow) → s.phase ≡ p → row ≡ in_phase q s → slice_get image.sequences at ≡ Some (in_phase p row)
+  pub back : (p q : Phase) (row : SeqRow) → s.phase ≡ p → row ≡ in_phase q s → slice_get image.sequences at ≡ Some (in_phase p row)
   back p q row was made =
       let same : s ≡ in_phase p row = ap (λ r. in_phase r s) was ∙ ap (in_phase p) (sym made) in
       stands ∙ ap (λ (r : SeqRow). Some r) same
 
-  abbrev with_rows : List SeqRow → Image
+  abbrev pub with_rows : List SeqRow → Image
   with_rows rows = record image { epoch = image.epoch + 1; sequences = rows }
 
-  after : (p : Phase) (row : SeqRow) → row ≡ in_phase p s → with_rows (set image.sequences at row) ≡ with_rows (map (at_phase p n) image.sequences)
+  pub after : (p : Phase) (row : SeqRow) → row ≡ in_phase p s → with_rows (set image.sequences at row) ≡ with_rows (map (at_phase p n) image.sequences)
   after p row made = ap with_rows (ap (set image.sequences at) made ∙ sym (stepped_at n p image.sequences at s up stands own))
 
-  pub started : (g : Goal) (row : SeqRow) → g ≡ goal.Start → early_refusal_of image (Step g kind n) ≡ None → row ≡ in_phase phase.Started s → IsChange image (Step g kind n) (Started at row)
+  pub started : (kind : Kind) (g : Goal) (row : SeqRow) → g ≡ goal.Start → early_refusal_of image (Step g kind n) ≡ None → row ≡ in_phase phase.Started s → IsChange image (Step g kind n) (Started at row)
   unfolding next_image
-  started goal.Start row is h made =
+  started kind goal.Start row is h made =
       let was = before_step image goal.Start kind n s h found in
       (after phase.Started row made, (back phase.Prepared phase.Started row was made, ap (λ (r : SeqRow). r.phase) made))
-  started goal.Mid row is h made = cc
-  started goal.Finish row is h made = cc
+  started kind goal.Mid row is h made = cc
+  started kind goal.Finish row is h made = cc
 
-  pub half_way : (g : Goal) (row : SeqRow) → g ≡ goal.Mid → early_refusal_of image (Step g kind n) ≡ None → row ≡ in_phase phase.Mid s → IsChange image (Step g kind n) (Mid at row)
+  pub half_way : (kind : Kind) (g : Goal) (row : SeqRow) → g ≡ goal.Mid → early_refusal_of image (Step g kind n) ≡ None → row ≡ in_phase phase.Mid s → IsChange image (Step g kind n) (Mid at row)
   unfolding next_image
-  half_way goal.Mid row is h made =
+  half_way kind goal.Mid row is h made =
       let was = before_step image goal.Mid kind n s h found in
       (after phase.Mid row made, (back phase.Started phase.Mid row was made, ap (λ (r : SeqRow). r.phase) made))
-  half_way goal.Start row is h made = cc
-  half_way goal.Finish row is h made = cc
+  half_way kind goal.Start row is h made = cc
+  half_way kind goal.Finish row is h made = cc
 
-  pub done : (g : Goal) (ring : List Pair) (rows : List SeqRow) → g ≡ goal.Finish → early_refusal_of image (Step g kind n) ≡ None → ring ≡ ring_after image.tokens s → rows ≡ others image.sequences n
-      → IsChange image (Step g kind n) (Finished at ring rows)
+  pub done : (kind : Kind) (g : Goal) (nodes : List NodeRow) (ring : List Pair) (rows : List SeqRow) → g ≡ goal.Finish → early_refusal_of image (Step g kind n) ≡ None → nodes ≡ with_left image.nodes (leaver s) → ring ≡ ring_after image.tokens s
+      → rows ≡ others image.sequences n → IsChange image (Step g kind n) (Finished at nodes ring rows)
   unfolding next_image
-  done goal.Finish ring rows is h made left =
+  done kind goal.Finish nodes ring rows is h marked made left =
       let was = before_step image goal.Finish kind n s h found in
       let without : rows ≡ remove image.sequences at = left ∙ others_at n image.sequences at s up stands own in
       let none_own : others image.sequences s.node ≡ remove image.sequences at = others_at s.node image.sequences at s up stands ((Decides-eqb s.node s.node).1 refl) in
-      let ended : List Pair → List SeqRow → Image = λ r l. record image { epoch = image.epoch + 1; tokens = r; sequences = l } in
+      let ended : List NodeRow → List Pair → List SeqRow → Image = λ k r l. record image { epoch = image.epoch + 1; nodes = k; tokens = r; sequences = l } in
       let last : Option SeqRow → Image = λ o. let a : Image = finished image o in record a { epoch = image.epoch + 1 } in (
-        ap (λ r. ended r rows) made ∙ ap (ended (ring_after image.tokens s)) (without ∙ sym none_own) ∙ ap last (sym found),
+        ap (λ k. ended k ring rows) marked ∙ ap (λ r. ended (with_left image.nodes (leaver s)) r rows) made
+            ∙ ap (ended (with_left image.nodes (leaver s)) (ring_after image.tokens s)) (without ∙ sym none_own) ∙ ap last (sym found),
         (ap (option_map (λ (q : SeqRow). q.phase)) stands ∙ ap (λ (p : Phase). Some p) was, without),
       )
-  done goal.Start ring rows is h made left = cc
-  done goal.Mid ring rows is h made left = cc
+  done kind goal.Start nodes ring rows is h marked made left = cc
+  done kind goal.Mid nodes ring rows is h marked made left = cc

@@ -1,16 +1,18 @@
 -- What a command changes of an image.
-use Rattle.std.specs.Prelude.{◌≡◌, ℕ, ◌+◌, ◌≤◌, List, length, slice_set, Some, option_map}
+use Rattle.std.specs.Prelude.{◌≡◌, ℕ, ◌+◌, ◌≤◌, false, List, length, slice_set, Option, Some, None, option_map}
 use Rattle.std.specs.List.{insert, remove, slice_get}
 use Rattle.cluster_terms.specs.Ascending.{put}
+use Rattle.node_directory.specs.Directory.{Registry}
 use Rattle.transformations.specs.History.{next_image}
 use Rattle.transformations.specs.Orders.{by_node}
+use Rattle.transformations.specs.Rings.{is_mid}
 use Rattle.transformations.specs.declared.command.Command.{Command}
 use Rattle.transformations.specs.declared.image.Image.{Image}
 use Rattle.transformations.specs.declared.sequence.Phase.{Phase}
 use Rattle.transformations.specs.declared.sequence.Phase.TheVariants as phase
 use Rattle.transformations.specs.declared.sequence.SeqRow.{SeqRow}
 use Rattle.cluster_metadata.specs.declared.change.Change.{Change}
-use Rattle.cluster_metadata.specs.declared.change.Change.TheVariants.{Nodes, Tokens, Keyspaces, Begun, Started, Mid, Finished}
+use Rattle.cluster_metadata.specs.declared.change.Change.TheVariants.{Nodes, Tokens, Keyspaces, Begun, Started, Mid, Finished, Ended, BroughtBack}
 
 -- the image with a change, which is one epoch
 abbrev pub changed : Image → Change → Image
@@ -20,7 +22,10 @@ changed image (Keyspaces keyspaces) = record image { epoch = image.epoch + 1; ke
 changed image (Begun at row sequences) = record image { epoch = image.epoch + 1; sequences = sequences }
 changed image (Started at row) = record image { epoch = image.epoch + 1; sequences = slice_set image.sequences at row }
 changed image (Mid at row) = record image { epoch = image.epoch + 1; sequences = slice_set image.sequences at row }
-changed image (Finished at tokens sequences) = record image { epoch = image.epoch + 1; tokens = tokens; sequences = sequences }
+changed image (Finished at nodes tokens sequences) =
+    record image { epoch = image.epoch + 1; nodes = nodes; tokens = tokens; sequences = sequences }
+changed image (Ended at sequences) = record image { epoch = image.epoch + 1; sequences = sequences }
+changed image (BroughtBack at row) = record image { epoch = image.epoch + 1; sequences = slice_set image.sequences at row }
 
 -- a movement at another phase
 abbrev pub in_phase : Phase → SeqRow → SeqRow
@@ -30,13 +35,20 @@ in_phase p row = record row { phase = p }
 abbrev pub StandsAt : List SeqRow → ℕ → Phase → Type 0
 StandsAt rows at p = option_map (λ s. s.phase) (slice_get rows at) ≡ Some p
 
+-- and one that isn't half way stands there
+abbrev pub StandsBeforeMid : List SeqRow → ℕ → Type 0
+StandsBeforeMid rows at = option_map (λ s. is_mid s.phase) (slice_get rows at) ≡ Some false
+
 -- the movements in flight are those that a change goes on from: a new one is put among them at its place; the row itself
--- stands at its place, at the phase before, for a step; and one that is half way is taken out for the last step
+-- stands at its place, at the phase before, for a step, and at MID for the way back; and one that is half way is taken
+-- out for the last step, and one that isn't where it is given up
 abbrev pub Follows : List SeqRow → Change → Type 0
 Follows before (Begun at row after) = (row.phase ≡ phase.Prepared) × (at ≤ length before) × (after ≡ insert before at row)
 Follows before (Started at row) = (slice_get before at ≡ Some (in_phase phase.Prepared row)) × (row.phase ≡ phase.Started)
 Follows before (Mid at row) = (slice_get before at ≡ Some (in_phase phase.Started row)) × (row.phase ≡ phase.Mid)
-Follows before (Finished at tokens after) = StandsAt before at phase.Mid × (after ≡ remove before at)
+Follows before (Finished at nodes tokens after) = StandsAt before at phase.Mid × (after ≡ remove before at)
+Follows before (Ended at after) = StandsBeforeMid before at × (after ≡ remove before at)
+Follows before (BroughtBack at row) = (slice_get before at ≡ Some (in_phase phase.Mid row)) × (row.phase ≡ phase.Started)
 Follows before _ = Unit {0}
 
 -- a change is a command's
@@ -51,3 +63,12 @@ Begins image row change = (changed image change ≡ record image { epoch = image
 abbrev pub grown_to : Change → ℕ
 grown_to (Begun at row sequences) = length sequences
 grown_to _ = 0
+
+-- the directory of the nodes of an image; and that of the nodes that a change leaves, where it changes them
+abbrev pub directory_of : Image → Registry
+directory_of image = record { rows = image.nodes; next = image.next }
+
+abbrev pub directory_after : Image → Change → Option Registry
+directory_after image (Nodes nodes next) = Some (record { rows = nodes; next = next })
+directory_after image (Finished at nodes tokens sequences) = Some (record { rows = nodes; next = image.next })
+directory_after image _ = None

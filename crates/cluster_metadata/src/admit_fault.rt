@@ -4,7 +4,7 @@ ghost use Rattle.cluster_metadata.specs.declared.admit_fault.AdmitFault.TheVaria
 use transformations::Refusal;
 
 /// Why a command was not admitted.
-#[derive(Clone, Copy, Debug, PartialEq, Eq)]
+#[derive(Debug, Drop)]
 pub enum AdmitFault {
     /// The image refuses it.
     Refused(Refusal),

@@ -30,10 +30,21 @@ pub enum Change {
         at: usize,
         row: SeqRow,
     },
-    /// The ring once a movement is done, and the other movements.
+    /// The nodes, of which one may have left, and the ring once a movement is done, and the other movements.
     Finished {
         at: usize,
+        nodes: NodeRows,
         tokens: PairList,
         sequences: SeqRows,
+    },
+    /// The other movements, once one is given up that isn't half way.
+    Ended {
+        at: usize,
+        sequences: SeqRows,
+    },
+    /// The row of a movement, started, which was half way.
+    BroughtBack {
+        at: usize,
+        row: SeqRow,
     },
 }

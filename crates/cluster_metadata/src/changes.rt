@@ -1,17 +1,20 @@
 //! The change that a command makes of an image which accepts it.
 
 ghost use Rattle.std.specs.Prelude.{◌≡◌, ◌<◌, ◌^◌, ◌-◌, ◌==◌, true, not, None, filter, IfOk, MatchResult};
+ghost use Rattle.std.specs.List.Sorted.{IsStrictlySortedBy};
 ghost use Rattle.std.specs.Str.{bytes_eq};
 ghost use Rattle.transformations.specs.History.{is_command};
-ghost use Rattle.transformations.specs.Refusals.{early_refusal_of, refusal_of};
+ghost use Rattle.transformations.specs.Orders.{by_node};
+ghost use Rattle.transformations.specs.Refusals.{early_refusal_of, prepared_by, refusal_of};
 ghost use Rattle.transformations.specs.Valid.{IsSound};
 ghost use Rattle.transformations.specs.declared.command.Command.TheVariants as command;
 ghost use Rattle.cluster_metadata.specs.Change.{IsChange};
 ghost use Rattle.cluster_metadata.specs.Permission.{ShowsRefusal};
 
 use crate::admit_fault::AdmitFault;
+use crate::cancelling::cancel;
 use crate::change::Change;
-use crate::preparing::prepare_join;
+use crate::preparing::{prepare, row_prepared};
 use crate::stepping::step;
 use cluster_terms::{
     Memory, Name, NodeId, NodeRow, NodeRows, Replication, Steps, TokenList, TryCopy,
@@ -107,9 +110,30 @@ fn drop_keyspace(image: &Image, name: &Name) -> Result<Change, Memory>
     Ok(Change::Keyspaces(keyspaces))
 }
 
-/// What a command changes that has no early refusal: the next version of a list, with the change made. A movement is
-/// refused whose ranges are locked.
-#[tactic(auto, using(crate::proofs::RefusalLemmas::none_later))]
+/// What a command changes that prepares no movement: the next version of each list that it changes, with the change made.
+fn settled(alloc: Global, image: &Image, cmd: &Command) -> Result<Change, Memory>
+    requires next { image.now.next < 2 ^ 32 - 1 }
+    requires movements { IsStrictlySortedBy by_node image.now.sequences }
+    requires early { early_refusal_of image.now cmd.now ≡ None }
+    requires settled { prepared_by image.now.tokens cmd.now ≡ None }
+    ensures { IfOk result (IsChange image.now cmd.now) }
+{
+    match cmd {
+        Command::Register { name, dc, rack } => register(image, name, dc, rack),
+        Command::Unregister { node } => unregister(image, *node),
+        Command::UnsafeJoin { node, tokens } => unsafe_join(alloc, image, *node, tokens),
+        Command::Keyspace { name, replication } => set_keyspace(image, name, replication),
+        Command::DropKeyspace { name } => drop_keyspace(image, name),
+        Command::Step { goal, kind, node } => step(alloc, image, *goal, *kind, *node),
+        Command::Cancel { node } => cancel(image, *node),
+        Command::PrepareJoin { .. }
+        | Command::PrepareMove { .. }
+        | Command::PrepareLeave { .. }
+        | Command::PrepareReplace { .. } => unreachable!(),
+    }
+}
+
+/// What a command changes that has no early refusal. A movement is refused whose ranges are locked.
 pub fn change_of<L: Ledger>(
     alloc: Global,
     image: &Image,
@@ -124,13 +148,8 @@ pub fn change_of<L: Ledger>(
     ensures refusal { MatchResult result (λ _. refusal_of image.now cmd.now ≡ None) (ShowsRefusal (refusal_of image.now cmd.now)) }
     ensures uncounted { walks.new ≡ walks.old }
 {
-    match cmd {
-        Command::Register { name, dc, rack } => Ok(register(image, name, dc, rack)?),
-        Command::Unregister { node } => Ok(unregister(image, *node)?),
-        Command::UnsafeJoin { node, tokens } => Ok(unsafe_join(alloc, image, *node, tokens)?),
-        Command::Keyspace { name, replication } => Ok(set_keyspace(image, name, replication)?),
-        Command::DropKeyspace { name } => Ok(drop_keyspace(image, name)?),
-        Command::PrepareJoin { node, tokens } => prepare_join(alloc, image, *node, tokens, walks),
-        Command::Step { goal, kind, node } => Ok(step(image, *goal, *kind, *node)?),
+    if let Some(row) = row_prepared(alloc, image, cmd)? {
+        return prepare(alloc, image, row, walks);
     }
+    Ok(settled(alloc, image, cmd)?)
 }

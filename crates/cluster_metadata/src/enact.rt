@@ -1,14 +1,15 @@
 //! A change is made of an image, and the values of the movements in flight go along. Nothing takes memory here.
 
-ghost use Rattle.std.specs.Prelude.{◌≡◌, ◌+◌, ◌<◌, ◌≤◌, ◌^◌, ◌-◌, length, slice_set, vec_capacity, vec_len};
+ghost use Rattle.std.specs.Prelude.{◌≡◌, ◌+◌, ◌<◌, ◌≤◌, ◌^◌, ◌-◌, length, slice_set, vec_capacity, vec_len, MatchOption};
 ghost use Rattle.std.specs.List.{insert, remove};
 ghost use Rattle.transformations.specs.declared.sequence.Phase.TheVariants as phase;
-ghost use Rattle.cluster_metadata.specs.Change.{Follows, StandsAt, changed, grown_to};
+ghost use Rattle.cluster_metadata.specs.Change.{Follows, StandsAt, StandsBeforeMid, changed, grown_to};
 ghost use Rattle.cluster_metadata.specs.Running.{IsRunning};
 ghost use Rattle.cluster_metadata.specs.declared.change.Change.TheVariants as change;
 
 use crate::change::Change;
 use crate::running::Running;
+use node_directory::Directory;
 use std::mem::swap;
 use transformations::{Image, SeqRow, SeqRows};
 
@@ -92,6 +93,36 @@ fn finish(sequences: &[SeqRow], running: &mut Vec<Running>, at: usize)
     let _row = running.remove(at).finish();
 }
 
+/// A movement that isn't half way is given up.
+fn end(sequences: &[SeqRow], running: &mut Vec<Running>, at: usize)
+    requires running { IsRunning sequences.now running.old.items }
+    requires early { StandsBeforeMid sequences.now at }
+    ensures { IsRunning (remove sequences.now at) running.new.items }
+{
+    let _row = running.remove(at).give_up();
+}
+
+/// A movement that is half way goes back to where it had started.
+fn bring_back(sequences: &mut SeqRows, running: &mut Vec<Running>, at: usize, row: SeqRow)
+    requires running { IsRunning sequences.old running.old.items }
+    requires follows { Follows sequences.old (change.BroughtBack at row) }
+    ensures rows { sequences.new ≡ slice_set sequences.old at row }
+    ensures running { IsRunning sequences.new running.new.items }
+{
+    let movement = running.remove(at);
+    put(running, at, movement.bring_back());
+    sequences.replace(at, row);
+}
+
+/// Takes over the directory that a change leaves, where it leaves one.
+pub fn renew(directory: &mut Directory, left: Option<Directory>)
+    ensures { MatchOption left (directory.new ≡ directory.old) (λ d. directory.new ≡ d) }
+{
+    if let Some(left) = left {
+        *directory = left;
+    }
+}
+
 /// Makes a change of an image, and takes the values of the movements along.
 pub fn make(image: &mut Image, running: &mut Vec<Running>, change: Change, mut room: Vec<Running>)
     requires epochs { image.old.epoch < 2 ^ 64 - 1 }
@@ -118,13 +149,20 @@ pub fn make(image: &mut Image, running: &mut Vec<Running>, change: Change, mut r
         Change::Mid { at, row } => mid(&mut image.sequences, running, at, row),
         Change::Finished {
             at,
+            nodes,
             tokens,
             sequences,
         } => {
             finish(image.sequences.as_slice(), running, at);
+            image.nodes = nodes;
             image.tokens = tokens;
             image.sequences = sequences;
         }
+        Change::Ended { at, sequences } => {
+            end(image.sequences.as_slice(), running, at);
+            image.sequences = sequences;
+        }
+        Change::BroughtBack { at, row } => bring_back(&mut image.sequences, running, at, row),
     }
     room.destroy_empty();
 }

@@ -2,9 +2,13 @@
 #![tactic(auto)]
 
 mod admit_fault;
+#[cfg(test)]
+mod cancel_tests;
+mod cancelling;
 mod change;
 mod changes;
 mod enact;
+mod leaving;
 mod locks;
 mod metadata;
 #[cfg(test)]

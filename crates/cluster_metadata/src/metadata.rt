@@ -1,15 +1,19 @@
-ghost use Rattle.std.specs.Prelude.{◌≡◌, ◌<◌, None, IfOk, IsTrue, MatchResult};
+ghost use Rattle.std.specs.Prelude.{◌≡◌, ◌<◌, ◌≤◌, true, None, length, option_map, IfOk, IfSome, IsTrue, MatchResult};
+ghost use Rattle.std.specs.Option.{option_copied};
 ghost use Rattle.transformations.specs.History.{empty_image, is_command, most_epochs, next_image};
+ghost use Rattle.transformations.specs.Meeting.{QuorumsExistTogether, QuorumsMeet, ReadsAreWritten, is_movement};
 ghost use Rattle.transformations.specs.Refusals.{refusal_of};
-ghost use Rattle.cluster_metadata.specs.Served.{served};
+ghost use Rattle.cluster_metadata.specs.Change.{directory_of};
+ghost use Rattle.cluster_metadata.specs.Served.{keyspace_of as the_keyspace_of, served};
 
 use crate::admit_fault::AdmitFault;
 use crate::changes::change_of;
-use crate::enact::make;
-use crate::permit::{Permit, room_for};
+use crate::enact::{make, renew};
+use crate::permit::{Permit, directory_for, room_for};
 use crate::placement::{keyspace_of, served_by};
 use crate::running::{Running, close_all};
-use cluster_terms::{Memory, Name, SmallList, Steps, Token, TryCopy};
+use cluster_terms::{Memory, Name, Replication, SmallList, Steps, Token, TryCopy};
+use node_directory::Directory;
 use node_sets::NodeSet;
 use std::alloc::Global;
 use std::marker::Model;
@@ -27,20 +31,23 @@ use transformations::{Command, Image, early_refusal};
 pub struct Metadata {
     alloc: Global,
     image: Image,
+    directory: Directory,
     running: Vec<Running>,
 }
 
 impl Model for Metadata {
+    ghost use Rattle.std.specs.Prelude.{◌≡◌};
     ghost use Rattle.transformations.specs.Valid.{IsValid};
     ghost use Rattle.transformations.specs.declared.image.Image.{Image};
 
     ghost Value = { Image };
 
+    ghost use Rattle.cluster_metadata.specs.Change.{directory_of};
     ghost use Rattle.cluster_metadata.specs.Running.{IsRunning};
 
     ghost view = { λ m. m.image };
 
-    ghost invariant = { λ m. IsValid m.image × IsRunning m.image.sequences m.running.items };
+    ghost invariant = { λ m. IsValid m.image × IsRunning m.image.sequences m.running.items × (m.directory ≡ directory_of m.image) };
 }
 
 impl Metadata {
@@ -60,9 +67,11 @@ impl Metadata {
             keyspaces: SmallList::empty(alloc),
             sequences: SmallList::empty(alloc),
         };
+        let directory = Directory::from_valid(alloc, &[], 1)?;
         Ok(Metadata {
             alloc,
             image,
+            directory,
             running: Vec::new(alloc),
         })
     }
@@ -121,10 +130,12 @@ impl Metadata {
             return Err(AdmitFault::Refused(refusal));
         }
         let change = change_of(self.alloc, &self.image, cmd, walks)?;
+        let directory = directory_for(self.alloc, &self.image, &change)?;
         let room = room_for(self.alloc, &change)?;
         Ok(Permit {
             change,
             room,
+            directory,
             image: Snapshot::of(&self.image),
             command: Snapshot::of(cmd),
         })
@@ -133,6 +144,10 @@ impl Metadata {
     /// Makes the image that the permit's command leads to, and answers its epoch. It can't be refused, and takes no
     /// memory: what the permit holds is put in its place. Each movement that goes on keeps its ranges, and still at most
     /// one has a token in its own.
+    ///
+    /// Where the command makes a movement epoch, the write quorums of the image before have a replica in common with the
+    /// read quorums of the image after, and the other way round: by QUORUM at every token under every keyspace, and by
+    /// LOCAL_QUORUM in each datacenter that its replication names.
     pub fn enact(&mut self, permit: Permit) -> u64
         requires { permit.image ≡ self.old }
         ensures image { self.new ≡ next_image self.old permit.command }
@@ -141,13 +156,17 @@ impl Metadata {
         ensures outcomes { PlacedByRanges self.new }
         ensures rings { AreOutcomes self.new }
         ensures ranges { KeepsRanges self.old self.new }
+        ensures meets { is_movement permit.command ≡ true → QuorumsMeet self.old self.new }
     {
+        self.image.replications();
         let Permit {
             change,
             room,
+            directory,
             image: _,
             command: _,
         } = permit;
+        renew(&mut self.directory, directory);
         make(&mut self.image, &mut self.running, change, room);
         self.image.epoch
     }
@@ -156,20 +175,57 @@ impl Metadata {
     /// by SimpleStrategy or NetworkTopologyStrategy on the ring that reads see, and those on the ring before the
     /// movements and on the ring that writes see. `None` comes exactly where no keyspace has the name.
     ///
-    /// For now each look-up makes the three rings and the directory of the nodes anew. For p pairs it copies and sorts
-    /// them three times, and then walks each ring once.
+    /// Each node that is read is written, and at most 1,024 nodes are. The write quorums of the image have a replica in common with its read quorums,
+    /// and a write quorum exists exactly where a read quorum does.
+    ///
+    /// For now each look-up makes the three rings anew. For p pairs it copies and sorts them three times, and then walks
+    /// each ring once.
     pub fn replicas(
         &self,
         alloc: Global,
         keyspace: &Name,
         t: Token,
     ) -> Result<Option<(NodeSet, NodeSet)>, Memory>
-        ensures { IfOk result (λ found. found ≡ served self.now keyspace.now t) }
+        ensures sets { IfOk result (λ found. found ≡ served self.now keyspace.now t) }
+        ensures few { IfOk result (λ found. IfSome found (λ sets. length sets.1 ≤ 1024)) }
+        ensures itself { QuorumsMeet self.now self.now }
+        ensures together { QuorumsExistTogether self.now }
+        ensures written { ReadsAreWritten self.now }
     {
+        self.quorums();
         match keyspace_of(&self.image, keyspace) {
             None => Ok(None),
-            Some(row) => Ok(Some(served_by(alloc, &self.image, &row.replication, t)?)),
+            Some(row) => {
+                let (image, dir) = (&self.image, &self.directory);
+                Ok(Some(served_by(alloc, image, dir, &row.replication, t)?))
+            }
         }
+    }
+
+    /// What is known of the quorums of the image.
+    fn quorums(&self)
+        ensures itself { QuorumsMeet self.now self.now }
+        ensures together { QuorumsExistTogether self.now }
+        ensures written { ReadsAreWritten self.now }
+    {
+        self.image.replications();
+    }
+
+    /// The replication of a keyspace. `None` comes exactly where no keyspace has the name.
+    pub fn replication(&self, keyspace: &Name) -> Option<&Replication>
+        ensures { option_copied result ≡ option_map (λ row. row.replication) (the_keyspace_of self.now keyspace.now) }
+    {
+        match keyspace_of(&self.image, keyspace) {
+            Some(row) => Some(&row.replication),
+            None => None,
+        }
+    }
+
+    /// The registered nodes, and the id that the next one gets.
+    pub fn directory(&self) -> &Directory
+        ensures { result.now ≡ directory_of self.now }
+    {
+        &self.directory
     }
 
     /// Ends the metadata. The movements in flight are forgotten with it.
@@ -177,6 +233,7 @@ impl Metadata {
         let Metadata {
             alloc: _,
             image: _,
+            directory: _,
             running,
         } = self;
         close_all(running);

@@ -3,7 +3,7 @@
 ghost use Rattle.std.specs.Prelude.{◌≡◌, ◌<◌};
 
 use crate::Metadata;
-use crate::tests::{enact, prepare_join, refusal, register, serves, simple, step, unsafe_join};
+use crate::tests::{enact, prepare_join, refuses, register, serves, simple, step, unsafe_join};
 use cluster_terms::{NodeId, RightEnd, Steps, Token};
 use std::alloc::Global;
 use std::marker::Brand;
@@ -129,8 +129,7 @@ fn is_refused<L: Ledger, A: Abort>(
     walks: &mut Steps<L>,
 ) -> Result<(), Fail> {
     let cmd = prepare_join(alloc, 6, 250).map_err(|_| "memory")?;
-    assert_eq!(rt; refusal(metadata, &cmd, walks)?, wanted);
-    Ok(())
+    refuses(rt, alloc, metadata, &cmd, wanted, walks)
 }
 
 /// The join of node 5 takes its steps.

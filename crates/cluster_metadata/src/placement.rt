@@ -1,11 +1,9 @@
 //! Where the strategies place replicas on the rings of an image.
 
-ghost use Rattle.std.specs.Prelude.{◌≡◌, ◌<◌, IfOk, IsTrue};
-ghost use Rattle.std.specs.List.Sorted.{IsPermutation};
+ghost use Rattle.std.specs.Prelude.{◌≡◌, ◌<◌, ◌≤◌, length, IfOk, IsTrue};
 ghost use Rattle.std.specs.Option.{option_copied};
 ghost use Rattle.cluster_terms.specs.Group.{place};
 ghost use Rattle.cluster_terms.specs.Replication.{groups_of};
-ghost use Rattle.node_directory.specs.Directory.{is_directory};
 ghost use Rattle.token_ring.specs.Ring.{are_distinct, tokens_of};
 ghost use Rattle.transformations.specs.Rings.{reads_at, writes_at};
 ghost use Rattle.transformations.specs.Valid.{IsValid};
@@ -29,28 +27,6 @@ pub fn keyspace_of<'a>(image: &'a Image, name: &Name) -> Option<&'a KeyspaceRow>
         .as_slice()
         .iter()
         .find(|row| row.name.as_str() == name.as_str())
-}
-
-/// The directory of an image's nodes.
-fn directory_of(alloc: Global, image: &Image) -> Result<Directory, Memory>
-    requires { IsTrue (is_directory 1 image.now.nodes image.now.next) }
-    ensures { IfOk result (λ dir. dir.rows ≡ image.now.nodes) }
-{
-    match Directory::from_rows(alloc, image.nodes.as_slice(), image.next)? {
-        Some(dir) => Ok(dir),
-        None => unreachable!(),
-    }
-}
-
-/// The ring of some pairs.
-fn ring_of(alloc: Global, pairs: &[Pair]) -> Result<Ring, Memory>
-    requires { IsTrue (are_distinct (tokens_of pairs.now)) }
-    ensures { IfOk result (λ ring. IsPermutation pairs.now ring) }
-{
-    match Ring::from_pairs(alloc, pairs)? {
-        Some(ring) => Ok(ring),
-        None => unreachable!(),
-    }
 }
 
 /// The replicas at a token on a ring, as the walk of the replication's strategy finds them.
@@ -87,7 +63,7 @@ fn placed(
     requires { IsTrue (are_distinct (tokens_of pairs.now)) }
     ensures { IfOk result (λ nodes. nodes ≡ place (groups_of dir.now.rows replication.now) t pairs.now) }
 {
-    let ring = ring_of(alloc, pairs)?;
+    let ring = Ring::from_distinct(alloc, pairs)?;
     walked::<Brand>(alloc, &ring, dir, replication, t, Blank::new(1))
 }
 
@@ -129,18 +105,20 @@ fn writes_of(
 }
 
 /// The nodes that are read and those that are written at a token, under a replication.
-#[tactic(auto, using(crate::proofs::RingLemmas::directory_rows))]
+#[tactic(auto, using(crate::proofs::RingLemmas::few_served))]
 pub fn served_by(
     alloc: Global,
     image: &Image,
+    dir: &Directory,
     replication: &Replication,
     t: Token,
 ) -> Result<(NodeSet, NodeSet), Memory>
-    requires { IsValid image.now }
-    ensures { IfOk result (λ found. found ≡ are_served_by image.now t replication.now) }
+    requires valid { IsValid image.now }
+    requires nodes { dir.now.rows ≡ image.now.nodes }
+    ensures sets { IfOk result (λ found. found ≡ are_served_by image.now t replication.now) }
+    ensures few { IfOk result (λ found. length found.1 ≤ 1024) }
 {
-    let dir = directory_of(alloc, image)?;
-    let reads = reads_of(alloc, image, &dir, replication, t)?;
-    let writes = writes_of(alloc, image, &dir, replication, t)?;
+    let reads = reads_of(alloc, image, dir, replication, t)?;
+    let writes = writes_of(alloc, image, dir, replication, t)?;
     Ok((reads, writes))
 }

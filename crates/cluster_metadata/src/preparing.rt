@@ -1,28 +1,27 @@
 //! A movement that is prepared begins, unless its ranges are locked.
 
-ghost use Rattle.std.specs.Prelude.{◌≡◌, ◌≤◌, ◌==◌, false, true, None, length, IfOk, MatchResult};
+ghost use Rattle.std.specs.Prelude.{◌≡◌, ◌≤◌, ◌==◌, false, true, None, length, IfOk, IfSome, MatchResult};
 ghost use Rattle.std.specs.List.{AllByRecursion, insert};
 ghost use Rattle.cluster_terms.specs.Ascending.{put};
 ghost use Rattle.transformations.specs.History.{is_command};
 ghost use Rattle.transformations.specs.Orders.{by_node};
-ghost use Rattle.transformations.specs.Refusals.{early_refusal_of, locked, refusal_of, with_movement};
+ghost use Rattle.transformations.specs.Refusals.{early_refusal_of, locked, prepared_by, with_movement};
 ghost use Rattle.transformations.specs.Valid.{IsSound};
-ghost use Rattle.transformations.specs.declared.command.Command.TheVariants as command;
 ghost use Rattle.transformations.specs.declared.sequence.Phase.TheVariants as phase;
 ghost use Rattle.transformations.specs.declared.sequence.SeqRow.{SeqRow};
 ghost use Rattle.sequence_plans.specs.Plan.{IsPlan};
-ghost use Rattle.cluster_metadata.specs.Change.{Begins, IsChange};
+ghost use Rattle.cluster_metadata.specs.Change.{Begins};
 ghost use Rattle.cluster_metadata.specs.Permission.{ShowsRefusal};
 
 use crate::admit_fault::AdmitFault;
 use crate::change::Change;
 use crate::locks::first_lock;
-use cluster_terms::{Memory, NodeId, Steps, TokenList, TryCopy};
+use cluster_terms::{Memory, NodeId, Steps, TryCopy};
 use sequence_plans::plan;
-use sequence_rows::join_row;
+use sequence_rows::{join_row, leave_row, move_row, replace_row};
 use std::alloc::Global;
 use std::sync::ledger::Ledger;
-use transformations::{Image, SeqRow};
+use transformations::{Command, Image, SeqRow};
 
 /// How many movements have a lesser node: the place of a new one, of a node that has none.
 fn place_for(sequences: &[SeqRow], node: NodeId) -> usize
@@ -50,9 +49,27 @@ fn begun(image: &Image, row: SeqRow) -> Result<Change, Memory>
     Ok(Change::Begun { at, row, sequences })
 }
 
+/// The row of the movement that a command prepares which has no early refusal. `None` comes exactly where it prepares none.
+pub fn row_prepared(alloc: Global, image: &Image, cmd: &Command) -> Result<Option<SeqRow>, Memory>
+    requires sound { IsSound image.now }
+    requires formed { is_command cmd.now ≡ true }
+    requires early { early_refusal_of image.now cmd.now ≡ None }
+    ensures row { IfOk result (λ found. found ≡ prepared_by image.now.tokens cmd.now) }
+    ensures sound { IfOk result (λ found. IfSome found (λ row. IsSound (with_movement image.now row))) }
+{
+    let row = match cmd {
+        Command::PrepareJoin { node, tokens } => join_row(alloc, image, *node, tokens)?,
+        Command::PrepareMove { node, token } => move_row(alloc, image, *node, *token)?,
+        Command::PrepareLeave { node } => leave_row(alloc, image, *node)?,
+        Command::PrepareReplace { node, gone } => replace_row(alloc, image, *node, *gone)?,
+        _ => return Ok(None),
+    };
+    Ok(Some(row))
+}
+
 /// A movement begins, of a node that has none. It is refused where its ranges are locked: where those of a movement in
 /// flight have a token in common with them, under the replication of one keyspace.
-fn prepare<L: Ledger>(
+pub fn prepare<L: Ledger>(
     alloc: Global,
     image: &Image,
     row: SeqRow,
@@ -74,23 +91,4 @@ fn prepare<L: Ledger>(
         return Err(AdmitFault::Refused(refusal));
     }
     Ok(begun(image, plan.row)?)
-}
-
-/// A join begins.
-pub fn prepare_join<L: Ledger>(
-    alloc: Global,
-    image: &Image,
-    node: NodeId,
-    tokens: &TokenList,
-    walks: &mut Steps<L>,
-) -> Result<Change, AdmitFault>
-    requires sound { IsSound image.now }
-    requires formed { is_command (command.PrepareJoin node tokens.now) ≡ true }
-    requires early { early_refusal_of image.now (command.PrepareJoin node tokens.now) ≡ None }
-    ensures change { IfOk result (IsChange image.now (command.PrepareJoin node tokens.now)) }
-    ensures refusal { MatchResult result (λ _. refusal_of image.now (command.PrepareJoin node tokens.now) ≡ None) (ShowsRefusal (refusal_of image.now (command.PrepareJoin node tokens.now))) }
-    ensures uncounted { walks.new ≡ walks.old }
-{
-    let row = join_row(alloc, image, node, tokens)?;
-    prepare(alloc, image, row, walks)
 }

@@ -1,4 +1,5 @@
-ghost use Rattle.std.specs.Prelude.{◌≡◌};
+ghost use Rattle.std.specs.Prelude.{◌≡◌, false};
+ghost use Rattle.transformations.specs.Rings.{is_mid};
 ghost use Rattle.transformations.specs.declared.sequence.Phase.TheVariants as phase;
 ghost use Rattle.cluster_metadata.specs.Change.{in_phase};
 ghost use Rattle.cluster_metadata.specs.Running.{phase_of, row_of};
@@ -58,14 +59,37 @@ impl Running {
         }
     }
 
+    /// Brings a movement back to where it had started that is half way.
+    pub fn bring_back(self) -> Running
+        requires { phase_of self ≡ phase.Mid }
+        ensures row { row_of result ≡ in_phase phase.Started (row_of self) }
+        ensures phase { phase_of result ≡ phase.Started }
+    {
+        match self {
+            Running::Mid(seq) => Running::Started(seq.cancel()),
+            _ => unreachable!(),
+        }
+    }
+
+    /// Gives up a movement that isn't half way, and gives back its row.
+    pub fn give_up(self) -> SeqRow
+        requires { is_mid (phase_of self) ≡ false }
+        ensures { result ≡ row_of self }
+    {
+        match self {
+            Running::Prepared(seq) => seq.cancel(),
+            Running::Started(seq) => seq.cancel(),
+            _ => unreachable!(),
+        }
+    }
+
     /// Ends a movement that is no longer looked at. Nothing of the cluster changes.
     pub fn close(self) {
-        let mid = match self {
-            Running::Prepared(seq) => seq.start().mid(),
-            Running::Started(seq) => seq.mid(),
-            Running::Mid(seq) => seq,
+        let _row = match self {
+            Running::Prepared(seq) => seq.cancel(),
+            Running::Started(seq) => seq.cancel(),
+            Running::Mid(seq) => seq.finish(),
         };
-        let _row = mid.finish();
     }
 }
 

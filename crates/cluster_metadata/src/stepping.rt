@@ -12,11 +12,13 @@ ghost use Rattle.transformations.specs.declared.command.Command.TheVariants as c
 ghost use Rattle.cluster_metadata.specs.Change.{IsChange, in_phase};
 
 use crate::change::Change;
+use crate::leaving::{leaver, with_left};
 use cluster_terms::{Memory, NodeId, Pair, PairList, TryCopy};
+use std::alloc::Global;
 use transformations::{Goal, Image, Kind, Phase, SeqRow, SeqRows};
 
 /// The row of a movement at another phase.
-fn at_phase(row: &SeqRow, phase: Phase) -> Result<SeqRow, Memory>
+pub fn at_phase(row: &SeqRow, phase: Phase) -> Result<SeqRow, Memory>
     ensures { IfOk result (λ changed. changed ≡ in_phase phase row.now) }
 {
     let mut row = row.copy()?;
@@ -49,7 +51,7 @@ fn ring_after(image: &Image, row: &SeqRow) -> Result<PairList, Memory>
 }
 
 /// The movements of the other nodes.
-fn others(image: &Image, node: NodeId) -> Result<SeqRows, Memory>
+pub fn others(image: &Image, node: NodeId) -> Result<SeqRows, Memory>
     ensures { IfOk result (λ rows. rows ≡ the_others image.now.sequences node) }
 {
     let mut sequences = image.sequences.copy()?;
@@ -73,7 +75,7 @@ fn position_of(sequences: &[SeqRow], node: NodeId) -> Option<usize>
 
 /// The place of the movement of a node that has one.
 #[tactic(auto, using(crate::proofs::PlaceLemmas::found_at, crate::proofs::PlaceLemmas::found_within, crate::proofs::PlaceLemmas::some_place))]
-fn place_of(sequences: &[SeqRow], node: NodeId) -> usize
+pub fn place_of(sequences: &[SeqRow], node: NodeId) -> usize
     requires { IsSome (find (λ s. s.node == node) sequences.now) }
     ensures bound { result < length sequences.now }
     ensures place { slice_get sequences.now result ≡ find (λ s. s.node == node) sequences.now }
@@ -86,7 +88,13 @@ fn place_of(sequences: &[SeqRow], node: NodeId) -> usize
 
 /// The movement of a node takes a step.
 #[tactic(auto, using(crate::proofs::StepLemmas::some_movement))]
-pub fn step(image: &Image, goal: Goal, kind: Kind, node: NodeId) -> Result<Change, Memory>
+pub fn step(
+    alloc: Global,
+    image: &Image,
+    goal: Goal,
+    kind: Kind,
+    node: NodeId,
+) -> Result<Change, Memory>
     requires movements { IsStrictlySortedBy by_node image.now.sequences }
     requires accepted { early_refusal_of image.now (command.Step goal kind node) ≡ None }
     ensures { IfOk result (IsChange image.now (command.Step goal kind node)) }
@@ -105,6 +113,7 @@ pub fn step(image: &Image, goal: Goal, kind: Kind, node: NodeId) -> Result<Chang
         }),
         Goal::Finish => Ok(Change::Finished {
             at,
+            nodes: with_left(alloc, &image.nodes, leaver(row))?,
             tokens: ring_after(image, row)?,
             sequences: others(image, node)?,
         }),

@@ -106,7 +106,7 @@ pub(crate) fn enact<L: Ledger>(
 }
 
 /// Why a command is refused, if it is. A permit is declined.
-pub(crate) fn refusal<L: Ledger>(
+fn refusal<L: Ledger>(
     metadata: &Metadata,
     cmd: &Command,
     walks: &mut Steps<L>,
@@ -124,6 +124,24 @@ pub(crate) fn refusal<L: Ledger>(
         Err(AdmitFault::Refused(refusal)) => Ok(Some(refusal)),
         Err(AdmitFault::Memory) => Err("memory")?,
     }
+}
+
+/// Whether a command is refused as is wanted; it is accepted where nothing is wanted.
+pub(crate) fn refuses<L: Ledger, A: Abort>(
+    rt: &A,
+    alloc: Global,
+    metadata: &Metadata,
+    cmd: &Command,
+    wanted: Option<Refusal>,
+    walks: &mut Steps<L>,
+) -> Result<(), Fail>
+    requires { IsTrue (is_command cmd.now) }
+{
+    let found = refusal(metadata, cmd, walks)?;
+    let found = format!(in alloc; "{found:?}")?;
+    let wanted = format!(in alloc; "{wanted:?}")?;
+    assert_eq!(rt; found.as_str(), wanted.as_str());
+    Ok(())
 }
 
 fn has_ids<A: Abort>(rt: &A, nodes: &NodeSet, wanted: &[u32], at: &str) {
@@ -154,7 +172,7 @@ pub(crate) fn serves<A: Abort>(
 }
 
 /// Five nodes, of which the first four have the tokens 0, 100, 200 and 300.
-fn four_nodes<L: Ledger>(
+pub(crate) fn four_nodes<L: Ledger>(
     alloc: Global,
     metadata: &mut Metadata,
     walks: &mut Steps<L>,
@@ -191,7 +209,7 @@ fn join_by_steps<L: Ledger, A: Abort>(
     let mut walks = Steps::<L>::begin(blank);
     four_nodes(alloc, metadata, &mut walks)?;
     let cmd = prepare_join(alloc, 5, 150).map_err(|_| "memory")?;
-    assert_eq!(rt; refusal(metadata, &cmd, &mut walks)?, None);
+    refuses(rt, alloc, metadata, &cmd, None, &mut walks)?;
     assert_eq!(rt; metadata.epoch(), 11);
     assert_eq!(rt; enact(metadata, &cmd, &mut walks)?, 12);
     serves(rt, alloc, metadata, "ks", 50, (&[2, 3, 4], &[2, 3, 4]))?;
@@ -226,9 +244,9 @@ fn refused_at_rest<L: Ledger, A: Abort>(
 ) -> Result<(), Fail> {
     let cmd = prepare_join(alloc, 5, 100).map_err(|_| "memory")?;
     let taken = Some(Refusal::TokenTaken(Token::new(100)));
-    assert_eq!(rt; refusal(metadata, &cmd, walks)?, taken);
+    refuses(rt, alloc, metadata, &cmd, taken, walks)?;
     let none = Some(Refusal::NoSequence);
-    assert_eq!(rt; refusal(metadata, &step(5, Goal::Start), walks)?, none);
+    refuses(rt, alloc, metadata, &step(5, Goal::Start), none, walks)?;
     Ok(())
 }
 
@@ -240,9 +258,9 @@ fn refused_in_flight<L: Ledger, A: Abort>(
     walks: &mut Steps<L>,
 ) -> Result<(), Fail> {
     let early = Some(Refusal::WrongStep(Kind::Join, Phase::Prepared));
-    assert_eq!(rt; refusal(metadata, &step(5, Goal::Mid), walks)?, early);
+    refuses(rt, alloc, metadata, &step(5, Goal::Mid), early, walks)?;
     let busy = Some(Refusal::NotIdle(NodeId(5)));
-    assert_eq!(rt; refusal(metadata, &simple(alloc, "ku", 3)?, walks)?, busy);
+    refuses(rt, alloc, metadata, &simple(alloc, "ku", 3)?, busy, walks)?;
     Ok(())
 }
 

@@ -1,5 +1,6 @@
 pub mod AscendingLemmas
 pub mod AscendingNumbers
+pub mod CommonLemmas
 pub mod CountLemmas
 pub mod DistinctCounts
 pub mod FactorTexts
@@ -8,13 +9,18 @@ pub mod GroupLemmas
 pub mod NameTexts
 pub mod PairLemmas
 pub mod PlacedByReach
+pub mod PlacedNodes
+pub mod PlacementCounts
 pub mod PlacementLemmas
 pub mod Put
+pub mod QuorumLemmas
+pub mod QuorumRows
 pub mod ReachKept
 pub mod ReachLemmas
 pub mod ReachNodes
 pub mod ReachSame
 pub mod ReplicaAt
+pub mod ReplicaCounts
 pub mod ReplicationLemmas
 pub mod ReplicationTexts
 pub mod RoundTrip

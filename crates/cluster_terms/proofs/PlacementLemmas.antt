@@ -33,7 +33,7 @@ nodes_of-append (p ∷ ps) qs = ap (λ l. p.node ∷ l) (nodes_of-append ps qs)
 
 -- ---- the placement
 
-tied : (xs : List ℕ) (v : ℕ) → is_member (eq_by_cmp nat_cmp) xs v ≡ has xs v
+pub tied : (xs : List ℕ) (v : ℕ) → is_member (eq_by_cmp nat_cmp) xs v ≡ has xs v
 tied [] v = refl
 tied (x ∷ xs) v = λ i. unsigned_tied v x i || tied xs v i
 
@@ -52,7 +52,7 @@ module _ (x : ℤ) (ps : List Pair) where
       by true here e rest = ap (λ b. b || has (nodes_of qs) v) (and_first (nat_eq v q.node) _ here)
       by false here e rest = or_right (nat_eq v q.node) (has (nodes_of qs) v) (rest e)
 
-  replica-has : (gs : List Group) (v : ℕ) → is_replica_of_any gs x ps v ≡ true → has (nodes_of ps) v ≡ true
+  pub replica-has : (gs : List Group) (v : ℕ) → is_replica_of_any gs x ps v ≡ true → has (nodes_of ps) v ≡ true
   unfolding is_replica
   replica-has [] v h = absurd (false≢true h)
   replica-has (g ∷ gs) v h = by (list_any (is_chosen_at g x ps v) ps) refl h (replica-has gs v)
@@ -69,7 +69,7 @@ module _ (x : ℤ) (ps : List Pair) where
   both false false f = refl
 
   -- the nodes that are kept for a placement are its replicas
-  placed-has : (gs : List Group) (v : ℕ) → has (filter (is_replica_of_any gs x ps) (nodes_of ps)) v ≡ is_replica_of_any gs x ps v
+  pub placed-has : (gs : List Group) (v : ℕ) → has (filter (is_replica_of_any gs x ps) (nodes_of ps)) v ≡ is_replica_of_any gs x ps v
   placed-has gs v =
       is_member-filter nat_eq_equiv (is_replica_of_any gs x ps) v (λ q e. ap (is_replica_of_any gs x ps) (exact_unsigned_eq v q e)) (nodes_of ps)
       ∙ sym (both (is_replica_of_any gs x ps v) (has (nodes_of ps) v) (replica-has gs v))

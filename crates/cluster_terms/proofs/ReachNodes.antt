@@ -14,7 +14,7 @@ use Rattle.cluster_terms.specs.declared.replication.Replication.{Replication}
 use Rattle.cluster_terms.specs.declared.replication.Replication.TheVariants.{Simple, Topology}
 use Rattle.cluster_terms.specs.declared.token.Pair.{Pair}
 
-all-filter : {X : Type 0} (P : X → Type 0) (test : X → Bool) (qs : List X) → AllByRecursion P qs → AllByRecursion P (filter test qs)
+pub all-filter : {X : Type 0} (P : X → Type 0) (test : X → Bool) (qs : List X) → AllByRecursion P qs → AllByRecursion P (filter test qs)
 all-filter P test [] a = a
 all-filter P test (q ∷ qs) a = by (test q) (all-filter P test qs a.1)
   where
@@ -25,7 +25,7 @@ all-filter P test (q ∷ qs) a = by (test q) (all-filter P test qs a.1)
 -- ---- two groups that ask for as many replicas and have the same racks at the nodes of some pairs
 
 -- whether two groups have the same racks at the nodes of some pairs
-abbrev IsAlike : Group → Group → List Pair → Type 0
+abbrev pub IsAlike : Group → Group → List Pair → Type 0
 IsAlike g h ps = AllByRecursion (λ (p : Pair). g.rack_of p.node ≡ h.rack_of p.node) ps
 
 module _ (g h : Group) (rf : g.rf ≡ h.rf) where
@@ -33,20 +33,20 @@ module _ (g h : Group) (rf : g.rf ≡ h.rf) where
   members-alike [] a = refl
   members-alike (p ∷ ps) a = let rest = members-alike ps a.1 in λ i. if is_some (a.0 i) then p.node ∷ rest i else rest i
 
-  racks-alike : (ps : List Pair) → IsAlike g h ps → filter_map g.rack_of (nodes_of ps) ≡ filter_map h.rack_of (nodes_of ps)
+  pub racks-alike : (ps : List Pair) → IsAlike g h ps → filter_map g.rack_of (nodes_of ps) ≡ filter_map h.rack_of (nodes_of ps)
   racks-alike [] a = refl
   racks-alike (p ∷ ps) a = let rest = racks-alike ps a.1 in λ i. cons_option (a.0 i) (rest i)
 
-  node_count-alike : (ps : List Pair) → IsAlike g h ps → node_count g (nodes_of ps) ≡ node_count h (nodes_of ps)
+  pub node_count-alike : (ps : List Pair) → IsAlike g h ps → node_count g (nodes_of ps) ≡ node_count h (nodes_of ps)
   node_count-alike ps a = ap (distinct_count nat_eq) (members-alike ps a)
 
-  rack_count-alike : (ps : List Pair) → IsAlike g h ps → rack_count g (nodes_of ps) ≡ rack_count h (nodes_of ps)
+  pub rack_count-alike : (ps : List Pair) → IsAlike g h ps → rack_count g (nodes_of ps) ≡ rack_count h (nodes_of ps)
   rack_count-alike ps a = ap (distinct_count bytes_eq) (racks-alike ps a)
 
-  wanted-alike : (ps : List Pair) → IsAlike g h ps → wanted g (nodes_of ps) ≡ wanted h (nodes_of ps)
+  pub wanted-alike : (ps : List Pair) → IsAlike g h ps → wanted g (nodes_of ps) ≡ wanted h (nodes_of ps)
   wanted-alike ps a = λ i. min (rf i) (node_count-alike ps a i)
 
-  spare-alike : (ps : List Pair) → IsAlike g h ps → spare g (nodes_of ps) ≡ spare h (nodes_of ps)
+  pub spare-alike : (ps : List Pair) → IsAlike g h ps → spare g (nodes_of ps) ≡ spare h (nodes_of ps)
   spare-alike ps a = λ i. rf i - min (rf i) (rack_count-alike ps a i)
 
   module _ (fixed widest : List Pair) (x : ℤ) (f : IsAlike g h fixed) (w : IsAlike g h widest) where
@@ -69,10 +69,10 @@ module _ (g h : Group) (rf : g.rf ≡ h.rf) where
 
 module _ (nodes nodes' : List NodeRow) where
   -- whether the nodes of some pairs have the same rows
-  abbrev HaveSameRows : List Pair → Type 0
+  abbrev pub HaveSameRows : List Pair → Type 0
   HaveSameRows ps = AllByRecursion (λ (p : Pair). row_of nodes p.node ≡ row_of nodes' p.node) ps
 
-  datacenter-alike : (c : List ℕ × ℕ) (ps : List Pair) → HaveSameRows ps → IsAlike (datacenter_group nodes c) (datacenter_group nodes' c) ps
+  pub datacenter-alike : (c : List ℕ × ℕ) (ps : List Pair) → HaveSameRows ps → IsAlike (datacenter_group nodes c) (datacenter_group nodes' c) ps
   datacenter-alike c [] a = a
   datacenter-alike c (p ∷ ps) a = (ap (rack_within c.0) a.0, datacenter-alike c ps a.1)
 

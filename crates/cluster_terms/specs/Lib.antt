@@ -5,6 +5,7 @@ pub mod Group
 pub mod Name
 pub mod NodeRow
 pub mod Pair
+pub mod Quorum
 pub mod Reach
 pub mod Replication
 pub mod ReplicationText

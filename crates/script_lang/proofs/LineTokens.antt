@@ -1,5 +1,6 @@
 -- The commands of lines have tokens that they may have.
-use Rattle.std.proofs.Common.{◌≡◌, ◌<ℤ◌, ℕ, ◌^◌, ℤ, Bool, true, false, ◌&&◌, if◌then◌else◌, List, [], ◌∷◌, Option, Some, None, option_map, option_and_then, IsTrue, codes, refl, sym, arith}
+use Rattle.std.proofs.Common.{◌≡◌, ◌<ℤ◌, ℕ, ◌^◌, ℤ, Bool, true, false, ◌&&◌, if◌then◌else◌, cond, List, [], ◌∷◌, Option, Some, None, option_map, option_and_then, IsTrue, codes, refl, sym, arith}
+use Rattle.std.specs.List.{find, list_all}
 use Rattle.std.specs.List.Sorted.{IsStrictlySortedBy}
 use Rattle.std.specs.Option.{IfSome}
 use Rattle.std.specs.Ordering.{int_cmp}
@@ -13,11 +14,12 @@ use Rattle.cluster_terms.specs.Ascending.{ascending}
 use Rattle.cluster_terms.specs.Name.{is_name}
 use Rattle.cluster_terms.specs.ReplicationText.{replication_of_words}
 use Rattle.cluster_terms.proofs.AscendingLemmas.{ascending_sorted}
+use Rattle.transformations.proofs.ListLemmas.{both_left, both_right}
 use Rattle.transformations.specs.History as history
 use Rattle.transformations.specs.declared.command.Command.{Command}
-use Rattle.transformations.specs.declared.command.Command.TheVariants.{Unregister, UnsafeJoin, Keyspace, PrepareJoin, Step}
+use Rattle.transformations.specs.declared.command.Command.TheVariants.{UnsafeJoin, Keyspace, PrepareJoin, PrepareMove, PrepareReplace}
 use Rattle.script_lang.specs.Grammar as spec
-use Rattle.script_lang.specs.declared.script_line.ScriptLine.TheVariants.{Commit, Place, Nodes}
+use Rattle.script_lang.specs.declared.script_line.ScriptLine.TheVariants.{Commit, Place, Nodes, Quorum, Local}
 use Rattle.script_lang.proofs.TokenLists.{length-in_order}
 
 -- ---- what holds of the value in an option
@@ -84,12 +86,6 @@ of_register (name ∷ dc ∷ []) = tt
 of_register (name ∷ dc ∷ rack ∷ []) = IfSome-if _ (is_name name && is_name dc && is_name rack) _ _ refl tt
 of_register (name ∷ dc ∷ rack ∷ word ∷ words) = tt
 
-of_unregister : (words : List (List ℕ)) → IfSome (spec.unregister_of words) IsCommand
-unfolding spec.unregister_of
-of_unregister [] = tt
-of_unregister (node ∷ []) = IfSome-mapped Unregister _ (λ n. refl) (spec.node_of node)
-of_unregister (node ∷ word ∷ words) = tt
-
 of_unsafe_join : (words : List (List ℕ)) → IfSome (spec.unsafe_join_of words) IsCommand
 unfolding spec.unsafe_join_of
 of_unsafe_join words = IfSome-option_map (λ (node, tokens). UnsafeJoin node tokens) _ (spec.node_and_tokens words) (of_node_and_tokens words)
@@ -97,6 +93,20 @@ of_unsafe_join words = IfSome-option_map (λ (node, tokens). UnsafeJoin node tok
 of_prepare_join : (words : List (List ℕ)) → IfSome (spec.prepare_join_of words) IsCommand
 unfolding spec.prepare_join_of
 of_prepare_join words = IfSome-option_map (λ (node, tokens). PrepareJoin node tokens) _ (spec.node_and_tokens words) (of_node_and_tokens words)
+
+of_prepare_move : (words : List (List ℕ)) → IfSome (spec.prepare_move_of words) IsCommand
+unfolding spec.prepare_move_of
+of_prepare_move [] = tt
+of_prepare_move (node ∷ []) = tt
+of_prepare_move (node ∷ token ∷ []) = IfSome-option_and_then _ _ (λ n. IfSome-mapped (PrepareMove n) _ (λ t. refl) (spec.token_of token)) (spec.node_of node)
+of_prepare_move (node ∷ token ∷ word ∷ words) = tt
+
+of_prepare_replace : (words : List (List ℕ)) → IfSome (spec.prepare_replace_of words) IsCommand
+unfolding spec.prepare_replace_of
+of_prepare_replace [] = tt
+of_prepare_replace (node ∷ []) = tt
+of_prepare_replace (node ∷ gone ∷ []) = IfSome-option_and_then _ _ (λ n. IfSome-mapped (PrepareReplace n) _ (λ m. refl) (spec.node_of gone)) (spec.node_of node)
+of_prepare_replace (node ∷ gone ∷ word ∷ words) = tt
 
 of_keyspace : (words : List (List ℕ)) → IfSome (spec.keyspace_of words) IsCommand
 unfolding spec.keyspace_of
@@ -109,21 +119,37 @@ of_drop_keyspace [] = tt
 of_drop_keyspace (name ∷ []) = IfSome-if _ (is_name name) _ _ refl tt
 of_drop_keyspace (name ∷ word ∷ words) = tt
 
-of_step : (word : List ℕ) (words : List (List ℕ)) → IfSome (spec.step_of word words) IsCommand
-unfolding spec.step_of
-of_step word [] = tt
-of_step word (node ∷ []) = IfSome-option_and_then _ _ (λ s. IfSome-mapped (Step s.0 s.1) _ (λ n. refl) (spec.node_of node)) (spec.step_of_word word)
-of_step word (node ∷ other ∷ words) = tt
+-- what a test finds among some rows, where the command of each row has tokens that it may have
+of_rows : (test : List ℕ × (ℕ → Command) → Bool) (n : ℕ) (rows : List (List ℕ × (ℕ → Command))) → list_all (λ row. history.is_command (row.1 n)) rows ≡ true → IfSome (option_map (λ row. row.1 n) (find test rows)) IsCommand
+of_rows test n [] all = tt
+of_rows test n (row ∷ rows) all =
+    let here = both_left (history.is_command (row.1 n)) (list_all (λ row. history.is_command (row.1 n)) rows) all in
+    let others = both_right (history.is_command (row.1 n)) (list_all (λ row. history.is_command (row.1 n)) rows) all in
+    by (test row) here (of_rows test n rows others)
+  where
+    by : (b : Bool) → IsCommand (row.1 n) → IfSome (option_map (λ row. row.1 n) (find test rows)) IsCommand → IfSome (option_map (λ row. row.1 n) (cond b (Some row) (find test rows))) IsCommand
+    by true here found = here
+    by false here found = found
+
+of_command_on : (word : List ℕ) (n : ℕ) → IfSome (spec.command_on word n) IsCommand
+of_command_on word n = of_rows (λ row. bytes_eq word row.0) n spec.node_commands refl
+
+of_node_command : (word : List ℕ) (words : List (List ℕ)) → IfSome (spec.node_command_of word words) IsCommand
+unfolding spec.node_command_of
+of_node_command word [] = tt
+of_node_command word (node ∷ []) = IfSome-option_and_then (spec.command_on word) _ (of_command_on word) (spec.node_of node)
+of_node_command word (node ∷ other ∷ words) = tt
 
 of_command_named : (word : List ℕ) (words : List (List ℕ)) → IfSome (spec.command_named word words) IsCommand
 unfolding spec.command_named
 of_command_named word words =
     IfSome-if _ (bytes_eq word (codes "register")) _ _ (of_register words)
-    (IfSome-if _ (bytes_eq word (codes "unregister")) _ _ (of_unregister words)
     (IfSome-if _ (bytes_eq word (codes "unsafe-join")) _ _ (of_unsafe_join words)
     (IfSome-if _ (bytes_eq word (codes "keyspace")) _ _ (of_keyspace words)
     (IfSome-if _ (bytes_eq word (codes "drop-keyspace")) _ _ (of_drop_keyspace words)
-    (IfSome-if _ (bytes_eq word (codes "prepare-join")) _ _ (of_prepare_join words) (of_step word words))))))
+    (IfSome-if _ (bytes_eq word (codes "prepare-join")) _ _ (of_prepare_join words)
+    (IfSome-if _ (bytes_eq word (codes "prepare-move")) _ _ (of_prepare_move words)
+    (IfSome-if _ (bytes_eq word (codes "prepare-replace")) _ _ (of_prepare_replace words) (of_node_command word words)))))))
 
 of_command : (words : List (List ℕ)) → IfSome (spec.command_of words) IsCommand
 unfolding spec.command_of
@@ -151,10 +177,33 @@ of_nodes [] = tt
 of_nodes (target ∷ []) = IfSome-mapped Nodes _ (λ t. tt) (spec.target_of target)
 of_nodes (target ∷ word ∷ words) = tt
 
+of_quorum : (words : List (List ℕ)) → IfSome (spec.quorum_of words) spec.HasTokens
+unfolding spec.quorum_of
+of_quorum [] = tt
+of_quorum (target ∷ []) = tt
+of_quorum (target ∷ name ∷ []) = tt
+of_quorum (target ∷ name ∷ token ∷ []) =
+    IfSome-if _ (is_name name) _ _
+    (IfSome-option_and_then _ _ (λ t. IfSome-mapped (Quorum t name) _ (λ u. tt) (spec.token_of token)) (spec.target_of target)) tt
+of_quorum (target ∷ name ∷ token ∷ word ∷ words) = tt
+
+of_local : (words : List (List ℕ)) → IfSome (spec.local_of words) spec.HasTokens
+unfolding spec.local_of
+of_local [] = tt
+of_local (target ∷ []) = tt
+of_local (target ∷ name ∷ []) = tt
+of_local (target ∷ name ∷ dc ∷ []) = tt
+of_local (target ∷ name ∷ dc ∷ token ∷ []) =
+    IfSome-if _ (is_name name && is_name dc) _ _
+    (IfSome-option_and_then _ _ (λ t. IfSome-mapped (Local t name dc) _ (λ u. tt) (spec.token_of token)) (spec.target_of target)) tt
+of_local (target ∷ name ∷ dc ∷ token ∷ word ∷ words) = tt
+
 pub of_line : (words : List (List ℕ)) → IfSome (spec.line_of_words words) spec.HasTokens
 unfolding spec.line_of_words
 of_line [] = tt
 of_line (word ∷ words) =
     IfSome-if _ (bytes_eq word (codes "commit")) _ _ (of_commit words)
     (IfSome-if _ (bytes_eq word (codes "place")) _ _ (of_place words)
-    (IfSome-if _ (bytes_eq word (codes "nodes")) _ _ (of_nodes words) tt))
+    (IfSome-if _ (bytes_eq word (codes "nodes")) _ _ (of_nodes words)
+    (IfSome-if _ (bytes_eq word (codes "quorum")) _ _ (of_quorum words)
+    (IfSome-if _ (bytes_eq word (codes "local")) _ _ (of_local words) tt))))

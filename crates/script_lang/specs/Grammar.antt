@@ -1,6 +1,6 @@
 -- The grammar of script lines.
 use Rattle.std.specs.Prelude.{ℕ, ◌+◌, ◌^◌, Bool, ◌&&◌, if◌then◌else◌, ℤ, pos, neg_ℤ, List, [], ◌∷◌, length, filter_map, Option, Some, None, is_some, option_map, option_and_then, nat_lt, nat_le, ◌==◌, codes, decimal, IsTrue}
-use Rattle.std.specs.List.{list_all, slice_split}
+use Rattle.std.specs.List.{list_all, find, slice_split}
 use Rattle.std.specs.Ordering.{int_cmp, int_eq}
 use Rattle.std.specs.Set.{distinct_count}
 use Rattle.std.specs.Str.{bytes_eq}
@@ -9,14 +9,12 @@ use Rattle.cluster_terms.specs.Ascending.{ascending}
 use Rattle.cluster_terms.specs.Name.{is_name}
 use Rattle.cluster_terms.specs.ReplicationText.{replication_of_words}
 use Rattle.transformations.specs.declared.command.Command.{Command}
-use Rattle.transformations.specs.declared.command.Command.TheVariants.{Register, Unregister, UnsafeJoin, Keyspace, DropKeyspace, PrepareJoin, Step}
-use Rattle.transformations.specs.declared.sequence.Goal.{Goal}
+use Rattle.transformations.specs.declared.command.Command.TheVariants.{Register, Unregister, UnsafeJoin, Keyspace, DropKeyspace, PrepareJoin, PrepareMove, PrepareLeave, PrepareReplace, Step, Cancel}
 use Rattle.transformations.specs.declared.sequence.Goal.TheVariants.{Start, Mid, Finish}
-use Rattle.transformations.specs.declared.sequence.Kind.{Kind}
-use Rattle.transformations.specs.declared.sequence.Kind.TheVariants.{Join}
+use Rattle.transformations.specs.declared.sequence.Kind.TheVariants.{Join, Move, Leave, Replace}
 use Rattle.transformations.specs.History.{is_command}
 use Rattle.script_lang.specs.declared.script_line.ScriptLine.{ScriptLine}
-use Rattle.script_lang.specs.declared.script_line.ScriptLine.TheVariants.{Commit, Place, Nodes}
+use Rattle.script_lang.specs.declared.script_line.ScriptLine.TheVariants.{Commit, Place, Nodes, Quorum, Local}
 use Rattle.script_lang.specs.declared.script_line.Target.{Target}
 use Rattle.script_lang.specs.declared.script_line.Target.TheVariants.{Epoch}
 
@@ -63,11 +61,6 @@ unfoldable pub register_of : List (List ℕ) → Option Command
 register_of (name ∷ dc ∷ rack ∷ []) = if is_name name && is_name dc && is_name rack then Some (Register name dc rack) else None
 register_of _ = None
 
--- NODE
-unfoldable pub unregister_of : List (List ℕ) → Option Command
-unregister_of (node ∷ []) = option_map Unregister (node_of node)
-unregister_of _ = None
-
 -- NODE TOKEN ..
 unfoldable pub node_and_tokens : List (List ℕ) → Option (ℕ × List ℤ)
 node_and_tokens [] = None
@@ -80,6 +73,16 @@ unsafe_join_of words = option_map (λ (node, tokens). UnsafeJoin node tokens) (n
 unfoldable pub prepare_join_of : List (List ℕ) → Option Command
 prepare_join_of words = option_map (λ (node, tokens). PrepareJoin node tokens) (node_and_tokens words)
 
+-- NODE TOKEN
+unfoldable pub prepare_move_of : List (List ℕ) → Option Command
+prepare_move_of (node ∷ token ∷ []) = option_and_then (λ n. option_map (PrepareMove n) (token_of token)) (node_of node)
+prepare_move_of _ = None
+
+-- NODE GONE
+unfoldable pub prepare_replace_of : List (List ℕ) → Option Command
+prepare_replace_of (node ∷ gone ∷ []) = option_and_then (λ n. option_map (PrepareReplace n) (node_of gone)) (node_of node)
+prepare_replace_of _ = None
+
 -- NAME REPLICATION
 unfoldable pub keyspace_of : List (List ℕ) → Option Command
 keyspace_of [] = None
@@ -90,29 +93,36 @@ unfoldable pub drop_keyspace_of : List (List ℕ) → Option Command
 drop_keyspace_of (name ∷ []) = if is_name name then Some (DropKeyspace name) else None
 drop_keyspace_of _ = None
 
--- the words of steps: what the movement comes to, and what kind of movement it is
-abbrev pub step_of_word : List ℕ → Option (Goal × Kind)
-step_of_word word =
-    if bytes_eq word (codes "start-join") then Some (Start, Join)
-    else if bytes_eq word (codes "mid-join") then Some (Mid, Join)
-    else if bytes_eq word (codes "finish-join") then Some (Finish, Join)
-    else None
+-- the words of the commands that have a node alone, each with what it makes of the node
+abbrev pub node_commands : List (List ℕ × (ℕ → Command))
+node_commands =
+    (codes "unregister", Unregister) ∷ (codes "prepare-leave", PrepareLeave) ∷ (codes "cancel", Cancel)
+    ∷ (codes "start-join", Step Start Join) ∷ (codes "mid-join", Step Mid Join) ∷ (codes "finish-join", Step Finish Join)
+    ∷ (codes "start-move", Step Start Move) ∷ (codes "mid-move", Step Mid Move) ∷ (codes "finish-move", Step Finish Move)
+    ∷ (codes "start-leave", Step Start Leave) ∷ (codes "mid-leave", Step Mid Leave) ∷ (codes "finish-leave", Step Finish Leave)
+    ∷ (codes "start-replace", Step Start Replace) ∷ (codes "mid-replace", Step Mid Replace) ∷ (codes "finish-replace", Step Finish Replace)
+    ∷ []
 
--- a step's word, and NODE
-unfoldable pub step_of : List ℕ → List (List ℕ) → Option Command
-step_of word (node ∷ []) = option_and_then (λ (goal, kind). option_map (Step goal kind) (node_of node)) (step_of_word word)
-step_of word _ = None
+-- what such a word makes of a node
+abbrev pub command_on : List ℕ → ℕ → Option Command
+command_on word node = option_map (λ row. row.1 node) (find (λ row. bytes_eq word row.0) node_commands)
+
+-- such a word, and NODE
+unfoldable pub node_command_of : List ℕ → List (List ℕ) → Option Command
+node_command_of word (node ∷ []) = option_and_then (command_on word) (node_of node)
+node_command_of word _ = None
 
 -- a command: its first word, and what that word asks for
 unfoldable pub command_named : List ℕ → List (List ℕ) → Option Command
 command_named word words =
     if bytes_eq word (codes "register") then register_of words
-    else if bytes_eq word (codes "unregister") then unregister_of words
     else if bytes_eq word (codes "unsafe-join") then unsafe_join_of words
     else if bytes_eq word (codes "keyspace") then keyspace_of words
     else if bytes_eq word (codes "drop-keyspace") then drop_keyspace_of words
     else if bytes_eq word (codes "prepare-join") then prepare_join_of words
-    else step_of word words
+    else if bytes_eq word (codes "prepare-move") then prepare_move_of words
+    else if bytes_eq word (codes "prepare-replace") then prepare_replace_of words
+    else node_command_of word words
 
 unfoldable pub command_of : List (List ℕ) → Option Command
 command_of [] = None
@@ -138,6 +148,18 @@ unfoldable pub nodes_of : List (List ℕ) → Option ScriptLine
 nodes_of (target ∷ []) = option_map Nodes (target_of target)
 nodes_of _ = None
 
+-- TARGET KS TOKEN
+unfoldable pub quorum_of : List (List ℕ) → Option ScriptLine
+quorum_of (target ∷ keyspace ∷ token ∷ []) =
+    if is_name keyspace then option_and_then (λ t. option_map (Quorum t keyspace) (token_of token)) (target_of target) else None
+quorum_of _ = None
+
+-- TARGET KS DC TOKEN
+unfoldable pub local_of : List (List ℕ) → Option ScriptLine
+local_of (target ∷ keyspace ∷ dc ∷ token ∷ []) =
+    if is_name keyspace && is_name dc then option_and_then (λ t. option_map (Local t keyspace dc) (token_of token)) (target_of target) else None
+local_of _ = None
+
 -- a line: its first word, and what that word asks for
 unfoldable pub line_of_words : List (List ℕ) → Option ScriptLine
 line_of_words [] = None
@@ -145,6 +167,8 @@ line_of_words (word ∷ words) =
     if bytes_eq word (codes "commit") then commit_of words
     else if bytes_eq word (codes "place") then place_of words
     else if bytes_eq word (codes "nodes") then nodes_of words
+    else if bytes_eq word (codes "quorum") then quorum_of words
+    else if bytes_eq word (codes "local") then local_of words
     else None
 
 -- what a line says, if it is in the grammar; a line has at most 16,384 bytes

@@ -1,6 +1,7 @@
 -- The texts of answers.
 use Rattle.std.specs.Prelude.{ℕ, ℤ, List, [], ◌∷◌, ◌++◌, length, flat_map, Option, Some, None, codes, decimal}
 use Rattle.std.specs.Fmt.{signed_decimal}
+use Rattle.cluster_terms.specs.Quorum.{Sets, read_need, write_need}
 use Rattle.cluster_terms.specs.Row.{rows_between, last_token}
 use Rattle.cluster_terms.specs.declared.node.NodeRow.{NodeRow}
 use Rattle.cluster_terms.specs.declared.replication.Replication.{Replication}
@@ -13,7 +14,7 @@ use Rattle.transformations.specs.States.{node_tokens, state_of_row}
 use Rattle.transformations.specs.declared.image.Image.{Image}
 use Rattle.transformations.specs.declared.keyspace.KeyspaceRow.{KeyspaceRow}
 use Rattle.transformations.specs.declared.refusal.Refusal.{Refusal}
-use Rattle.transformations.specs.declared.refusal.Refusal.TheVariants.{NameTaken, NodesFull, NoNode, WrongState, InSequence, NoSequence, WrongStep, TokenTaken, TokensFull, NotIdle, NoKeyspace, KeyspacesFull, Locked, EpochsFull}
+use Rattle.transformations.specs.declared.refusal.Refusal.TheVariants.{NameTaken, NodesFull, NoNode, WrongState, InSequence, NoSequence, WrongStep, TokenTaken, NoTokens, TokensFull, NotOneToken, OtherRack, NotIdle, NoKeyspace, KeyspacesFull, TooFewNodes, Locked, EpochsFull}
 use Rattle.transformations.specs.declared.sequence.Kind.{Kind}
 use Rattle.transformations.specs.declared.sequence.Kind.TheVariants as kind
 use Rattle.transformations.specs.declared.sequence.Phase.{Phase}
@@ -92,10 +93,14 @@ refusal_text (InSequence n) = codes "IN-SEQUENCE " ++ decimal n
 refusal_text NoSequence = codes "NO-SEQUENCE"
 refusal_text (WrongStep k p) = codes "WRONG-STEP " ++ progress_text (k, p)
 refusal_text (TokenTaken t) = codes "TOKEN-TAKEN " ++ signed_decimal t
+refusal_text NoTokens = codes "NO-TOKENS"
 refusal_text TokensFull = codes "TOKENS-FULL"
+refusal_text (NotOneToken c) = codes "NOT-ONE-TOKEN " ++ decimal c
+refusal_text (OtherRack dc rack) = codes "OTHER-RACK " ++ dc ++ codes " " ++ rack
 refusal_text (NotIdle n) = codes "NOT-IDLE " ++ decimal n
 refusal_text NoKeyspace = codes "NO-KEYSPACE"
 refusal_text KeyspacesFull = codes "KEYSPACES-FULL"
+refusal_text (TooFewNodes k) = codes "TOO-FEW-NODES " ++ k
 refusal_text (Locked n end) = codes "LOCKED " ++ locked_text (n, end)
 refusal_text EpochsFull = codes "EPOCHS-FULL"
 
@@ -126,6 +131,16 @@ unfoldable pub place_text : Image → KeyspaceRow → List ℕ
 place_text image keyspace =
     let rows = rows_between (cuts image) in
     place_head image.epoch keyspace.name (length rows) ++ flat_map (row_text image keyspace.replication) rows
+
+-- an answer to a query of quorums: its word, the epoch, how many of the reads and of the writes are needed, and both sets
+unfoldable pub sets_text : List ℕ → ℕ → ℕ × List ℕ → ℕ × List ℕ → List ℕ
+sets_text word epoch reads writes =
+    line (word ++ codes " " ++ decimal epoch ++ codes " read " ++ decimal reads.0 ++ codes " of " ++ list_text reads.1
+    ++ codes " write " ++ decimal writes.0 ++ codes " of " ++ list_text writes.1)
+
+-- the answer where these are the sets
+abbrev pub quorum_text : List ℕ → ℕ → Sets → List ℕ
+quorum_text word epoch s = sets_text word epoch (read_need s, s.reads) (write_need s, s.writes)
 
 -- a node: its id and its name, and where it stands
 abbrev pub named_text : NodeRow → List ℕ

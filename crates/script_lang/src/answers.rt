@@ -50,11 +50,12 @@ pub fn no_epoch_text(last: u64, out: &mut ByteText) -> Result<(), Memory>
 #[cfg(test)]
 mod tests {
     use super::*;
-    use cluster_terms::{NodeId, Token};
+    use cluster_terms::{Name, NodeId, RightEnd, Token};
+    use std::alloc::Global;
     use std::test::Fail;
     use transformations::{Kind, NodeState, Phase};
 
-    const REFUSALS: [(Refusal, &[u8]); 14] = [
+    const REFUSALS: [(Refusal, &[u8]); 17] = [
         (
             Refusal::NameTaken(NodeId(4294967295)),
             b"NO NAME-TAKEN 4294967295\n",
@@ -79,7 +80,13 @@ mod tests {
             Refusal::WrongStep(Kind::Replace, Phase::Mid),
             b"NO WRONG-STEP replace MID\n",
         ),
+        (Refusal::NoTokens, b"NO NO-TOKENS\n"),
         (Refusal::TokensFull, b"NO TOKENS-FULL\n"),
+        (Refusal::NotOneToken(0), b"NO NOT-ONE-TOKEN 0\n"),
+        (
+            Refusal::NotOneToken(4294967295),
+            b"NO NOT-ONE-TOKEN 4294967295\n",
+        ),
         (
             Refusal::NotIdle(NodeId(4294967295)),
             b"NO NOT-IDLE 4294967295\n",
@@ -101,13 +108,31 @@ mod tests {
         Ok(())
     }
 
+    fn name(alloc: Global, text: &str) -> Result<Name, Fail> {
+        Ok(Name::from_text(alloc, text)?.ok_or("no name")?)
+    }
+
     #[test]
     fn each_refusal_has_its_text(rt: HostRuntime) -> Result<(), Fail> {
-        for (refusal, text) in REFUSALS {
+        for (refusal, text) in &REFUSALS {
             let mut out = ByteText::empty(rt.alloc());
-            refused_text(&refusal, &mut out)?;
-            assert_eq!(rt; out.as_slice(), text);
+            refused_text(refusal, &mut out)?;
+            assert_eq!(rt; out.as_slice(), *text);
         }
+        Ok(())
+    }
+
+    #[test]
+    fn refusals_show_names_and_locks(rt: HostRuntime) -> Result<(), Fail> {
+        let mut out = ByteText::empty(rt.alloc());
+        let dc = name(rt.alloc(), "dc1")?;
+        let rack = name(rt.alloc(), "r-2")?;
+        refused_text(&Refusal::OtherRack(dc, rack), &mut out)?;
+        let keyspace = name(rt.alloc(), "ks")?;
+        refused_text(&Refusal::TooFewNodes(keyspace), &mut out)?;
+        refused_text(&Refusal::Locked(NodeId(3), RightEnd::Max), &mut out)?;
+        let text = b"NO OTHER-RACK dc1 r-2\nNO TOO-FEW-NODES ks\nNO LOCKED 3 max\n";
+        assert_eq!(rt; out.as_slice(), text.as_slice());
         Ok(())
     }
 }

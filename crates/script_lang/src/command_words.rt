@@ -1,10 +1,11 @@
 //! What the words of a command say.
 
-ghost use Rattle.std.specs.Prelude.{◌≡◌, map, IfOk};
+ghost use Rattle.std.specs.Prelude.{◌≡◌, map, Some, IfOk};
+ghost use Rattle.transformations.specs.declared.command.Command.TheVariants.{Step};
 ghost use Rattle.script_lang.specs.Grammar as spec;
 
 use crate::number::node_of;
-use crate::tokens::tokens_of;
+use crate::tokens::{token_of, tokens_of};
 use crate::words::is_word;
 use cluster_terms::{Memory, Name, NodeId, Replication, TokenList};
 use std::alloc::Global;
@@ -28,12 +29,13 @@ fn command_named(alloc: Global, word: &[u8], words: &[&[u8]]) -> Result<Option<C
 {
     match word {
         _ if is_word(word, b"register") => register_of(alloc, words),
-        _ if is_word(word, b"unregister") => Ok(unregister_of(words)),
         _ if is_word(word, b"unsafe-join") => unsafe_join_of(alloc, words),
         _ if is_word(word, b"keyspace") => keyspace_of(alloc, words),
         _ if is_word(word, b"drop-keyspace") => drop_keyspace_of(alloc, words),
         _ if is_word(word, b"prepare-join") => prepare_join_of(alloc, words),
-        _ => Ok(step_of(word, words)),
+        _ if is_word(word, b"prepare-move") => Ok(prepare_move_of(words)),
+        _ if is_word(word, b"prepare-replace") => Ok(prepare_replace_of(words)),
+        _ => Ok(node_command_of(word, words)),
     }
 }
 
@@ -55,17 +57,6 @@ fn register_of(alloc: Global, words: &[&[u8]]) -> Result<Option<Command>, Memory
         return Ok(None);
     };
     Ok(Some(Command::Register { name, dc, rack }))
-}
-
-// NODE
-#[tactic(auto, unfolding(crate::specs::Grammar::unregister_of))]
-fn unregister_of(words: &[&[u8]]) -> Option<Command>
-    ensures { result ≡ spec.unregister_of (map (λ word. word.now) words.now) }
-{
-    match words {
-        [node] => node_of(node).map(|node| Command::Unregister { node }),
-        _ => None,
-    }
 }
 
 // NODE TOKEN ..
@@ -99,6 +90,32 @@ fn prepare_join_of(alloc: Global, words: &[&[u8]]) -> Result<Option<Command>, Me
     Ok(found.map(|(node, tokens)| Command::PrepareJoin { node, tokens }))
 }
 
+// NODE TOKEN
+#[tactic(auto, unfolding(crate::specs::Grammar::prepare_move_of))]
+fn prepare_move_of(words: &[&[u8]]) -> Option<Command>
+    ensures { result ≡ spec.prepare_move_of (map (λ word. word.now) words.now) }
+{
+    let [node, token] = words else {
+        return None;
+    };
+    let node = node_of(node)?;
+    let token = token_of(token)?;
+    Some(Command::PrepareMove { node, token })
+}
+
+// NODE GONE
+#[tactic(auto, unfolding(crate::specs::Grammar::prepare_replace_of))]
+fn prepare_replace_of(words: &[&[u8]]) -> Option<Command>
+    ensures { result ≡ spec.prepare_replace_of (map (λ word. word.now) words.now) }
+{
+    let [node, gone] = words else {
+        return None;
+    };
+    let node = node_of(node)?;
+    let gone = node_of(gone)?;
+    Some(Command::PrepareReplace { node, gone })
+}
+
 // NAME REPLICATION
 #[tactic(auto, unfolding(crate::specs::Grammar::keyspace_of))]
 fn keyspace_of(alloc: Global, words: &[&[u8]]) -> Result<Option<Command>, Memory>
@@ -128,27 +145,44 @@ fn drop_keyspace_of(alloc: Global, words: &[&[u8]]) -> Result<Option<Command>, M
     Ok(name.map(|name| Command::DropKeyspace { name }))
 }
 
-// The step that a word names: what the movement comes to, and what kind of movement it is.
-fn step_of_word(word: &[u8]) -> Option<(Goal, Kind)>
-    ensures { result ≡ spec.step_of_word word.now }
+// A step of the movement of a node.
+fn step(goal: Goal, kind: Kind, node: NodeId) -> Option<Command>
+    ensures { result ≡ Some (Step goal kind node) }
+{
+    Some(Command::Step { goal, kind, node })
+}
+
+// What a word makes of a node, if it is that of a command that has a node alone.
+fn command_on(word: &[u8], node: NodeId) -> Option<Command>
+    ensures { result ≡ spec.command_on word.now node }
 {
     match word {
-        _ if is_word(word, b"start-join") => Some((Goal::Start, Kind::Join)),
-        _ if is_word(word, b"mid-join") => Some((Goal::Mid, Kind::Join)),
-        _ if is_word(word, b"finish-join") => Some((Goal::Finish, Kind::Join)),
+        _ if is_word(word, b"unregister") => Some(Command::Unregister { node }),
+        _ if is_word(word, b"prepare-leave") => Some(Command::PrepareLeave { node }),
+        _ if is_word(word, b"cancel") => Some(Command::Cancel { node }),
+        _ if is_word(word, b"start-join") => step(Goal::Start, Kind::Join, node),
+        _ if is_word(word, b"mid-join") => step(Goal::Mid, Kind::Join, node),
+        _ if is_word(word, b"finish-join") => step(Goal::Finish, Kind::Join, node),
+        _ if is_word(word, b"start-move") => step(Goal::Start, Kind::Move, node),
+        _ if is_word(word, b"mid-move") => step(Goal::Mid, Kind::Move, node),
+        _ if is_word(word, b"finish-move") => step(Goal::Finish, Kind::Move, node),
+        _ if is_word(word, b"start-leave") => step(Goal::Start, Kind::Leave, node),
+        _ if is_word(word, b"mid-leave") => step(Goal::Mid, Kind::Leave, node),
+        _ if is_word(word, b"finish-leave") => step(Goal::Finish, Kind::Leave, node),
+        _ if is_word(word, b"start-replace") => step(Goal::Start, Kind::Replace, node),
+        _ if is_word(word, b"mid-replace") => step(Goal::Mid, Kind::Replace, node),
+        _ if is_word(word, b"finish-replace") => step(Goal::Finish, Kind::Replace, node),
         _ => None,
     }
 }
 
-// A step's word, and NODE
-#[tactic(auto, unfolding(crate::specs::Grammar::step_of))]
-fn step_of(word: &[u8], words: &[&[u8]]) -> Option<Command>
-    ensures { result ≡ spec.step_of word.now (map (λ word. word.now) words.now) }
+// A word of a command that has a node alone, and NODE
+#[tactic(auto, unfolding(crate::specs::Grammar::node_command_of))]
+fn node_command_of(word: &[u8], words: &[&[u8]]) -> Option<Command>
+    ensures { result ≡ spec.node_command_of word.now (map (λ word. word.now) words.now) }
 {
-    let [node] = words else {
-        return None;
-    };
-    let (goal, kind) = step_of_word(word)?;
-    let node = node_of(node)?;
-    Some(Command::Step { goal, kind, node })
+    match words {
+        [node] => command_on(word, node_of(node)?),
+        _ => None,
+    }
 }

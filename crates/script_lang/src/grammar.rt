@@ -6,6 +6,7 @@ ghost use Rattle.script_lang.specs.Grammar as spec;
 use crate::command_words::command_of;
 use crate::number::number_of;
 use crate::script_line::{ScriptLine, Target};
+use crate::tokens::token_of;
 use crate::words::{is_word, words_of};
 use cluster_terms::{Memory, Name};
 use std::alloc::Global;
@@ -36,6 +37,8 @@ fn line_of_words(alloc: Global, words: &[&[u8]]) -> Result<Option<ScriptLine>, M
         [word, words @ ..] if is_word(word, b"commit") => commit_of(alloc, words),
         [word, words @ ..] if is_word(word, b"place") => place_of(alloc, words),
         [word, words @ ..] if is_word(word, b"nodes") => Ok(nodes_of(words)),
+        [word, words @ ..] if is_word(word, b"quorum") => quorum_of(alloc, words),
+        [word, words @ ..] if is_word(word, b"local") => local_of(alloc, words),
         _ => Ok(None),
     }
 }
@@ -81,6 +84,45 @@ fn nodes_of(words: &[&[u8]]) -> Option<ScriptLine>
     }
 }
 
+// TARGET KS TOKEN
+#[tactic(auto, unfolding(crate::specs::Grammar::quorum_of))]
+fn quorum_of(alloc: Global, words: &[&[u8]]) -> Result<Option<ScriptLine>, Memory>
+    ensures { IfOk result (λ found. found ≡ spec.quorum_of (map (λ word. word.now) words.now)) }
+{
+    let [target, keyspace, token] = words else {
+        return Ok(None);
+    };
+    let Some(target) = target_of(target) else {
+        return Ok(None);
+    };
+    let Some(token) = token_of(token) else {
+        return Ok(None);
+    };
+    let keyspace = Name::from_bytes(alloc, keyspace)?;
+    Ok(keyspace.map(|keyspace| ScriptLine::Quorum(target, keyspace, token)))
+}
+
+// TARGET KS DC TOKEN
+#[tactic(auto, unfolding(crate::specs::Grammar::local_of))]
+fn local_of(alloc: Global, words: &[&[u8]]) -> Result<Option<ScriptLine>, Memory>
+    ensures { IfOk result (λ found. found ≡ spec.local_of (map (λ word. word.now) words.now)) }
+{
+    let [target, keyspace, dc, token] = words else {
+        return Ok(None);
+    };
+    let Some(target) = target_of(target) else {
+        return Ok(None);
+    };
+    let Some(token) = token_of(token) else {
+        return Ok(None);
+    };
+    let Some(keyspace) = Name::from_bytes(alloc, keyspace)? else {
+        return Ok(None);
+    };
+    let dc = Name::from_bytes(alloc, dc)?;
+    Ok(dc.map(|dc| ScriptLine::Local(target, keyspace, dc, token)))
+}
+
 // `@` and an epoch
 #[tactic(auto, unfolding(crate::specs::Grammar::target_of))]
 fn target_of(text: &[u8]) -> Option<Target>
@@ -96,10 +138,11 @@ fn target_of(text: &[u8]) -> Option<Target>
 mod tests {
     use super::*;
     use cluster_terms::{ByteText, Replication, Token};
+    use std::process::Abort;
     use std::test::Fail;
     use transformations::{Command, Goal, Kind};
 
-    const LINES: [&str; 24] = [
+    const LINES: [&str; 48] = [
         "commit 0 register n1 dc-1 Rack_2.b",
         "commit 18446744073709551615 register a b c",
         "commit 5 unregister 1",
@@ -120,10 +163,34 @@ mod tests {
         "commit 19 start-join 1",
         "commit 20 mid-join 4294967295",
         "commit 21 finish-join 2",
+        "commit 22 prepare-move 1 0",
+        "commit 23 prepare-move 0 -9223372036854775808",
+        "commit 24 prepare-move 4294967295 9223372036854775807",
+        "commit 25 prepare-leave 0",
+        "commit 26 prepare-leave 4294967295",
+        "commit 27 prepare-replace 0 4294967295",
+        "commit 28 prepare-replace 4294967295 0",
+        "commit 29 cancel 0",
+        "commit 30 cancel 4294967295",
+        "commit 31 start-move 0",
+        "commit 32 mid-move 1",
+        "commit 33 finish-move 4294967295",
+        "commit 34 start-leave 4294967295",
+        "commit 35 mid-leave 0",
+        "commit 36 finish-leave 2",
+        "commit 37 start-replace 3",
+        "commit 38 mid-replace 4294967295",
+        "commit 39 finish-replace 0",
         "place @0 ks",
         "place @18446744073709551615 ks",
         "nodes @0",
         "nodes @18446744073709551615",
+        "quorum @0 ks 0",
+        "quorum @18446744073709551615 aaaaaaaaaaaaaaaaaaaaaaaaaaaaaaaa -9223372036854775808",
+        "quorum @1 k 9223372036854775807",
+        "local @0 ks dc1 -1",
+        "local @1 k aaaaaaaaaaaaaaaaaaaaaaaaaaaaaaaa 9223372036854775807",
+        "local @18446744073709551615 aaaaaaaaaaaaaaaaaaaaaaaaaaaaaaaa d -9223372036854775808",
     ];
 
     // Lines that may be written in several orders, each with the one that ascends.
@@ -142,7 +209,7 @@ mod tests {
         ),
     ];
 
-    const NO_LINES: [&[u8]; 96] = [
+    const NO_LINES: [&[u8]; 40] = [
         b"",
         b" ",
         b"place",
@@ -183,6 +250,53 @@ mod tests {
         b"commit -1 register a b c",
         b"commit 1x register a b c",
         b"commit 18446744073709551616 register a b c",
+    ];
+
+    const NO_QUORUMS: [&[u8]; 40] = [
+        b"quorum",
+        b"quorum @0",
+        b"quorum @0 ks",
+        b"quorum @0 ks ",
+        b"quorum @0 ks 1 ",
+        b"quorum @0 ks 1 2",
+        b"quorum @0 ks dc1 1",
+        b"quorum @0  ks 1",
+        b" quorum @0 ks 1",
+        b"Quorum @0 ks 1",
+        b"QUORUM @0 ks 1",
+        b"quorums @0 ks 1",
+        b"quorum 0 ks 1",
+        b"quorum @ ks 1",
+        b"quorum @00 ks 1",
+        b"quorum @-1 ks 1",
+        b"quorum @18446744073709551616 ks 1",
+        b"quorum @0 k/s 1",
+        b"quorum @0 aaaaaaaaaaaaaaaaaaaaaaaaaaaaaaaaa 1",
+        b"quorum @0 ks x",
+        b"quorum @0 ks -0",
+        b"quorum @0 ks 01",
+        b"quorum @0 ks +1",
+        b"quorum @0 ks 9223372036854775808",
+        b"quorum @0 ks -9223372036854775809",
+        b"quorum @0 1 ks",
+        b"local",
+        b"local @0 ks",
+        b"local @0 ks 1",
+        b"local @0 ks dc1",
+        b"local @0 ks dc1 ",
+        b"local @0 ks dc1 1 2",
+        b"local @0 ks dc1 -0",
+        b"local @0 ks dc1 9223372036854775808",
+        b"local @0 ks dc1 -9223372036854775809",
+        b"local @0 k/s dc1 1",
+        b"local @0 ks dc/1 1",
+        b"local @0 ks aaaaaaaaaaaaaaaaaaaaaaaaaaaaaaaaa 1",
+        b"local @18446744073709551616 ks dc1 1",
+        b"commit 1 quorum @0 ks 1",
+    ];
+
+    // Commits of no command, where the first word is that of one without a movement, and where it is of a movement.
+    const NO_COMMANDS: [&[u8]; 38] = [
         b"commit 1 register a b",
         b"commit 1 register a b c d",
         b"commit 1 register a b \xff",
@@ -221,6 +335,9 @@ mod tests {
         b"commit 1 drop-keyspace",
         b"commit 1 drop-keyspace a/b",
         b"commit 1 drop-keyspace ks ks",
+    ];
+
+    const NO_MOVEMENTS: [&[u8]; 44] = [
         b"commit 1 prepare-join",
         b"commit 1 prepare-join 1",
         b"commit 1 prepare-join 1 ",
@@ -234,11 +351,37 @@ mod tests {
         b"commit 1 start join 1",
         b"commit 1 mid-join x",
         b"commit 1 finish-join 4294967296",
-        b"commit 1 start-move 1",
-        b"commit 1 mid-leave 1",
-        b"commit 1 finish-replace 1",
-        b"commit 1 prepare-move 1 5",
-        b"commit 1 prepare-leave 1",
+        b"commit 1 prepare-move",
+        b"commit 1 prepare-move 1",
+        b"commit 1 prepare-move 1 ",
+        b"commit 1 prepare-move 1 5 6",
+        b"commit 1 prepare-move 1 -0",
+        b"commit 1 prepare-move 1 9223372036854775808",
+        b"commit 1 prepare-move 4294967296 5",
+        b"commit 1 prepare-leave",
+        b"commit 1 prepare-leave 1 2",
+        b"commit 1 prepare-leave 01",
+        b"commit 1 prepare-replace 1",
+        b"commit 1 prepare-replace 1 2 3",
+        b"commit 1 prepare-replace 1  2",
+        b"commit 1 prepare-replace 4294967296 2",
+        b"commit 1 prepare-replace 1 4294967296",
+        b"commit 1 cancel",
+        b"commit 1 cancel ",
+        b"commit 1 cancel 1 2",
+        b"commit 1 cancel 4294967296",
+        b"commit 1 start-move 1 5",
+        b"commit 1 mid-move",
+        b"commit 1 finish-move 4294967296",
+        b"commit 1 start-leave x",
+        b"commit 1 mid-leave 1 2",
+        b"commit 1 finish-leave -1",
+        b"commit 1 start-replace 1 2",
+        b"commit 1 mid-replace +1",
+        b"commit 1 Finish-replace 1",
+        b"commit 1 cancel-move 1",
+        b"commit 1 start- 1",
+        b"commit 1 move 1",
     ];
 
     fn tokens_text(alloc: Global, tokens: &[Token]) -> Result<String, Fail> {
@@ -262,13 +405,21 @@ mod tests {
         Ok(text)
     }
 
-    // The word of a step; none is written for a step that no line says.
-    fn step_word(goal: Goal, kind: Kind) -> &'static str {
-        match (goal, kind) {
-            (Goal::Start, Kind::Join) => "start-join",
-            (Goal::Mid, Kind::Join) => "mid-join",
-            (Goal::Finish, Kind::Join) => "finish-join",
-            _ => "",
+    // The words of goals and kinds, of which a step's word is made.
+    fn goal_word(goal: Goal) -> &'static str {
+        match goal {
+            Goal::Start => "start",
+            Goal::Mid => "mid",
+            Goal::Finish => "finish",
+        }
+    }
+
+    fn kind_word(kind: Kind) -> &'static str {
+        match kind {
+            Kind::Join => "join",
+            Kind::Move => "move",
+            Kind::Leave => "leave",
+            Kind::Replace => "replace",
         }
     }
 
@@ -294,9 +445,17 @@ mod tests {
                 let tokens = tokens_text(alloc, tokens.as_slice())?;
                 format!(in alloc; "prepare-join {}{tokens}", node.0)?
             }
-            Command::Step { goal, kind, node } => {
-                format!(in alloc; "{} {}", step_word(*goal, *kind), node.0)?
+            Command::PrepareMove { node, token } => {
+                format!(in alloc; "prepare-move {} {}", node.0, token.value())?
             }
+            Command::PrepareLeave { node } => format!(in alloc; "prepare-leave {}", node.0)?,
+            Command::PrepareReplace { node, gone } => {
+                format!(in alloc; "prepare-replace {} {}", node.0, gone.0)?
+            }
+            Command::Step { goal, kind, node } => {
+                format!(in alloc; "{}-{} {}", goal_word(*goal), kind_word(*kind), node.0)?
+            }
+            Command::Cancel { node } => format!(in alloc; "cancel {}", node.0)?,
         };
         Ok(text)
     }
@@ -312,6 +471,13 @@ mod tests {
                 format!(in alloc; "place @{epoch} {}", keyspace.as_str())?
             }
             ScriptLine::Nodes(Target::Epoch(epoch)) => format!(in alloc; "nodes @{epoch}")?,
+            ScriptLine::Quorum(Target::Epoch(epoch), keyspace, token) => {
+                format!(in alloc; "quorum @{epoch} {} {}", keyspace.as_str(), token.value())?
+            }
+            ScriptLine::Local(Target::Epoch(epoch), keyspace, dc, token) => {
+                let (keyspace, dc) = (keyspace.as_str(), dc.as_str());
+                format!(in alloc; "local @{epoch} {keyspace} {dc} {}", token.value())?
+            }
         };
         Ok(text)
     }
@@ -373,14 +539,34 @@ mod tests {
         Ok(())
     }
 
-    #[test]
-    fn other_bytes_say_nothing(rt: HostRuntime) -> Result<(), Fail> {
-        for bytes in NO_LINES {
-            let said = parse_line(rt.alloc(), bytes)?;
+    // Asserts that each of some bytes says nothing.
+    fn say_nothing<A: Abort>(rt: &A, alloc: Global, all: &[&[u8]]) -> Result<(), Fail> {
+        for bytes in all {
+            let said = parse_line(alloc, bytes)?;
             assert!(rt; said.is_none(), "{bytes:?} is a line");
         }
-        let long = vec![in rt.alloc(); b'a'; 16_385]?;
-        assert!(rt; parse_line(rt.alloc(), &long)?.is_none());
         Ok(())
+    }
+
+    #[test]
+    fn other_bytes_say_nothing(rt: HostRuntime) -> Result<(), Fail> {
+        say_nothing(&rt, rt.alloc(), &NO_LINES)?;
+        let long = vec![in rt.alloc(); b'a'; 16_385]?;
+        say_nothing(&rt, rt.alloc(), &[long.as_slice()])
+    }
+
+    #[test]
+    fn other_quorums_say_nothing(rt: HostRuntime) -> Result<(), Fail> {
+        say_nothing(&rt, rt.alloc(), &NO_QUORUMS)
+    }
+
+    #[test]
+    fn other_commands_say_nothing(rt: HostRuntime) -> Result<(), Fail> {
+        say_nothing(&rt, rt.alloc(), &NO_COMMANDS)
+    }
+
+    #[test]
+    fn other_movements_say_nothing(rt: HostRuntime) -> Result<(), Fail> {
+        say_nothing(&rt, rt.alloc(), &NO_MOVEMENTS)
     }
 }

@@ -1,10 +1,10 @@
 //! Why a command was refused.
 
-ghost use Rattle.std.specs.Prelude.{◌≡◌, ◌++◌, take, length, OnOk};
+ghost use Rattle.std.specs.Prelude.{◌≡◌, ◌++◌, codes, take, length, OnOk};
 ghost use Rattle.script_lang.specs.Texts as spec;
 
 use crate::shown::labelled;
-use cluster_terms::{ByteText, Memory};
+use cluster_terms::{ByteText, Memory, Name};
 use transformations::Refusal;
 
 /// Adds why a command was refused. After want of memory the output begins with what it held.
@@ -22,11 +22,24 @@ pub fn refusal_text(refusal: &Refusal, out: &mut ByteText) -> Result<(), Memory>
         Refusal::NoSequence => out.extend(b"NO-SEQUENCE"),
         Refusal::WrongStep(kind, phase) => labelled(b"WRONG-STEP ", &(*kind, *phase), out),
         Refusal::TokenTaken(token) => labelled(b"TOKEN-TAKEN ", token, out),
+        Refusal::NoTokens => out.extend(b"NO-TOKENS"),
         Refusal::TokensFull => out.extend(b"TOKENS-FULL"),
+        Refusal::NotOneToken(count) => labelled(b"NOT-ONE-TOKEN ", count, out),
+        Refusal::OtherRack(dc, rack) => other_rack_text(dc, rack, out),
         Refusal::NotIdle(node) => labelled(b"NOT-IDLE ", node, out),
         Refusal::NoKeyspace => out.extend(b"NO-KEYSPACE"),
         Refusal::KeyspacesFull => out.extend(b"KEYSPACES-FULL"),
+        Refusal::TooFewNodes(keyspace) => labelled(b"TOO-FEW-NODES ", keyspace, out),
         Refusal::Locked(node, end) => labelled(b"LOCKED ", &(*node, *end), out),
         Refusal::EpochsFull => out.extend(b"EPOCHS-FULL"),
     }
+}
+
+// Adds that a node stands in another rack than this one of a datacenter.
+fn other_rack_text(dc: &Name, rack: &Name, out: &mut ByteText) -> Result<(), Memory>
+    ensures added { OnOk result (out.new ≡ out.old ++ (codes "OTHER-RACK " ++ dc.now ++ codes " " ++ rack.now)) }
+    ensures kept { take (length out.old) out.new ≡ out.old }
+{
+    labelled(b"OTHER-RACK ", dc, out)?;
+    labelled(b" ", rack, out)
 }

@@ -1,4 +1,4 @@
-use cluster_terms::Name;
+use cluster_terms::{Name, Token};
 use transformations::Command;
 
 /// The state that a query asks for.
@@ -17,4 +17,8 @@ pub enum ScriptLine {
     Place(Target, Name),
     /// `nodes TARGET`
     Nodes(Target),
+    /// `quorum TARGET KS TOKEN`
+    Quorum(Target, Name, Token),
+    /// `local TARGET KS DC TOKEN`
+    Local(Target, Name, Name, Token),
 }

@@ -27,6 +27,14 @@ pub fn labelled<T: Shown>(label: &[u8], item: &T, out: &mut ByteText) -> Result<
     item.show(out)
 }
 
+impl Shown for u32 {
+    ghost text = { decimal };
+
+    fn show(&self, out: &mut ByteText) -> Result<(), Memory> {
+        out.extend(Buffer::new().format(*self).as_bytes())
+    }
+}
+
 impl Shown for u64 {
     ghost text = { decimal };
 

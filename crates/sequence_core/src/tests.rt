@@ -41,3 +41,24 @@ fn a_join_goes_through_its_phases(rt: HostRuntime) -> Result<(), Fail> {
     assert_eq!(rt; row.in_pairs.as_slice().len(), 1);
     Ok(())
 }
+
+/// A row, prepared again.
+fn row_again(mut row: SeqRow) -> SeqRow
+    ensures { result.phase ≡ phase.Prepared }
+{
+    row.phase = Phase::Prepared;
+    row
+}
+
+#[test]
+fn a_join_that_is_half_way_goes_back_and_ends(rt: HostRuntime) -> Result<(), Fail> {
+    let mid = Seq::begin(join(rt.alloc())?).start().mid();
+    let back = mid.cancel();
+    assert_eq!(rt; back.row().phase, Phase::Started);
+    let row = back.cancel();
+    assert_eq!(rt; row.phase, Phase::Started);
+    let row = Seq::begin(row_again(row)).cancel();
+    assert_eq!(rt; row.phase, Phase::Prepared);
+    assert_eq!(rt; row.in_pairs.as_slice().len(), 1);
+    Ok(())
+}

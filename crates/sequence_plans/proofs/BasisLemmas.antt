@@ -1,5 +1,5 @@
 -- What the ranges of a sound image's movements are taken from, and that they are its ranges.
-use Rattle.std.proofs.Common.{◌≡◌, Bool, true, ℤ, List, ◌++◌, IsTrue, sym, ap, ◌∙◌}
+use Rattle.std.proofs.Common.{◌≡◌, Bool, true, not, ℤ, List, ◌++◌, IsTrue, sym, ap, ◌∙◌}
 use Rattle.std.proofs.lemmas.Bool.Decides.{Decides-int_eq}
 use Rattle.std.proofs.lemmas.Cmp.{int_cmp_total, int_eq_equiv}
 use Rattle.std.proofs.lemmas.List.Folds.{list_any-append}
@@ -25,11 +25,11 @@ use Rattle.token_ring.proofs.DistinctLemmas.{distinct_tokens}
 use Rattle.token_ring.proofs.OrderLemmas.{has_token-IsPermutation}
 use Rattle.token_ring.specs.Ranges.{AreCutOut, HaveTokens}
 use Rattle.token_ring.specs.Ring.{are_distinct, tokens_of}
-use Rattle.transformations.proofs.ListLemmas.{all_from_map, all_map, all_members, member_holds, part_all_of, part_distinct, part_map}
+use Rattle.transformations.proofs.ListLemmas.{IsPart, all_from_map, all_map, all_members, member_holds, part_all_of, part_distinct, part_filter, part_front, part_map, part_trans}
 use Rattle.transformations.proofs.RangeLemmas.{fixed_part, moved_hold}
 use Rattle.transformations.specs.Ranges.{in_ranges, moved_by}
-use Rattle.transformations.specs.Rings.{cuts, fixed_ring, widest}
-use Rattle.transformations.specs.Valid.{IsSound}
+use Rattle.transformations.specs.Rings.{cuts, fixed_ring, outgoing, widest}
+use Rattle.transformations.specs.Valid.{IsSound, brought}
 use Rattle.transformations.specs.declared.image.Image.{Image}
 use Rattle.transformations.specs.declared.sequence.SeqRow.{SeqRow}
 use Rattle.sequence_plans.specs.Basis.{MovesWithin}
@@ -39,7 +39,9 @@ use Rattle.sequence_plans.specs.Basis.{MovesWithin}
 -- the fixed ring has no token twice
 pub fixed_tokens : (image : Image) → IsSound image → are_distinct (tokens_of (fixed_ring image)) ≡ true
 fixed_tokens image sound =
-    distinct_tokens (tokens_of (fixed_ring image)) (part_distinct int_eq (part_map (λ (p : Pair). p.token) (fixed_part image)) sound.fresh)
+    let stays : IsPart (fixed_ring image) (image.tokens ++ brought image.sequences) =
+    part_trans (part_filter (λ p. not (is_member same_pair (outgoing image.sequences) p)) image.tokens) (part_front image.tokens (brought image.sequences)) in
+    distinct_tokens (tokens_of (fixed_ring image)) (part_distinct int_eq (part_map (λ (p : Pair). p.token) stays) sound.fresh)
 
 -- its nodes make a directory
 pub valid_rows : (image : Image) → IsSound image → IsTrue (is_directory 1 image.nodes image.next)

@@ -12,9 +12,10 @@ use cluster_terms::{
     TokenRange, TryCopy,
 };
 use placement_deltas::Plan;
-use sequence_rows::join_row;
+use sequence_rows::{join_row, leave_row};
 use std::alloc::Global;
 use std::marker::Brand;
+use std::process::Abort;
 use std::sync::ledger::{Blank, Ledger};
 use std::test::Fail;
 use token_ring::RangeBook;
@@ -140,6 +141,17 @@ fn join_at(alloc: Global, image: &Image, node: u32, token: Token) -> Result<SeqR
     Ok(join_row(alloc, image, node, &tokens)?)
 }
 
+/// The row of a leave.
+fn leave_of(alloc: Global, image: &Image, node: u32) -> Result<SeqRow, Fail>
+    requires { IsSound image.now }
+    ensures prepared { IfOk result (λ row. row.phase ≡ phase.Prepared) }
+    ensures sound { IfOk result (λ row. IsSound (with_movement image.now row)) }
+{
+    let node = NodeId(node);
+    accepted(alloc, image, &Command::PrepareLeave { node })?;
+    Ok(leave_row(alloc, image, node)?)
+}
+
 /// A movement more.
 fn with_row(mut image: Image, row: SeqRow) -> Result<Image, Fail>
     requires { IsSound (with_movement image row) }
@@ -200,37 +212,59 @@ fn has_ranges(
     Ok(same)
 }
 
-fn plan_of<L: Ledger>(alloc: Global, blank: Blank) -> Result<Plan, Fail>
+fn planned<L: Ledger>(alloc: Global, image: &Image, row: SeqRow, blank: Blank) -> Result<Plan, Fail>
+    requires prepared { row.phase ≡ phase.Prepared }
+    requires sound { IsSound (with_movement image.now row) }
     requires name { blank.name ≡ L.name }
     requires parts { blank.parts ≡ L.parts }
     requires some { 0 < blank.parts }
 {
-    let image = small_image(alloc)?;
-    let row = join_at(alloc, &image, 6, Token::new(350))?;
     let mut walks = Steps::<L>::begin(blank);
-    match plan(alloc, &image, row, &mut walks) {
+    match plan(alloc, image, row, &mut walks) {
         Ok(plan) => Ok(plan),
         Err(_) => Err("memory")?,
     }
 }
 
-#[test]
-fn a_join_beside_another_one(rt: HostRuntime) -> Result<(), Fail> {
-    let plan = plan_of::<Brand>(rt.alloc(), Blank::new(1))?;
-    assert_eq!(rt; plan.row.node, NodeId(6));
-    let cuts = plan.cuts.as_slice().iter().map(|token| token.value());
-    assert!(rt; cuts.eq([0, 100, 150, 200, 300, 350]));
-    let (own, pending, pending_dc1) = ([range(200, 350)], [range(0, 150)], [range(100, 150)]);
-    let none: [TokenRange; 0] = [];
-    let ranges = [("simple 2", &own[..]), ("topology dc1:1", &none[..])];
+/// The ranges of the join of node 5, which is in flight beside the other movement.
+fn join_is_beside<A: Abort>(rt: &A, alloc: Global, plan: &Plan) -> Result<(), Fail> {
+    let (pending, pending_dc1) = ([range(0, 150)], [range(100, 150)]);
     let beside = [
         ("simple 2", &pending[..]),
         ("topology dc1:1", &pending_dc1[..]),
     ];
-    assert!(rt; has_ranges(rt.alloc(), &plan.ranges, &ranges)?);
     assert_eq!(rt; plan.wide.as_slice().len(), 1);
     let lock = &plan.wide.as_slice()[0];
     assert_eq!(rt; lock.node, NodeId(5));
-    assert!(rt; has_ranges(rt.alloc(), &lock.ranges, &beside)?);
+    assert!(rt; has_ranges(alloc, &lock.ranges, &beside)?);
     Ok(())
+}
+
+#[test]
+fn a_join_beside_another_one(rt: HostRuntime) -> Result<(), Fail> {
+    let image = small_image(rt.alloc())?;
+    let row = join_at(rt.alloc(), &image, 6, Token::new(350))?;
+    let plan = planned::<Brand>(rt.alloc(), &image, row, Blank::new(1))?;
+    assert_eq!(rt; plan.row.node, NodeId(6));
+    let cuts = plan.cuts.as_slice().iter().map(|token| token.value());
+    assert!(rt; cuts.eq([0, 100, 150, 200, 300, 350]));
+    let own = [range(200, 350)];
+    let none: [TokenRange; 0] = [];
+    let ranges = [("simple 2", &own[..]), ("topology dc1:1", &none[..])];
+    assert!(rt; has_ranges(rt.alloc(), &plan.ranges, &ranges)?);
+    join_is_beside(&rt, rt.alloc(), &plan)
+}
+
+#[test]
+fn a_leave_beside_a_join(rt: HostRuntime) -> Result<(), Fail> {
+    let image = small_image(rt.alloc())?;
+    let row = leave_of(rt.alloc(), &image, 3)?;
+    let plan = planned::<Brand>(rt.alloc(), &image, row, Blank::new(1))?;
+    assert_eq!(rt; plan.row.out_pairs.as_slice().len(), 1);
+    let cuts = plan.cuts.as_slice().iter().map(|token| token.value());
+    assert!(rt; cuts.eq([0, 100, 150, 200, 300]));
+    let (own, own_dc1) = ([range(0, 200)], [range(100, 200)]);
+    let ranges = [("simple 2", &own[..]), ("topology dc1:1", &own_dc1[..])];
+    assert!(rt; has_ranges(rt.alloc(), &plan.ranges, &ranges)?);
+    join_is_beside(&rt, rt.alloc(), &plan)
 }

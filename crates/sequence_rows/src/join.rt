@@ -1,27 +1,14 @@
 ghost use Rattle.std.specs.Prelude.{◌≡◌, true, None, IfOk};
 ghost use Rattle.transformations.specs.History.{is_command};
 ghost use Rattle.transformations.specs.Refusals.{early_refusal_of, with_movement};
-ghost use Rattle.transformations.specs.Steps.{join_of, pairs_of};
+ghost use Rattle.transformations.specs.Steps.{join_of};
 ghost use Rattle.transformations.specs.Valid.{IsSound};
 ghost use Rattle.transformations.specs.declared.command.Command.TheVariants as command;
 
-use cluster_terms::{Memory, NodeId, Pair, PairList, Token, TokenList};
+use crate::pairs::pairs_with;
+use cluster_terms::{Memory, NodeId, PairList, Token, TokenList};
 use std::alloc::Global;
 use transformations::{Image, Kind, Phase, SeqRow};
-
-/// The pairs of a node and its tokens, in the order of the tokens.
-pub fn pairs_with(alloc: Global, node: NodeId, tokens: &[Token]) -> Result<PairList, Memory>
-    ensures { IfOk result (λ pairs. pairs ≡ pairs_of node tokens.now) }
-{
-    let mut pairs = PairList::empty(alloc);
-    for token in tokens {
-        pairs.push(Pair {
-            token: *token,
-            node,
-        })?;
-    }
-    Ok(pairs)
-}
 
 /// The row of a join that is prepared.
 fn join_with(alloc: Global, node: NodeId, tokens: &[Token]) -> Result<SeqRow, Memory>

@@ -2,5 +2,13 @@
 #![tactic(auto)]
 
 pub mod join;
+pub mod leaves;
+pub mod moves;
+pub mod pairs;
+pub mod replaces;
 
-pub use join::{join_row, pairs_with};
+pub use join::join_row;
+pub use leaves::leave_row;
+pub use moves::move_row;
+pub use pairs::pairs_with;
+pub use replaces::replace_row;

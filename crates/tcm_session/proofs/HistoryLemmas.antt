@@ -73,37 +73,3 @@ serving image valid =
 
 pub serving-at : (h : List Command) (e : ℕ) → IsHistory h → IsServing (state_after h e)
 serving-at h e is = serving (state_after h e) (valid_at h e is)
-
--- ---- the commands of a history, one after another
-
--- a command can be taken over next: there is an epoch for it, and the image so far accepts it
-pub record IsNext (image : Image) (c : Command) : Type 0 where
-  pub room : image.epoch < most_epochs
-  pub formed : is_command c ≡ true
-  pub accepted : refusal_of image c ≡ None
-
-accepted_last : (image : Image) (commands : List Command) (c : Command) → are_accepted image (commands ++ c ∷ []) ≡ true → (is_command c ≡ true) × (refusal_of (image_after image commands) c ≡ None)
-accepted_last image [] c h = by (is_command c) (refusal_of image c) h
-  where
-    by : (a : Bool) (o : Option Refusal) → ((a && is_none o) && true) ≡ true → (a ≡ true) × (o ≡ None)
-    by true None e = (refl, refl)
-    by true (Some r) e = absurd (true≢false (sym e))
-    by false o e = absurd (true≢false (sym e))
-accepted_last image (d ∷ commands) c h = accepted_last (next_image image d) commands c (both_right (is_command d && is_none (refusal_of image d)) _ h)
-
-pub next_at : (h : List Command) (i : ℕ) (c : Command) → IsHistory h → i < length h → c ≡ get_or h i c → IsNext (state_after h i) c
-next_at h i c is within at =
-    let more : take (i + 1) h ≡ take i h ++ c ∷ [] = take_more h i c within ∙ ap (λ x. take i h ++ x ∷ []) (sym at) in
-    let front : are_accepted empty_image (take i h ++ c ∷ []) ≡ true =
-    subst (λ l. are_accepted empty_image l ≡ true) more (both_right (nat_le (length (take (i + 1) h)) most_epochs) _ (history_take h (i + 1) is)) in
-    let last = accepted_last empty_image (take i h) c front in
-    record {
-      room = omega (arith, epoch_after (take i h), length-take i h, history_short h is);
-      formed = last.0;
-      accepted = last.1;
-    }
-
--- the next command taken over
-pub state-more : (h : List Command) (i : ℕ) (c : Command) → i < length h → c ≡ get_or h i c → next_image (state_after h i) c ≡ state_after h (i + 1)
-state-more h i c within at =
-    sym (image_after-push empty_image (take i h) c) ∙ ap (image_after empty_image) (ap (λ x. take i h ++ x ∷ []) at ∙ sym (take_more h i c within))

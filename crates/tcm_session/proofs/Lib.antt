@@ -1,7 +1,11 @@
 pub mod AnswersLemmas
 pub mod CauseLemmas
-pub mod HistoryLemmas
 pub mod FeedLemmas
+pub mod HistoryLemmas
 pub mod LinesLemmas
+pub mod LocalLemmas
 pub mod OutcomeLemmas
+pub mod PrintedLemmas
 pub mod ReadLemmas
+pub mod ShownAnswers
+pub mod ShownLemmas

@@ -6,3 +6,4 @@ pub mod Outcome
 pub mod Placers
 pub mod Runs
 pub mod Serving
+pub mod Shown

@@ -7,9 +7,14 @@ mod fault_tests;
 #[cfg(test)]
 mod limit_tests;
 mod lines;
+#[cfg(test)]
+mod movement_tests;
 mod place_text;
 mod placement;
 mod program;
+#[cfg(test)]
+mod quorum_tests;
+mod quorum_text;
 mod reading;
 mod replay;
 mod rings;
@@ -17,5 +22,7 @@ mod script;
 mod session;
 #[cfg(test)]
 mod tests;
+mod validity;
 
 pub use program::{Status, run, run_surely};
+pub use validity::shown_quorums_meet;

@@ -95,6 +95,40 @@ fn tokens_end_at_16384(rt: HostRuntime) -> Result<(), Fail> {
     Ok(())
 }
 
+/// Commits that bring one token more than there can be: at once, by a join and by a move. A replace brings none.
+const TOO_MANY: &str = "commit 1 unsafe-join 320 -1\n\
+    commit 2 prepare-join 320 -1\n\
+    commit 3 prepare-join 320 -1 -64\n\
+    commit 4 prepare-move 64 -1\n\
+    commit 5 prepare-move 64 -65\n\
+    commit 6 prepare-move 1 -1\n\
+    commit 7 prepare-replace 320 1\n\
+    commit 8 prepare-move 64 -1\n";
+
+#[test]
+fn tokens_of_movements_end_at_16384(rt: HostRuntime) -> Result<(), Fail> {
+    let alloc = rt.alloc();
+    let mut script = String::new(alloc);
+    for i in 1..=320 {
+        script.push_str(&format!(in alloc; "commit {i} register n{i} dc1 r1\n")?)?;
+    }
+    for node in 1..=63 {
+        join(alloc, &mut script, node)?;
+    }
+    for node in 64..=319 {
+        script.push_str(&format!(in alloc; "commit {node} unsafe-join {node} -{node}\n")?)?;
+    }
+    script.push_str(TOO_MANY)?;
+    let mut want = accepted(alloc, 1, 639)?;
+    want.push_str(
+        "NO TOKENS-FULL\nNO TOKENS-FULL\nNO TOKEN-TAKEN -64\nNO TOKENS-FULL\nNO TOKEN-TAKEN -65\n",
+    )?;
+    want.push_str("NO NOT-ONE-TOKEN 256\nOK 640\nNO TOKENS-FULL\n")?;
+    let answers = answers_to(alloc, &script)?;
+    assert_eq!(rt; answers.as_str(), want.as_str());
+    Ok(())
+}
+
 #[test]
 fn epochs_end_at_65536(rt: HostRuntime) -> Result<(), Fail> {
     let alloc = rt.alloc();

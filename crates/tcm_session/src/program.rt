@@ -5,6 +5,7 @@ ghost use Rattle.tcm_edges.specs.Owed.{WritesPrefix};
 ghost use Rattle.tcm_session.specs.Endings.{ending_status, ending_text, fault_status as status_of_fault};
 ghost use Rattle.tcm_session.specs.Outcome.{AnswersWhatIsRead, BeginsOutcome, HasOutcome, IsFinal, IsStatus, ReadsJust, ReadsNoMore, commit_outcome, input_limit, is_commit as is_commit_word, outcome, usage_text};
 ghost use Rattle.tcm_session.specs.Runs.{HasRunCause};
+ghost use Rattle.tcm_session.specs.Shown.{PrintsMeeting};
 ghost use Rattle.tcm_session.specs.declared.fault.RunFault.TheVariants as fault;
 
 use crate::fault::RunFault;
@@ -173,6 +174,7 @@ fn answer_words<S: Source, K: Sink>(
 /// rose; 8 exactly where byte 536,870,913 was read, after the answers to the lines that end before it.
 /// A run ends at the first of these. Where the text that belongs to a status can't be written, it is 5,
 /// or 1 where the sink wants memory.
+#[tactic(auto, using(crate::proofs::PrintedLemmas::prints_meeting))]
 pub fn run<S: Source, K: Sink, D: Store>(
     alloc: Global,
     words: &[String],
@@ -191,6 +193,9 @@ pub fn run<S: Source, K: Sink, D: Store>(
         (K.written out.old) (K.written out.new) }
     ensures read_fault { result.0 ≡ 4
         → AnswersWhatIsRead (S.left input.old) (S.left input.new) (K.written out.old) (K.written out.new) }
+
+    // Quorums that are printed for one question, at one epoch or at two of which the later one is a movement epoch, meet.
+    ensures quorums { PrintsMeeting (map string_bytes words.now) (S.left input.old) (K.written out.old) (K.written out.new) }
 
     // Where no count of faults rises, only memory can be wanting.
     ensures complete { (Rose (S.faults input.old) (S.faults input.new) → ⊥) → (Rose (K.faults out.old) (K.faults out.new) → ⊥)

@@ -5,12 +5,13 @@ ghost use Rattle.script_lang.specs.Texts.{ok_text as accepted_text};
 ghost use Rattle.transformations.specs.History.{commit_refusal, empty_image, image_after, is_command, state_after};
 ghost use Rattle.transformations.specs.Valid.{IsValid};
 ghost use Rattle.cluster_metadata.specs.Permission.{ShowsRefusal};
-ghost use Rattle.tcm_session.specs.Machine.{commit_reply, keyspace_named, nodes_answer, place_answer, placements, reply, reply_to};
+ghost use Rattle.tcm_session.specs.Machine.{commit_reply, keyspace_named, local_answer, nodes_answer, place_answer, placements, quorum_answer, reply, reply_to};
 
 use crate::place_text::place_text;
+use crate::quorum_text::{local_text, quorum_text};
 use crate::replay::{admitted, replay};
 use cluster_metadata::{AdmitFault, Metadata, Permit};
-use cluster_terms::{ByteText, Memory, Name};
+use cluster_terms::{ByteText, Memory, Name, Token};
 use script_lang::{
     ScriptLine, Target, no_epoch_text, no_text, nodes_text, ok_text, parse_line, refused_text,
 };
@@ -122,6 +123,12 @@ impl Session {
                 self.place(epoch, &keyspace, out)
             }
             Some(ScriptLine::Nodes(Target::Epoch(epoch))) => self.nodes(epoch, out),
+            Some(ScriptLine::Quorum(Target::Epoch(epoch), keyspace, t)) => {
+                self.quorum(epoch, &keyspace, t, out)
+            }
+            Some(ScriptLine::Local(Target::Epoch(epoch), keyspace, dc, t)) => {
+                self.local(epoch, &keyspace, &dc, t, out)
+            }
         }
     }
 
@@ -201,6 +208,53 @@ impl Session {
         }
         let metadata = self.metadata_at(epoch as usize)?;
         let answered = nodes_text(self.alloc, metadata.as_image(), out);
+        metadata.close();
+        answered
+    }
+
+    /// Answers a query of the quorums of a keyspace at a token, in the image of an epoch.
+    fn quorum(
+        &self,
+        epoch: u64,
+        keyspace: &Name,
+        t: Token,
+        out: &mut ByteText,
+    ) -> Result<(), Memory>
+        ensures { OnOk result (out.new ≡ out.old ++ quorum_answer self.now epoch keyspace.now t) }
+    {
+        let last = self.commands.len() as u64;
+        if epoch > last {
+            return no_epoch_text(last, out);
+        }
+        if epoch == last {
+            return quorum_text(self.alloc, &self.metadata, keyspace, t, out);
+        }
+        let metadata = self.metadata_at(epoch as usize)?;
+        let answered = quorum_text(self.alloc, &metadata, keyspace, t, out);
+        metadata.close();
+        answered
+    }
+
+    /// The same of the local quorums of a datacenter.
+    fn local(
+        &self,
+        epoch: u64,
+        keyspace: &Name,
+        dc: &Name,
+        t: Token,
+        out: &mut ByteText,
+    ) -> Result<(), Memory>
+        ensures { OnOk result (out.new ≡ out.old ++ local_answer self.now epoch keyspace.now dc.now t) }
+    {
+        let last = self.commands.len() as u64;
+        if epoch > last {
+            return no_epoch_text(last, out);
+        }
+        if epoch == last {
+            return local_text(self.alloc, &self.metadata, keyspace, dc, t, out);
+        }
+        let metadata = self.metadata_at(epoch as usize)?;
+        let answered = local_text(self.alloc, &metadata, keyspace, dc, t, out);
         metadata.close();
         answered
     }

@@ -30,7 +30,12 @@ fn words_of(alloc: Global, word: &str) -> Result<Vec<String>, Fail> {
 }
 
 /// The status of a run, and what it printed.
-fn ran(alloc: Global, word: &str, script: &[u8], piece: usize) -> Result<(Status, Vec<u8>), Fail>
+pub(crate) fn ran(
+    alloc: Global,
+    word: &str,
+    script: &[u8],
+    piece: usize,
+) -> Result<(Status, Vec<u8>), Fail>
     requires { 1 ≤ piece }
 {
     let words = words_of(alloc, word)?;
@@ -119,7 +124,7 @@ const SCRIPTS: [(&str, &str, &str); 24] = [
     (
         "steps in another order",
         "commit 1 register a dc1 r1\ncommit 2 register b dc1 r1\ncommit 3 register c dc1 r1\ncommit 4 register d dc1 r1\ncommit 5 unsafe-join 1 0\ncommit 6 unsafe-join 2 100\ncommit 7 unsafe-join 3 200\ncommit 8 unsafe-join 4 300\ncommit 9 keyspace ks simple 3\ncommit 10 register e dc1 r1\ncommit 11 register f dc1 r1\ncommit 12 start-join 5\ncommit 13 prepare-join 5 150 -7\ncommit 14 mid-join 5\ncommit 15 start-join 5\ncommit 16 finish-join 5\ncommit 17 start-join 5\ncommit 18 mid-join 1\ncommit 19 mid-join 77\ncommit 20 start-move 5\ncommit 21 cancel 5\n",
-        "OK 1\nOK 2\nOK 3\nOK 4\nOK 5\nOK 6\nOK 7\nOK 8\nOK 9\nOK 10\nOK 11\nNO NO-SEQUENCE\nOK 12\nNO WRONG-STEP join PREPARED\nOK 13\nNO WRONG-STEP join STARTED\nNO WRONG-STEP join STARTED\nNO NO-SEQUENCE\nNO NO-NODE\nNO BAD-LINE\nNO BAD-LINE\n",
+        "OK 1\nOK 2\nOK 3\nOK 4\nOK 5\nOK 6\nOK 7\nOK 8\nOK 9\nOK 10\nOK 11\nNO NO-SEQUENCE\nOK 12\nNO WRONG-STEP join PREPARED\nOK 13\nNO WRONG-STEP join STARTED\nNO WRONG-STEP join STARTED\nNO NO-SEQUENCE\nNO NO-NODE\nNO WRONG-STEP join STARTED\nOK 14\n",
     ),
     (
         "while a node joins",

@@ -8,15 +8,15 @@ use Rattle.cluster_terms.specs.NodeRow.{row_of}
 use Rattle.cluster_terms.specs.declared.node.NodeRow.{NodeRow}
 use Rattle.cluster_terms.specs.declared.token.Pair.{Pair}
 use Rattle.transformations.proofs.ListLemmas.{all_weaker, any_false, found_passes, none_found}
-use Rattle.transformations.specs.Refusals.{first_of, has_keyspace, is_idle, is_idle_or_left, is_taken, keyspaces_full, in_sequence, most_keyspaces, most_nodes, most_tokens, name_taken, no_keyspace, no_node, nodes_full, not_idle, ranges_locked, early_refusal_of, refusal_of, refused_if, token_taken, tokens_full, tokens_with, unless_allowed, wrong_state}
-use Rattle.transformations.specs.States.{is_joined, started_of, state_by, state_in, state_of_row}
+use Rattle.transformations.specs.Refusals.{first_of, has_joined, has_keyspace, is_idle, is_idle_or_left, is_taken, keyspaces_full, in_sequence, most_keyspaces, most_nodes, most_tokens, name_taken, no_keyspace, no_node, nodes_full, no_tokens, not_idle, not_one_token, other_rack, ranges_locked, early_refusal_of, refusal_of, refused_if, token_taken, tokens_full, tokens_with, too_few_nodes, unless_allowed, wrong_state}
+use Rattle.transformations.specs.States.{is_joined, node_tokens, started_of, state_by, state_in, state_of_row}
 use Rattle.transformations.specs.Steps.{takes_part}
 use Rattle.transformations.specs.Valid.{IsOwned, is_standing, stands}
 use Rattle.transformations.specs.declared.command.Command.{Command}
-use Rattle.transformations.specs.declared.command.Command.TheVariants.{Register, Unregister, UnsafeJoin, Keyspace, DropKeyspace, PrepareJoin}
+use Rattle.transformations.specs.declared.command.Command.TheVariants.{Register, Unregister, UnsafeJoin, Keyspace, DropKeyspace, PrepareJoin, PrepareMove, PrepareLeave, PrepareReplace}
 use Rattle.transformations.specs.declared.image.Image.{Image}
 use Rattle.transformations.specs.declared.refusal.Refusal.{Refusal}
-use Rattle.transformations.specs.declared.refusal.Refusal.TheVariants.{InSequence, KeyspacesFull, NameTaken, NoNode, NodesFull, NotIdle, TokensFull, TokenTaken, WrongState}
+use Rattle.transformations.specs.declared.refusal.Refusal.TheVariants.{InSequence, KeyspacesFull, NameTaken, NoNode, NodesFull, NoTokens, NotIdle, NotOneToken, TokensFull, TokenTaken, WrongState}
 use Rattle.cluster_terms.specs.declared.replication.Replication.{Replication}
 use Rattle.transformations.specs.declared.sequence.Kind.{Kind}
 use Rattle.transformations.specs.declared.sequence.Kind.TheVariants.{Join, Move, Leave, Replace}
@@ -31,7 +31,12 @@ pub first_none : (a : Option Refusal) (later : List (Option Refusal)) → first_
 first_none None later h = (refl, h)
 first_none (Some r) later h = absurd (none-some r (sym h))
 
-test_false : (b : Bool) (r : Refusal) → refused_if b r ≡ None → b ≡ false
+-- so none of them comes
+pub none_of : (refusals : List (Option Refusal)) → first_of refusals ≡ None → AllByRecursion (λ r. r ≡ None) refusals
+none_of [] none = tt
+none_of (r ∷ refusals) none = (let a = first_none r refusals none in (a.0, none_of refusals a.1))
+
+pub test_false : (b : Bool) (r : Refusal) → refused_if b r ≡ None → b ≡ false
 test_false true r h = absurd (none-some r (sym h))
 test_false false r h = refl
 
@@ -52,13 +57,13 @@ record HasRow (allowed : NodeState → Bool) (image : Image) (n : ℕ) : Type 0 
   is : row.id ≡ n
   state : allowed (state_of_row image row) ≡ true
 
+negated : (b : Bool) → not b ≡ false → b ≡ true
+negated true h = refl
+negated false h = absurd (true≢false h)
+
 has_row : (allowed : NodeState → Bool) (image : Image) (n : ℕ) → no_node image n ≡ None → wrong_state allowed image n ≡ None → HasRow allowed image n
 has_row allowed image n some right = by (row_of image.nodes n) refl some right
   where
-    negated : (b : Bool) → not b ≡ false → b ≡ true
-    negated true h = refl
-    negated false h = absurd (true≢false h)
-
     by : (o : Option NodeRow) → row_of image.nodes n ≡ o → refused_if (not (is_some o)) NoNode ≡ None
         → option_and_then (unless_allowed allowed) (option_map (state_of_row image) o) ≡ None → HasRow allowed image n
     by None e some right = absurd (none-some NoNode (sym some))
@@ -89,6 +94,26 @@ idle_row image row h = by row.left refl (started_of image row.id) h
     by false e (Some s) h = absurd (true≢false (sym h ∙ (kind_works s.kind).0))
     by false e None h = (e, unjoined (is_joined image row.id) h)
 
+-- a node that has joined stands and has a token
+kind_moves : (k : Kind) → has_joined (state_in k) ≡ false
+kind_moves Join = refl
+kind_moves Move = refl
+kind_moves Leave = refl
+kind_moves Replace = refl
+
+joined_row : (image : Image) (row : NodeRow) → has_joined (state_of_row image row) ≡ true → (row.left ≡ false) × (is_joined image row.id ≡ true)
+unfolding state_of_row
+joined_row image row h = by row.left refl (started_of image row.id) h
+  where
+    joined : (j : Bool) → has_joined (if j then Joined else Registered) ≡ true → j ≡ true
+    joined true h = refl
+    joined false h = absurd (true≢false (sym h))
+
+    by : (l : Bool) → row.left ≡ l → (o : Option SeqRow) → has_joined (if l then Left else state_by image row.id o) ≡ true → (row.left ≡ false) × (is_joined image row.id ≡ true)
+    by true e o h = absurd (true≢false (sym h))
+    by false e (Some s) h = absurd (true≢false (sym h ∙ kind_moves s.kind))
+    by false e None h = (e, joined (is_joined image row.id) h)
+
 left_row : (image : Image) (row : NodeRow) → is_idle_or_left (state_of_row image row) ≡ true → (row.left ≡ true) ⊎ (is_joined image row.id ≡ false)
 unfolding state_of_row
 left_row image row h = by row.left refl (started_of image row.id) h
@@ -103,7 +128,7 @@ left_row image row h = by row.left refl (started_of image row.id) h
     by false e None h = inr (unjoined (is_joined image row.id) h)
 
 -- no pair of the ring is of a node that doesn't stand
-bare_unless_standing : (image : Image) (n : ℕ) → IsOwned image → is_standing image.nodes n ≡ false → is_joined image n ≡ false
+pub bare_unless_standing : (image : Image) (n : ℕ) → IsOwned image → is_standing image.nodes n ≡ false → is_joined image n ≡ false
 bare_unless_standing image n owned down =
     any_false (λ (p : Pair). p.node == n) image.tokens
     (all_weaker (λ (p : Pair). is_standing image.nodes p.node ≡ true) (λ (p : Pair). (p.node == n) ≡ false) (λ p up. by p up (p.node == n) refl) image.tokens owned.owners)
@@ -112,31 +137,50 @@ bare_unless_standing image n owned down =
     by p up false e = e
     by p up true e = absurd (true≢false (sym up ∙ ap (is_standing image.nodes) (same_id p.node n e) ∙ down))
 
--- no movement is of the node
+-- no movement is of the node, and it takes part in none
 abbrev pub IsApart : Image → ℕ → Type 0
 IsApart image n = AllByRecursion (λ (s : SeqRow). (s.node == n) ≡ false) image.sequences
 
-apart : (image : Image) (n : ℕ) → in_sequence image n ≡ None → IsApart image n
-apart image n h =
+abbrev pub IsFree : Image → ℕ → Type 0
+IsFree image n = AllByRecursion (λ (s : SeqRow). takes_part n s ≡ false) image.sequences
+
+free : (image : Image) (n : ℕ) → in_sequence image n ≡ None → IsFree image n
+free image n h = none_found (takes_part n) image.sequences (mapped_none (λ (s : SeqRow). InSequence s.node) (find (takes_part n) image.sequences) h)
+
+pub apart : (image : Image) (n : ℕ) → IsFree image n → IsApart image n
+apart image n =
     all_weaker (λ (s : SeqRow). takes_part n s ≡ false) (λ (s : SeqRow). (s.node == n) ≡ false)
     (λ s none. or_first (s.node == n) (list_any (λ (p : Pair). p.node == n) s.out_pairs) none) image.sequences
-    (none_found (takes_part n) image.sequences (mapped_none (λ (s : SeqRow). InSequence s.node) (find (takes_part n) image.sequences) h))
   where
     or_first : (a b : Bool) → (a || b) ≡ false → a ≡ false
     or_first a b h = grind arith
 
 -- a node that may be given tokens: it stands, has none, and takes part in no movement
 pub record IsIdle (image : Image) (n : ℕ) : Type 0 where
+  pub free : IsFree image n
   pub apart : IsApart image n
   pub stands : is_standing image.nodes n ≡ true
   pub bare : is_joined image n ≡ false
 
 idle : (image : Image) (n : ℕ) → no_node image n ≡ None → in_sequence image n ≡ None → wrong_state is_idle image n ≡ None → IsIdle image n
-idle image n some free right =
+idle image n some none right =
     let r = has_row is_idle image n some right in
     let i = idle_row image r.row r.state in
     let up : stands (row_of image.nodes n) ≡ true = rw (r.found, i.0) refl in
-    record { apart = apart image n free; stands = up; bare = rw r.is at i.1 }
+    record { free = free image n none; apart = apart image n (free image n none); stands = up; bare = rw r.is at i.1 }
+
+-- a node that may move or leave: it stands, has a token, and takes part in no movement
+pub record HasJoined (image : Image) (n : ℕ) : Type 0 where
+  pub free : IsFree image n
+  pub stands : is_standing image.nodes n ≡ true
+  pub joined : is_joined image n ≡ true
+
+settled : (image : Image) (n : ℕ) → no_node image n ≡ None → in_sequence image n ≡ None → wrong_state has_joined image n ≡ None → HasJoined image n
+settled image n some none right =
+    let r = has_row has_joined image n some right in
+    let i = joined_row image r.row r.state in
+    let up : stands (row_of image.nodes n) ≡ true = rw (r.found, i.0) refl in
+    record { free = free image n none; stands = up; joined = rw r.is at i.1 }
 
 -- ---- tokens
 
@@ -175,14 +219,12 @@ register_accepted image name dc rack h =
     let none = mapped_none (λ (row : NodeRow). NameTaken row.id) (find (λ (row : NodeRow). bytes_eq row.name name) image.nodes) a.0 in
     (none_found (λ (row : NodeRow). bytes_eq row.name name) image.nodes none, room)
 
-pub unregister_accepted : (image : Image) (n : ℕ) → IsOwned image → early_refusal_of image (Unregister n) ≡ None → IsApart image n × (is_joined image n ≡ false)
+pub unregister_accepted : (image : Image) (n : ℕ) → IsOwned image → early_refusal_of image (Unregister n) ≡ None → IsFree image n × (is_joined image n ≡ false)
 unfolding early_refusal_of
 unregister_accepted image n owned h =
-    let a = first_none (no_node image n) (in_sequence image n ∷ wrong_state is_idle_or_left image n ∷ []) h in
-    let b = first_none (in_sequence image n) (wrong_state is_idle_or_left image n ∷ []) a.1 in
-    let c = first_none (wrong_state is_idle_or_left image n) [] b.1 in
-    let r = has_row is_idle_or_left image n a.0 c.0 in
-    (apart image n b.0, by r (left_row image r.row r.state))
+    let a = none_of (no_node image n ∷ in_sequence image n ∷ wrong_state is_idle_or_left image n ∷ []) h in
+    let r = has_row is_idle_or_left image n a.0 a.1.1.0 in
+    (free image n a.1.0, by r (left_row image r.row r.state))
   where
     by : (r : HasRow is_idle_or_left image n) → (r.row.left ≡ true) ⊎ (is_joined image r.row.id ≡ false) → is_joined image n ≡ false
     by r (inl left) = (let down : stands (row_of image.nodes n) ≡ false = rw (r.found, left) refl in bare_unless_standing image n owned down)
@@ -191,13 +233,8 @@ unregister_accepted image n owned h =
 pub unsafe_join_accepted : (image : Image) (n : ℕ) (tokens : List ℤ) → early_refusal_of image (UnsafeJoin n tokens) ≡ None → IsIdle image n × AreNew image tokens
 unfolding early_refusal_of
 unsafe_join_accepted image n tokens h =
-    let a = first_none (no_node image n) (in_sequence image n ∷ wrong_state is_idle image n ∷ not_idle image.sequences ∷ token_taken image tokens ∷ tokens_full image tokens ∷ []) h in
-    let b = first_none (in_sequence image n) (wrong_state is_idle image n ∷ not_idle image.sequences ∷ token_taken image tokens ∷ tokens_full image tokens ∷ []) a.1 in
-    let c = first_none (wrong_state is_idle image n) (not_idle image.sequences ∷ token_taken image tokens ∷ tokens_full image tokens ∷ []) b.1 in
-    let d = first_none (not_idle image.sequences) (token_taken image tokens ∷ tokens_full image tokens ∷ []) c.1 in
-    let e = first_none (token_taken image tokens) (tokens_full image tokens ∷ []) d.1 in
-    let f = first_none (tokens_full image tokens) [] e.1 in
-    (idle image n a.0 b.0 c.0, new image tokens e.0 f.0)
+    let a = none_of (no_node image n ∷ in_sequence image n ∷ wrong_state is_idle image n ∷ not_idle image.sequences ∷ token_taken image tokens ∷ tokens_full image tokens ∷ []) h in
+    (idle image n a.0 a.1.0 a.1.1.0, new image tokens a.1.1.1.1.0 a.1.1.1.1.1.0)
 
 -- no movement is in flight
 idle_sequences : (sequences : List SeqRow) → not_idle sequences ≡ None → sequences ≡ []
@@ -207,10 +244,8 @@ idle_sequences (s ∷ later) h = absurd (none-some (NotIdle s.node) (sym h))
 pub unsafe_join_idle : (image : Image) (n : ℕ) (tokens : List ℤ) → early_refusal_of image (UnsafeJoin n tokens) ≡ None → image.sequences ≡ []
 unfolding early_refusal_of
 unsafe_join_idle image n tokens h =
-    let a = first_none (no_node image n) (in_sequence image n ∷ wrong_state is_idle image n ∷ not_idle image.sequences ∷ token_taken image tokens ∷ tokens_full image tokens ∷ []) h in
-    let b = first_none (in_sequence image n) (wrong_state is_idle image n ∷ not_idle image.sequences ∷ token_taken image tokens ∷ tokens_full image tokens ∷ []) a.1 in
-    let c = first_none (wrong_state is_idle image n) (not_idle image.sequences ∷ token_taken image tokens ∷ tokens_full image tokens ∷ []) b.1 in
-    idle_sequences image.sequences (first_none (not_idle image.sequences) (token_taken image tokens ∷ tokens_full image tokens ∷ []) c.1).0
+    let a = none_of (no_node image n ∷ in_sequence image n ∷ wrong_state is_idle image n ∷ not_idle image.sequences ∷ token_taken image tokens ∷ tokens_full image tokens ∷ []) h in
+    idle_sequences image.sequences a.1.1.1.0
 
 pub keyspace_idle : (image : Image) (name : List ℕ) (replication : Replication) → early_refusal_of image (Keyspace name replication) ≡ None → image.sequences ≡ []
 unfolding early_refusal_of
@@ -236,12 +271,52 @@ keyspace_accepted image name replication h =
     by true e t = inr e
     by false e t = inl (grind (arith, nat_tests))
 
+-- ---- movements that are prepared
+
 pub prepare_join_accepted : (image : Image) (n : ℕ) (tokens : List ℤ) → early_refusal_of image (PrepareJoin n tokens) ≡ None → IsIdle image n × AreNew image tokens
 unfolding early_refusal_of
 prepare_join_accepted image n tokens h =
-    let a = first_none (no_node image n) (in_sequence image n ∷ wrong_state is_idle image n ∷ token_taken image tokens ∷ tokens_full image tokens ∷ []) h in
-    let b = first_none (in_sequence image n) (wrong_state is_idle image n ∷ token_taken image tokens ∷ tokens_full image tokens ∷ []) a.1 in
-    let c = first_none (wrong_state is_idle image n) (token_taken image tokens ∷ tokens_full image tokens ∷ []) b.1 in
-    let d = first_none (token_taken image tokens) (tokens_full image tokens ∷ []) c.1 in
-    let e = first_none (tokens_full image tokens) [] d.1 in
-    (idle image n a.0 b.0 c.0, new image tokens d.0 e.0)
+    let a = none_of (no_node image n ∷ in_sequence image n ∷ wrong_state is_idle image n ∷ token_taken image tokens ∷ tokens_full image tokens ∷ []) h in
+    (idle image n a.0 a.1.0 a.1.1.0, new image tokens a.1.1.1.0 a.1.1.1.1.0)
+
+-- a node that may move to a token
+pub record MayMove (image : Image) (n : ℕ) (t : ℤ) : Type 0 where
+  pub node : HasJoined image n
+  pub one : length (node_tokens image n) ≡ 1
+  pub new : AreNew image (t ∷ [])
+
+pub prepare_move_accepted : (image : Image) (n : ℕ) (t : ℤ) → early_refusal_of image (PrepareMove n t) ≡ None → MayMove image n t
+unfolding early_refusal_of
+prepare_move_accepted image n t h =
+    let a = none_of (no_node image n ∷ in_sequence image n ∷ wrong_state has_joined image n ∷ not_one_token image n ∷ token_taken image (t ∷ []) ∷ tokens_full image (t ∷ []) ∷ []) h in
+    let count = length (node_tokens image n) in
+    let same : (count == 1) ≡ true = negated (count == 1) (test_false (not (count == 1)) (NotOneToken count) a.1.1.1.0) in
+    record {
+      node = settled image n a.0 a.1.0 a.1.1.0;
+      one = same_id count 1 same;
+      new = new image (t ∷ []) a.1.1.1.1.0 a.1.1.1.1.1.0;
+    }
+
+pub prepare_leave_accepted : (image : Image) (n : ℕ) → early_refusal_of image (PrepareLeave n) ≡ None → HasJoined image n
+unfolding early_refusal_of
+prepare_leave_accepted image n h =
+    let a = none_of (no_node image n ∷ in_sequence image n ∷ wrong_state has_joined image n ∷ too_few_nodes image n ∷ []) h in
+    settled image n a.0 a.1.0 a.1.1.0
+
+-- a node that may replace another one
+pub record MayReplace (image : Image) (n gone : ℕ) : Type 0 where
+  pub node : IsIdle image n
+  pub free : IsFree image gone
+  pub joined : is_joined image gone ≡ true
+  pub near : other_rack image n gone ≡ None
+
+pub prepare_replace_accepted : (image : Image) (n gone : ℕ) → early_refusal_of image (PrepareReplace n gone) ≡ None → MayReplace image n gone
+unfolding early_refusal_of
+prepare_replace_accepted image n gone h =
+    let a = none_of (no_node image n ∷ no_node image gone ∷ in_sequence image n ∷ in_sequence image gone ∷ wrong_state is_idle image n ∷ no_tokens image gone ∷ other_rack image n gone ∷ []) h in
+    record {
+      node = idle image n a.0 a.1.1.0 a.1.1.1.1.0;
+      free = free image gone a.1.1.1.0;
+      joined = negated (is_joined image gone) (test_false (not (is_joined image gone)) NoTokens a.1.1.1.1.1.0);
+      near = a.1.1.1.1.1.1.0;
+    }

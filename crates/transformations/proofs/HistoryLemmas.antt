@@ -1,6 +1,7 @@
 -- Histories: how they grow and what their fronts are, and the images that they lead to.
-use Rattle.std.proofs.Common.{◌≡◌, ℕ, zero, suc, ◌+◌, ◌<◌, ◌≤◌, Bool, true, false, ◌&&◌, nat_le, List, [], ◌∷◌, ◌++◌, Option, Some, None, is_none, length, take, true≢false, refl, sym, length-append, arith}
+use Rattle.std.proofs.Common.{◌≡◌, ℕ, zero, suc, ◌+◌, ◌<◌, ◌≤◌, Bool, true, false, ◌&&◌, nat_le, List, [], ◌∷◌, ◌++◌, Option, Some, None, is_none, get_or, length, take, true≢false, refl, sym, ap, ◌∙◌, subst, length-append, length-take, arith}
 use Rattle.std.proofs.lemmas.Bool.Decides.{nat_tests}
+use Rattle.std.proofs.lemmas.List.{take_more}
 use Rattle.std.proofs.lemmas.Option.{none-some}
 use Rattle.transformations.proofs.ListLemmas.{both_left, both_right}
 use Rattle.transformations.proofs.ValidLemmas.{valid_empty, valid_next}
@@ -8,7 +9,7 @@ use Rattle.transformations.specs.History.{IsHistory, are_accepted, commit_refusa
 use Rattle.transformations.specs.Refusals.{refusal_of}
 use Rattle.transformations.specs.Valid.{IsValid}
 use Rattle.transformations.specs.declared.command.Command.{Command}
-use Rattle.transformations.specs.declared.command.Command.TheVariants.{Register, Unregister, UnsafeJoin, Keyspace, DropKeyspace, PrepareJoin, Step}
+use Rattle.transformations.specs.declared.command.Command.TheVariants.{Register, Unregister, UnsafeJoin, Keyspace, DropKeyspace, PrepareJoin, PrepareMove, PrepareLeave, PrepareReplace, Step, Cancel}
 use Rattle.transformations.specs.declared.image.Image.{Image}
 use Rattle.transformations.specs.declared.refusal.Refusal.{Refusal}
 use Rattle.transformations.specs.declared.refusal.Refusal.TheVariants.{EpochsFull}
@@ -29,7 +30,11 @@ next-epoch image (UnsafeJoin node tokens) = refl
 next-epoch image (Keyspace name replication) = refl
 next-epoch image (DropKeyspace name) = refl
 next-epoch image (PrepareJoin node tokens) = refl
+next-epoch image (PrepareMove node t) = refl
+next-epoch image (PrepareLeave node) = refl
+next-epoch image (PrepareReplace node gone) = refl
 next-epoch image (Step g kind node) = refl
+next-epoch image (Cancel node) = refl
 
 pub epoch_after_from : (image : Image) (commands : List Command) → (image_after image commands).epoch ≡ image.epoch + length commands
 epoch_after_from image [] = omega arith
@@ -129,3 +134,37 @@ valid_after h is = valid_from empty_image h (omega (arith, history_short h is)) 
 
 pub valid_at : (h : List Command) (e : ℕ) → IsHistory h → IsValid (state_after h e)
 valid_at h e is = valid_after (take e h) (history_take h e is)
+
+-- ---- the commands of a history, one after another
+
+-- a command can be taken over next: there is an epoch for it, and the image so far accepts it
+pub record IsNext (image : Image) (c : Command) : Type 0 where
+  pub room : image.epoch < most_epochs
+  pub formed : is_command c ≡ true
+  pub accepted : refusal_of image c ≡ None
+
+accepted_last : (image : Image) (commands : List Command) (c : Command) → are_accepted image (commands ++ c ∷ []) ≡ true → (is_command c ≡ true) × (refusal_of (image_after image commands) c ≡ None)
+accepted_last image [] c h = by (is_command c) (refusal_of image c) h
+  where
+    by : (a : Bool) (o : Option Refusal) → ((a && is_none o) && true) ≡ true → (a ≡ true) × (o ≡ None)
+    by true None e = (refl, refl)
+    by true (Some r) e = absurd (true≢false (sym e))
+    by false o e = absurd (true≢false (sym e))
+accepted_last image (d ∷ commands) c h = accepted_last (next_image image d) commands c (both_right (is_command d && is_none (refusal_of image d)) _ h)
+
+pub next_at : (h : List Command) (i : ℕ) (c : Command) → IsHistory h → i < length h → c ≡ get_or h i c → IsNext (state_after h i) c
+next_at h i c is within at =
+    let more : take (i + 1) h ≡ take i h ++ c ∷ [] = take_more h i c within ∙ ap (λ x. take i h ++ x ∷ []) (sym at) in
+    let front : are_accepted empty_image (take i h ++ c ∷ []) ≡ true =
+    subst (λ l. are_accepted empty_image l ≡ true) more (both_right (nat_le (length (take (i + 1) h)) most_epochs) _ (history_take h (i + 1) is)) in
+    let last = accepted_last empty_image (take i h) c front in
+    record {
+      room = omega (arith, epoch_after (take i h), length-take i h, history_short h is);
+      formed = last.0;
+      accepted = last.1;
+    }
+
+-- the next command taken over
+pub state-more : (h : List Command) (i : ℕ) (c : Command) → i < length h → c ≡ get_or h i c → next_image (state_after h i) c ≡ state_after h (i + 1)
+state-more h i c within at =
+    sym (image_after-push empty_image (take i h) c) ∙ ap (image_after empty_image) (ap (λ x. take i h ++ x ∷ []) at ∙ sym (take_more h i c within))

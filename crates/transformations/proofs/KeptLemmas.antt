@@ -1,6 +1,6 @@
 -- Images in which a movement has the same ranges.
-use Rattle.std.proofs.Common.{◌≡◌, Bool, true, false, ◌&&◌, ◌||◌, ℤ, List, [], ◌∷◌, is_some, refl, sym, ap, ◌∙◌, arith}
-use Rattle.std.proofs.lemmas.Bool.{or_left, or_right}
+use Rattle.std.proofs.Common.{◌≡◌, Bool, true, false, not, ◌&&◌, ◌||◌, ℤ, List, [], ◌∷◌, is_some, refl, sym, ap, ◌∙◌}
+use Rattle.std.proofs.lemmas.Bool.{false≢true}
 use Rattle.std.specs.List.{AllByRecursion, list_any}
 use Rattle.cluster_terms.proofs.ReachKept.{IsNarrowed, reached-kept}
 use Rattle.cluster_terms.specs.Arc.{IsToken}
@@ -32,47 +32,107 @@ module _ (before after : Image) (replication : Replication) (x : ℤ) where
   ranges_alike s q nodes fixed all moved = λ i. is_reached (groups_of (nodes i) replication) (fixed i) (all i) (moved i) x
 
   -- once a movement is done or given up, the others keep what it doesn't reach
-  ranges_narrowed : (s q : SeqRow) → before.nodes ≡ after.nodes → IsNarrowed (moved_by s) (fixed_ring before) (widest before) (fixed_ring after) (widest after)
+  ranges_narrowed : (s q : SeqRow) → groups_of before.nodes replication ≡ groups_of after.nodes replication → IsNarrowed (moved_by s) (fixed_ring before) (widest before) (fixed_ring after) (widest after)
       → (in_ranges before replication s x && in_ranges before replication q x) ≡ false → in_ranges before replication q x ≡ in_ranges after replication q x
   unfolding in_ranges
-  ranges_narrowed s q nodes narrowed apart =
+  ranges_narrowed s q groups narrowed apart =
       reached-kept (groups_of before.nodes replication) (fixed_ring before) (widest before) (fixed_ring after) (widest after) (moved_by s) (moved_by q) x narrowed apart
-      ∙ ap (λ ns. is_reached (groups_of ns replication) (fixed_ring after) (widest after) (moved_by q) x) nodes
+      ∙ ap (λ gs. is_reached gs (fixed_ring after) (widest after) (moved_by q) x) groups
 
-pub kept_narrowed : (before after : Image) (x : ℤ) (s q : SeqRow) → before.nodes ≡ after.nodes → IsNarrowed (moved_by s) (fixed_ring before) (widest before) (fixed_ring after) (widest after)
+pub kept_narrowed : (before after : Image) (x : ℤ) (s q : SeqRow) → ((r : Replication) → groups_of before.nodes r ≡ groups_of after.nodes r) → IsNarrowed (moved_by s) (fixed_ring before) (widest before) (fixed_ring after) (widest after)
     → in_both before s q x ≡ false → IsKept before after x q
-kept_narrowed before after x s q nodes narrowed apart =
+kept_narrowed before after x s q groups narrowed apart =
     all_weaker (λ (k : KeyspaceRow). (in_ranges before k.replication s x && in_ranges before k.replication q x) ≡ false) (λ (k : KeyspaceRow). in_ranges before k.replication q x ≡ in_ranges after k.replication q x)
-    (λ k none. ranges_narrowed before after k.replication x s q nodes narrowed none) before.keyspaces
+    (λ k none. ranges_narrowed before after k.replication x s q (groups k.replication) narrowed none) before.keyspaces
     (all_false (λ (k : KeyspaceRow). in_ranges before k.replication s x && in_ranges before k.replication q x) before.keyspaces apart)
 
--- the fixed pairs stay, and of the widest those go that move
-pub narrowed_out : (mine fixed widest widest' : List Pair) → ((p : Pair) → has_pair fixed p ≡ true → has_pair widest' p ≡ true)
-    → ((p : Pair) → (has_pair mine p || has_pair widest' p) ≡ has_pair widest p) → IsNarrowed mine fixed widest fixed widest'
-narrowed_out mine fixed widest widest' inner split = record {
-  grows = λ p there. there;
-  inner = inner;
-  shrinks = λ p there. sym (split p) ∙ or_right (has_pair mine p) (has_pair widest' p) there;
-  mine_in = λ p there. or_left (has_pair fixed p) (has_pair mine p) there;
-  mine_out = λ p there. turned (has_pair mine p) (has_pair widest' p) (split p ∙ there);
-}
-  where
-    turned : (a b : Bool) → (a || b) ≡ true → (b || a) ≡ true
-    turned a b h = grind arith
+-- ---- one movement less
 
--- what moves is fixed now, and the widest are the same
-pub narrowed_in : (mine fixed widest fixed' widest' : List Pair) → ((p : Pair) → (has_pair mine p || has_pair fixed p) ≡ has_pair fixed' p)
-    → ((p : Pair) → has_pair fixed' p ≡ true → has_pair widest' p ≡ true) → ((p : Pair) → has_pair widest p ≡ has_pair widest' p) → IsNarrowed mine fixed widest fixed' widest'
-narrowed_in mine fixed widest fixed' widest' split inner same = record {
-  grows = λ p there. sym (split p) ∙ or_right (has_pair mine p) (has_pair fixed p) there;
-  inner = inner;
-  shrinks = λ p there. same p ∙ there;
-  mine_in = λ p there. turned (has_pair mine p) (has_pair fixed p) (split p ∙ there);
-  mine_out = λ p there. or_left (has_pair widest' p) (has_pair mine p) (sym (same p) ∙ there);
-}
-  where
-    turned : (a b : Bool) → (a || b) ≡ true → (b || a) ≡ true
-    turned a b h = grind arith
+-- of each pair: whether it is in the ring, whether the movement takes it out or puts it in, and whether others do
+module _ (mine fixed widest fixed' widest' : List Pair) (t o i out in' : Pair → Bool)
+    (f : (p : Pair) → has_pair fixed p ≡ (t p && not (o p || out p)))
+    (w : (p : Pair) → has_pair widest p ≡ (t p || (i p || in' p)))
+    (m : (p : Pair) → has_pair mine p ≡ (o p || i p)) where
+  -- it is given up
+  pub narrowed_without : ((p : Pair) → has_pair fixed' p ≡ (t p && not (out p))) → ((p : Pair) → has_pair widest' p ≡ (t p || in' p)) → IsNarrowed mine fixed widest fixed' widest'
+  narrowed_without f' w' = record {
+    grows = λ p there. f' p ∙ grows (t p) (o p) (out p) (sym (f p) ∙ there);
+    inner = λ p there. w' p ∙ inner (t p) (out p) (in' p) (sym (f' p) ∙ there);
+    shrinks = λ p there. w p ∙ shrinks (t p) (i p) (in' p) (sym (w' p) ∙ there);
+    mine_in = λ p there. (λ k. f p k || m p k) ∙ mine_in (t p) (o p) (i p) (out p) (sym (f' p) ∙ there);
+    mine_out = λ p there. (λ k. w' p k || m p k) ∙ mine_out (t p) (o p) (i p) (in' p) (sym (w p) ∙ there);
+  }
+    where
+      grows : (t o out : Bool) → (t && not (o || out)) ≡ true → (t && not out) ≡ true
+      grows true true out h = absurd (false≢true h)
+      grows true false out h = h
+      grows false o out h = h
+
+      inner : (t out in' : Bool) → (t && not out) ≡ true → (t || in') ≡ true
+      inner true out in' h = refl
+      inner false out in' h = absurd (false≢true h)
+
+      shrinks : (t i in' : Bool) → (t || in') ≡ true → (t || (i || in')) ≡ true
+      shrinks true i in' h = refl
+      shrinks false true in' h = refl
+      shrinks false false in' h = h
+
+      mine_in : (t o i out : Bool) → (t && not out) ≡ true → ((t && not (o || out)) || (o || i)) ≡ true
+      mine_in true true i out h = refl
+      mine_in true false i true h = absurd (false≢true h)
+      mine_in true false i false h = refl
+      mine_in false o i out h = absurd (false≢true h)
+
+      mine_out : (t o i in' : Bool) → (t || (i || in')) ≡ true → ((t || in') || (o || i)) ≡ true
+      mine_out true o i in' h = refl
+      mine_out false true i true h = refl
+      mine_out false false i true h = refl
+      mine_out false true i false h = refl
+      mine_out false false true false h = refl
+      mine_out false false false false h = h
+
+  -- it is done
+  pub narrowed_done : ((p : Pair) → has_pair fixed' p ≡ ((i p || (t p && not (o p))) && not (out p))) → ((p : Pair) → has_pair widest' p ≡ ((i p || (t p && not (o p))) || in' p)) → IsNarrowed mine fixed widest fixed' widest'
+  narrowed_done f' w' = record {
+    grows = λ p there. f' p ∙ grows (t p) (o p) (i p) (out p) (sym (f p) ∙ there);
+    inner = λ p there. w' p ∙ inner (i p || (t p && not (o p))) (out p) (in' p) (sym (f' p) ∙ there);
+    shrinks = λ p there. w p ∙ shrinks (t p) (o p) (i p) (in' p) (sym (w' p) ∙ there);
+    mine_in = λ p there. (λ k. f p k || m p k) ∙ mine_in (t p) (o p) (i p) (out p) (sym (f' p) ∙ there);
+    mine_out = λ p there. (λ k. w' p k || m p k) ∙ mine_out (t p) (o p) (i p) (in' p) (sym (w p) ∙ there);
+  }
+    where
+      grows : (t o i out : Bool) → (t && not (o || out)) ≡ true → ((i || (t && not o)) && not out) ≡ true
+      grows true true i out h = absurd (false≢true h)
+      grows true false true out h = h
+      grows true false false out h = h
+      grows false o i out h = absurd (false≢true h)
+
+      inner : (r out in' : Bool) → (r && not out) ≡ true → (r || in') ≡ true
+      inner true out in' h = refl
+      inner false out in' h = absurd (false≢true h)
+
+      shrinks : (t o i in' : Bool) → ((i || (t && not o)) || in') ≡ true → (t || (i || in')) ≡ true
+      shrinks true o i in' h = refl
+      shrinks false o true in' h = refl
+      shrinks false o false in' h = h
+
+      mine_in : (t o i out : Bool) → ((i || (t && not o)) && not out) ≡ true → ((t && not (o || out)) || (o || i)) ≡ true
+      mine_in true true i out h = refl
+      mine_in true false true true h = refl
+      mine_in true false false true h = absurd (false≢true h)
+      mine_in true false i false h = refl
+      mine_in false true i out h = refl
+      mine_in false false true out h = refl
+      mine_in false false false out h = absurd (false≢true h)
+
+      mine_out : (t o i in' : Bool) → (t || (i || in')) ≡ true → (((i || (t && not o)) || in') || (o || i)) ≡ true
+      mine_out t o true in' h = refl
+      mine_out true false false in' h = refl
+      mine_out true true false true h = refl
+      mine_out true true false false h = refl
+      mine_out false o false true h = refl
+      mine_out false true false false h = refl
+      mine_out false false false false h = h
 
 -- ---- two movements
 

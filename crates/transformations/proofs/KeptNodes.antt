@@ -6,7 +6,8 @@ use Rattle.cluster_terms.specs.NodeRow.{row_of}
 use Rattle.cluster_terms.specs.declared.node.NodeRow.{NodeRow}
 use Rattle.cluster_terms.specs.declared.replication.Replication.{Replication}
 use Rattle.cluster_terms.specs.declared.token.Pair.{Pair}
-use Rattle.transformations.proofs.AcceptedLemmas.{unregister_accepted}
+use Rattle.transformations.proofs.AcceptedLemmas.{apart, unregister_accepted}
+use Rattle.transformations.proofs.ExchangeLemmas.{IsExchange, exchanges}
 use Rattle.transformations.proofs.KeptLemmas.{IsKept}
 use Rattle.transformations.proofs.ListLemmas.{all_both, all_each, all_false, all_weaker, part_all_of}
 use Rattle.transformations.proofs.NodeLemmas.{row_push, row_without}
@@ -16,7 +17,7 @@ use Rattle.transformations.specs.History.{next_image}
 use Rattle.transformations.specs.Ranges.{in_ranges, moved_by}
 use Rattle.transformations.specs.Refusals.{early_refusal_of}
 use Rattle.transformations.specs.Rings.{fixed_ring, widest}
-use Rattle.transformations.specs.Valid.{IsJoin, IsSound, is_standing}
+use Rattle.transformations.specs.Valid.{IsMovement, IsSound, is_standing}
 use Rattle.transformations.specs.declared.command.Command.TheVariants.{Register, Unregister}
 use Rattle.transformations.specs.declared.image.Image.{Image}
 use Rattle.transformations.specs.declared.keyspace.KeyspaceRow.{KeyspaceRow}
@@ -25,7 +26,7 @@ use Rattle.transformations.specs.declared.sequence.SeqRow.{SeqRow}
 -- ---- the nodes that have pairs
 
 -- pairs whose nodes have the same rows in some other nodes
-abbrev HaveRows : Image → List NodeRow → List Pair → Type 0
+abbrev pub HaveRows : Image → List NodeRow → List Pair → Type 0
 HaveRows image nodes pairs = AllByRecursion (λ p. row_of image.nodes p.node ≡ row_of nodes p.node) pairs
 
 module _ (image : Image) (epoch next : ℕ) (nodes : List NodeRow) (rows : HaveRows image nodes (widest image)) where
@@ -45,13 +46,13 @@ module _ (image : Image) (epoch next : ℕ) (nodes : List NodeRow) (rows : HaveR
 -- ---- commands
 
 -- the nodes of pairs stand
-standing_rows : (image : Image) (more : List NodeRow) → IsSound image → HaveRows image (image.nodes ++ more) (widest image)
+pub standing_rows : (image : Image) (more : List NodeRow) → IsSound image → HaveRows image (image.nodes ++ more) (widest image)
 standing_rows image more h =
     let same : Pair → Type 0 = λ p. row_of image.nodes p.node ≡ row_of (image.nodes ++ more) p.node in
     widest_hold same image
     (all_weaker (λ (p : Pair). is_standing image.nodes p.node ≡ true) same (λ p up. row_push image.nodes more p.node up) image.tokens h.ring.owners)
-    (all_weaker (IsJoin image) (λ (s : SeqRow). AllByRecursion same s.in_pairs)
-    (λ s j. all_weaker (λ (p : Pair). p.node ≡ s.node) same (λ p is. row_push image.nodes more p.node (ap (is_standing image.nodes) is ∙ j.stands)) s.in_pairs j.own) image.sequences h.joins)
+    (all_both (IsMovement image) (IsExchange image) (λ (s : SeqRow). AllByRecursion same s.in_pairs)
+    (λ s m x. all_weaker (λ (p : Pair). p.node ≡ s.node) same (λ p is. row_push image.nodes more p.node (ap (is_standing image.nodes) is ∙ m.stands)) s.in_pairs x.own) image.sequences h.fitting (exchanges image h))
 
 pub kept_register : (image : Image) (name dc rack : List ℕ) → IsSound image → (x : ℤ) → AllByRecursion (IsKept image (next_image image (Register name dc rack)) x) image.sequences
 unfolding next_image
@@ -60,14 +61,19 @@ kept_register image name dc rack h x =
     kept_rows image (image.epoch + 1) (image.next + 1) (image.nodes ++ row ∷ []) (standing_rows image (row ∷ []) h) h x
 
 -- the nodes of pairs are others than one that has none and takes part in no movement
-pub kept_unregister : (image : Image) (n : ℕ) → IsSound image → early_refusal_of image (Unregister n) ≡ None → (x : ℤ) → AllByRecursion (IsKept image (next_image image (Unregister n)) x) image.sequences
-unfolding next_image
-kept_unregister image n h none x =
+pub remaining_rows : (image : Image) (n : ℕ) → IsSound image → early_refusal_of image (Unregister n) ≡ None → HaveRows image (filter (λ (row : NodeRow). not (row.id == n)) image.nodes) (widest image)
+remaining_rows image n h none =
     let a = unregister_accepted image n h.ring none in
     let nodes : List NodeRow = filter (λ (row : NodeRow). not (row.id == n)) image.nodes in
     let other : Pair → Type 0 = λ p. (p.node == n) ≡ false in
     let others : AllByRecursion other (widest image) =
     widest_hold other image (all_false (λ (p : Pair). p.node == n) image.tokens a.1)
-    (all_both (IsJoin image) (λ (s : SeqRow). (s.node == n) ≡ false) (λ (s : SeqRow). AllByRecursion other s.in_pairs) (λ s j apart. not_others s.node n s.in_pairs apart j.own) image.sequences h.joins a.0) in
-    kept_rows image (image.epoch + 1) image.next nodes
-    (all_weaker other (λ (p : Pair). row_of image.nodes p.node ≡ row_of nodes p.node) (λ p apart. sym (row_without image.nodes n p.node apart)) (widest image) others) h x
+    (all_both (IsExchange image) (λ (s : SeqRow). (s.node == n) ≡ false) (λ (s : SeqRow). AllByRecursion other s.in_pairs) (λ s x other. not_others s.node n s.in_pairs other x.own) image.sequences
+    (exchanges image h) (apart image n a.0)) in
+    all_weaker other (λ (p : Pair). row_of image.nodes p.node ≡ row_of nodes p.node) (λ p apart. sym (row_without image.nodes n p.node apart)) (widest image) others
+
+pub kept_unregister : (image : Image) (n : ℕ) → IsSound image → early_refusal_of image (Unregister n) ≡ None → (x : ℤ) → AllByRecursion (IsKept image (next_image image (Unregister n)) x) image.sequences
+unfolding next_image
+kept_unregister image n h none x =
+    let nodes : List NodeRow = filter (λ (row : NodeRow). not (row.id == n)) image.nodes in
+    kept_rows image (image.epoch + 1) image.next nodes (remaining_rows image n h none) h x

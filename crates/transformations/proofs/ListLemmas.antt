@@ -46,6 +46,10 @@ pub all_each : {X : Type 0} (P : X → Type 0) → ((x : X) → P x) → (xs : L
 all_each P each [] = tt
 all_each P each (x ∷ xs) = (each x, all_each P each xs)
 
+pub all_pi : {X Y : Type 0} (P : Y → X → Type 0) (xs : List X) → ((y : Y) → AllByRecursion (P y) xs) → AllByRecursion (λ x. (y : Y) → P y x) xs
+all_pi P [] each = tt
+all_pi P (x ∷ xs) each = (λ y. (each y).0, all_pi P xs (λ y. (each y).1))
+
 pub all_none : {X : Type 0} (P : X → Type 0) (xs : List X) → xs ≡ [] → AllByRecursion P xs
 all_none P xs none = subst (λ l. AllByRecursion P l) (sym none) tt
 
@@ -79,6 +83,11 @@ all_false p (x ∷ xs) h = (or_left (p x) (list_any p xs) h, all_false p xs (or_
 pub any_false : {X : Type 0} (p : X → Bool) (xs : List X) → AllByRecursion (λ x. p x ≡ false) xs → list_any p xs ≡ false
 any_false p [] all = refl
 any_false p (x ∷ xs) all = rw all.0 (any_false p xs all.1)
+
+-- an item passes, and something holds of it
+pub any_holds : {X : Type 0} (p : X → Bool) (P : X → Type 0) (R : Type 0) (xs : List X) → AllByRecursion P xs → ((x : X) → P x → p x ≡ true → R) → list_any p xs ≡ true → R
+any_holds p P R [] all then there = absurd (false≢true there)
+any_holds p P R (x ∷ xs) all then there = or_elim (p x) (list_any p xs) there (λ here. then x all.0 here) (λ more. any_holds p P R xs all.1 then more)
 
 -- ---- what holds of each member
 
@@ -198,6 +207,20 @@ unfolding IsStrictlySortedBy
 part_sorted r nothing up = up
 part_sorted r (kept part) up = (part_all_of _ part up.0, part_sorted r part up.1)
 part_sorted r (dropped part) up = part_sorted r part up.1
+
+-- what some of the items have
+pub part_flat : {X Y : Type 0} (f : X → List Y) (p : X → Bool) (xs : List X) → IsPart (flat_map f (filter p xs)) (flat_map f xs)
+part_flat f p [] = nothing
+part_flat f p (x ∷ xs) = by (p x) (part_flat f p xs)
+  where
+    by : (b : Bool) → IsPart (flat_map f (filter p xs)) (flat_map f xs) → IsPart (flat_map f (cond b (x ∷ filter p xs) (filter p xs))) (f x ++ flat_map f xs)
+    by true rest = part_append (part_all (f x)) rest
+    by false rest = part_append (part_none (f x)) rest
+
+pub part_any : {X : Type 0} (p : X → Bool) {xs ys : List X} → IsPart xs ys → list_any p xs ≡ true → list_any p ys ≡ true
+part_any p nothing h = h
+part_any p (kept {x} {xs} {ys} part) h = or_elim (p x) (list_any p xs) h (λ here. or_true_left (p x) (list_any p ys) here) (λ more. or_true_right (p x) (list_any p ys) (part_any p part more))
+part_any p (dropped {y} {xs} {ys} part) h = or_true_right (p y) (list_any p ys) (part_any p part h)
 
 pub part_front : {X : Type 0} (xs ys : List X) → IsPart xs (xs ++ ys)
 part_front [] ys = part_none ys

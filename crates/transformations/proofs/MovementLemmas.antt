@@ -1,5 +1,5 @@
 -- Movements in flight: one that is prepared, one that goes on, and one that is done.
-use Rattle.std.proofs.Common.{◌≡◌, ℕ, ◌≤◌, Bool, true, false, cond, not, ◌&&◌, ◌==◌, ℤ, List, [], ◌∷◌, ◌++◌, map, filter, find, length, Some, None, is_some, nat_le, if◌then◌else◌, true≢false, refl, sym, ap, ◌∙◌, subst, arith}
+use Rattle.std.proofs.Common.{◌≡◌, ℕ, ◌≤◌, Bool, true, false, cond, not, ◌&&◌, ◌==◌, ℤ, List, [], ◌∷◌, ◌++◌, map, find, flat_map, length, Some, None, is_some, nat_le, if◌then◌else◌, true≢false, refl, sym, ap, ◌∙◌, subst, arith}
 use Rattle.std.proofs.lemmas.Bool.Decides.{nat_tests}
 use Rattle.std.proofs.lemmas.Cmp.{nat_cmp_total, on_total, ranked}
 use Rattle.std.proofs.lemmas.List.Sorted.{IsPermutation-append_right, IsPermutation-refl, IsPermutation-trans}
@@ -8,24 +8,20 @@ use Rattle.std.specs.Cmp.{IsTotalOrder}
 use Rattle.std.specs.List.{AllByRecursion}
 use Rattle.std.specs.List.Sorted.{IsPermutation, IsStrictlySortedBy}
 use Rattle.std.specs.Ordering.{is_eq, match_ordering, nat_cmp}
-use Rattle.std.specs.Set.{is_member}
 use Rattle.std.specs.declared.cmp.Ordering.{Ordering}
 use Rattle.std.specs.declared.cmp.Ordering.TheVariants.{Less, Equal, Greater}
-use Rattle.cluster_terms.specs.Ascending.{put, put_all}
+use Rattle.cluster_terms.specs.Ascending.{put}
 use Rattle.cluster_terms.specs.declared.token.Pair.{Pair}
-use Rattle.transformations.proofs.AcceptedLemmas.{IsIdle, same_id}
-use Rattle.transformations.proofs.ListLemmas.{all_map, all_weaker, exchanged, filter_all, find_none, put_permutes}
-use Rattle.transformations.proofs.RingLemmas.{length-pairs, pairs_own, pairs_sorted, tokens_sorted}
+use Rattle.transformations.proofs.AcceptedLemmas.{same_id}
+use Rattle.transformations.proofs.ListLemmas.{IsPart, all_map, all_weaker, exchanged, filter_all, find_none, part_all, part_append, part_none, put_permutes}
 use Rattle.transformations.specs.History.{are_tokens, ascend}
-use Rattle.cluster_terms.specs.Pair.{same_pair}
-use Rattle.transformations.specs.Orders.{by_node, by_token}
+use Rattle.transformations.specs.Orders.{by_node}
 use Rattle.transformations.specs.Ranges.{moved_by}
-use Rattle.transformations.specs.Refusals.{with_movement}
-use Rattle.transformations.specs.Rings.{incoming, outgoing, widest}
-use Rattle.transformations.specs.States.{is_joined}
-use Rattle.transformations.specs.Steps.{at_phase, join_of, others, ring_after}
-use Rattle.transformations.specs.Valid.{IsJoin, is_standing}
-use Rattle.transformations.specs.declared.image.Image.{Image}
+use Rattle.transformations.specs.Rings.{incoming, outgoing}
+use Rattle.transformations.specs.Steps.{at_phase, others}
+use Rattle.transformations.specs.Valid.{brought, brought_by}
+use Rattle.transformations.specs.declared.sequence.Kind.{Kind}
+use Rattle.transformations.specs.declared.sequence.Kind.TheVariants.{Join, Move, Leave, Replace}
 use Rattle.transformations.specs.declared.sequence.Phase.{Phase}
 use Rattle.transformations.specs.declared.sequence.SeqRow.{SeqRow}
 
@@ -48,39 +44,6 @@ tokens_are tokens h = by (nat_le 1 (length tokens)) refl (nat_le (length tokens)
     by true e false f c g h = absurd (true≢false (sym h))
     by true e true f false g h = absurd (true≢false (sym h))
 
--- ---- joins
-
--- a join goes on where its node still stands and has no token
-pub join_kept : (image after : Image) (s : SeqRow) → is_standing after.nodes s.node ≡ true → is_joined after s.node ≡ false → IsJoin image s → IsJoin after s
-join_kept image after s up bare h = record { kind = h.kind; out = h.out; some = h.some; few = h.few; ascending = h.ascending; own = h.own; stands = up; bare = bare }
-
--- a join that is prepared
-pub join_new : (image : Image) (n : ℕ) (tokens : List ℤ) (epoch : ℕ) (sequences : List SeqRow) → AreTokens tokens → IsIdle image n
-    → IsJoin (record image { epoch = epoch; sequences = sequences }) (join_of n tokens)
-join_new image n tokens epoch sequences t i = record {
-  kind = refl;
-  out = refl;
-  some = omega (arith, t.some, length-pairs n tokens);
-  few = omega (arith, t.few, length-pairs n tokens);
-  ascending = pairs_sorted n tokens (tokens_sorted tokens t.ascending);
-  own = pairs_own n tokens;
-  stands = i.stands;
-  bare = i.bare;
-}
-
--- joins that take nothing out leave what other movements leave
-pub nothing_out : (image : Image) (sequences : List SeqRow) → AllByRecursion (IsJoin image) sequences → outgoing sequences ≡ []
-nothing_out image [] all = refl
-nothing_out image (s ∷ sequences) all = rw all.0.out (nothing_out image sequences all.1)
-
-pub none_taken_out : (ring : List Pair) → filter (λ p. not (is_member same_pair [] p)) ring ≡ ring
-none_taken_out [] = refl
-none_taken_out (p ∷ ring) = ap (λ l. p ∷ l) (none_taken_out ring)
-
-pub ring_after-join : (ring : List Pair) (s : SeqRow) → s.out_pairs ≡ [] → ring_after ring s ≡ put_all by_token s.in_pairs ring
-ring_after-join ring s out =
-    ap (λ taken. put_all by_token s.in_pairs (filter (λ p. not (is_member same_pair taken p)) ring)) out ∙ ap (put_all by_token s.in_pairs) (none_taken_out ring)
-
 -- ---- a movement more
 
 apart_ties : (n m : ℕ) → (m == n) ≡ false → is_eq (nat_cmp n m) ≡ false
@@ -91,25 +54,19 @@ sequences_put j sequences apart =
     put_permutes by_node j sequences
     (all_weaker (λ (s : SeqRow). (s.node == j.node) ≡ false) (λ (s : SeqRow). is_eq (by_node j s) ≡ false) (λ s other. apart_ties j.node s.node other) sequences apart)
 
-pub incoming_put : (j : SeqRow) (sequences : List SeqRow) → AllByRecursion (λ s. (s.node == j.node) ≡ false) sequences → IsPermutation (j.in_pairs ++ incoming sequences) (incoming (put by_node j sequences))
-incoming_put j [] all = IsPermutation-refl (j.in_pairs ++ [])
-incoming_put j (s ∷ sequences) all = by (by_node j s) (apart_ties j.node s.node all.0) (incoming_put j sequences all.1)
+-- what a movement has, and what those before have
+pub flat_put : (f : SeqRow → List Pair) (j : SeqRow) (sequences : List SeqRow) → AllByRecursion (λ s. (s.node == j.node) ≡ false) sequences → IsPermutation (f j ++ flat_map f sequences) (flat_map f (put by_node j sequences))
+flat_put f j [] all = IsPermutation-refl (f j ++ [])
+flat_put f j (s ∷ sequences) all = by (by_node j s) (apart_ties j.node s.node all.0) (flat_put f j sequences all.1)
   where
-    by : (o : Ordering) → is_eq o ≡ false → IsPermutation (j.in_pairs ++ incoming sequences) (incoming (put by_node j sequences))
-        → IsPermutation (j.in_pairs ++ incoming (s ∷ sequences)) (incoming (match_ordering o (j ∷ (s ∷ sequences)) (j ∷ sequences) (s ∷ put by_node j sequences)))
-    by Less e rest = IsPermutation-refl (j.in_pairs ++ incoming (s ∷ sequences))
+    by : (o : Ordering) → is_eq o ≡ false → IsPermutation (f j ++ flat_map f sequences) (flat_map f (put by_node j sequences))
+        → IsPermutation (f j ++ flat_map f (s ∷ sequences)) (flat_map f (match_ordering o (j ∷ (s ∷ sequences)) (j ∷ sequences) (s ∷ put by_node j sequences)))
+    by Less e rest = IsPermutation-refl (f j ++ flat_map f (s ∷ sequences))
     by Equal e rest = absurd (true≢false e)
     by Greater e rest =
-        IsPermutation-trans (j.in_pairs ++ (s.in_pairs ++ incoming sequences)) (s.in_pairs ++ (j.in_pairs ++ incoming sequences)) (s.in_pairs ++ incoming (put by_node j sequences))
-        (exchanged j.in_pairs s.in_pairs (incoming sequences))
-        (IsPermutation-append_right s.in_pairs (j.in_pairs ++ incoming sequences) (incoming (put by_node j sequences)) rest)
-
--- all that may come to stand with it
-pub widest_with : (image : Image) (j : SeqRow) → AllByRecursion (λ s. (s.node == j.node) ≡ false) image.sequences → IsPermutation (j.in_pairs ++ widest image) (widest (with_movement image j))
-widest_with image j apart =
-    IsPermutation-trans (j.in_pairs ++ (image.tokens ++ incoming image.sequences)) (image.tokens ++ (j.in_pairs ++ incoming image.sequences)) (image.tokens ++ incoming (put by_node j image.sequences))
-    (exchanged j.in_pairs image.tokens (incoming image.sequences))
-    (IsPermutation-append_right image.tokens (j.in_pairs ++ incoming image.sequences) (incoming (put by_node j image.sequences)) (incoming_put j image.sequences apart))
+        IsPermutation-trans (f j ++ (f s ++ flat_map f sequences)) (f s ++ (f j ++ flat_map f sequences)) (f s ++ flat_map f (put by_node j sequences))
+        (exchanged (f j) (f s) (flat_map f sequences))
+        (IsPermutation-append_right (f s) (f j ++ flat_map f sequences) (flat_map f (put by_node j sequences)) rest)
 
 -- the others are those before
 others_all : (n : ℕ) (sequences : List SeqRow) → AllByRecursion (λ s. (s.node == n) ≡ false) sequences → others sequences n ≡ sequences
@@ -145,34 +102,25 @@ later_others s sequences later =
     by : (n m : ℕ) → nat_cmp n m ≡ Less → not (m == n) ≡ true
     by n m less = (let lt = ranked n m Less (sym less) in grind (arith, nat_tests))
 
--- the movement of a node comes out of the others
-pub incoming_without : (n : ℕ) (sequences : List SeqRow) (s : SeqRow) → IsStrictlySortedBy by_node sequences → find (λ (q : SeqRow). q.node == n) sequences ≡ Some s
-    → IsPermutation (incoming sequences) (s.in_pairs ++ incoming (others sequences n))
+-- what the movement of a node has, and what the others have
+pub flat_without : (f : SeqRow → List Pair) (n : ℕ) (sequences : List SeqRow) (s : SeqRow) → IsStrictlySortedBy by_node sequences → find (λ (q : SeqRow). q.node == n) sequences ≡ Some s
+    → IsPermutation (flat_map f sequences) (f s ++ flat_map f (others sequences n))
 unfolding IsStrictlySortedBy
-incoming_without n [] s up found = absurd (none-some s found)
-incoming_without n (q ∷ sequences) s up found = by (q.node == n) refl found (incoming_without n sequences s up.1)
+flat_without f n [] s up found = absurd (none-some s found)
+flat_without f n (q ∷ sequences) s up found = by (q.node == n) refl found (flat_without f n sequences s up.1)
   where
     by : (b : Bool) → (q.node == n) ≡ b → cond b (Some q) (find (λ (q : SeqRow). q.node == n) sequences) ≡ Some s
-        → (find (λ (q : SeqRow). q.node == n) sequences ≡ Some s → IsPermutation (incoming sequences) (s.in_pairs ++ incoming (others sequences n)))
-        → IsPermutation (q.in_pairs ++ incoming sequences) (s.in_pairs ++ incoming (cond (not b) (q ∷ others sequences n) (others sequences n)))
+        → (find (λ (q : SeqRow). q.node == n) sequences ≡ Some s → IsPermutation (flat_map f sequences) (f s ++ flat_map f (others sequences n)))
+        → IsPermutation (f q ++ flat_map f sequences) (f s ++ flat_map f (cond (not b) (q ∷ others sequences n) (others sequences n)))
     by true e found rest =
         let is : q ≡ s = cc in
         let node : q.node ≡ n = same_id q.node n e in
         let later : others sequences n ≡ sequences = subst (λ k. others sequences k ≡ sequences) node (later_others q sequences up.0) in
-        rw (later, ← is) (IsPermutation-refl (q.in_pairs ++ incoming sequences))
+        rw (later, ← is) (IsPermutation-refl (f q ++ flat_map f sequences))
     by false e found rest =
-        IsPermutation-trans (q.in_pairs ++ incoming sequences) (q.in_pairs ++ (s.in_pairs ++ incoming (others sequences n))) (s.in_pairs ++ (q.in_pairs ++ incoming (others sequences n)))
-        (IsPermutation-append_right q.in_pairs (incoming sequences) (s.in_pairs ++ incoming (others sequences n)) (rest found))
-        (exchanged q.in_pairs s.in_pairs (incoming (others sequences n)))
-
--- all that may come to stand, with its pairs apart
-pub widest_without : (image : Image) (s : SeqRow) → IsStrictlySortedBy by_node image.sequences → find (λ (q : SeqRow). q.node == s.node) image.sequences ≡ Some s
-    → IsPermutation (widest image) (s.in_pairs ++ (image.tokens ++ incoming (others image.sequences s.node)))
-widest_without image s up found =
-    let rest : List SeqRow = others image.sequences s.node in
-    IsPermutation-trans (image.tokens ++ incoming image.sequences) (image.tokens ++ (s.in_pairs ++ incoming rest)) (s.in_pairs ++ (image.tokens ++ incoming rest))
-    (IsPermutation-append_right image.tokens (incoming image.sequences) (s.in_pairs ++ incoming rest) (incoming_without s.node image.sequences s up found))
-    (exchanged image.tokens s.in_pairs (incoming rest))
+        IsPermutation-trans (f q ++ flat_map f sequences) (f q ++ (f s ++ flat_map f (others sequences n))) (f s ++ (f q ++ flat_map f (others sequences n)))
+        (IsPermutation-append_right (f q) (flat_map f sequences) (f s ++ flat_map f (others sequences n)) (rest found))
+        (exchanged (f q) (f s) (flat_map f (others sequences n)))
 
 -- the others are of other nodes
 pub others_apart : (n : ℕ) (sequences : List SeqRow) → AllByRecursion (λ s. (s.node == n) ≡ false) (others sequences n)
@@ -196,7 +144,7 @@ still_other n m sequences some = by (m == n) refl
 -- ---- a movement in another phase
 
 module _ (phase : Phase) (n : ℕ) where
-  phase_node : (s : SeqRow) → (at_phase phase n s).node ≡ s.node
+  pub phase_node : (s : SeqRow) → (at_phase phase n s).node ≡ s.node
   phase_node s = by (s.node == n)
     where
       by : (b : Bool) → (let changed : SeqRow = record s { phase = phase } in if b then changed else s).node ≡ s.node
@@ -210,17 +158,12 @@ module _ (phase : Phase) (n : ℕ) where
       by true = refl
       by false = refl
 
-  phase_join : (image : Image) (epoch : ℕ) (sequences : List SeqRow) (s : SeqRow) → IsJoin image s → IsJoin (record image { epoch = epoch; sequences = sequences }) (at_phase phase n s)
-  phase_join image epoch sequences s h = by (s.node == n)
+  phase_kind : (s : SeqRow) → (at_phase phase n s).kind ≡ s.kind
+  phase_kind s = by (s.node == n)
     where
-      by : (b : Bool) → IsJoin (record image { epoch = epoch; sequences = sequences }) (let changed : SeqRow = record s { phase = phase } in if b then changed else s)
-      by true = record { kind = h.kind; out = h.out; some = h.some; few = h.few; ascending = h.ascending; own = h.own; stands = h.stands; bare = h.bare }
-      by false = record { kind = h.kind; out = h.out; some = h.some; few = h.few; ascending = h.ascending; own = h.own; stands = h.stands; bare = h.bare }
-
-  pub phase_joins : (image : Image) (epoch : ℕ) (after sequences : List SeqRow) → AllByRecursion (IsJoin image) sequences → AllByRecursion (IsJoin (record image { epoch = epoch; sequences = after })) (map (at_phase phase n) sequences)
-  phase_joins image epoch after sequences all =
-      all_map (IsJoin (record image { epoch = epoch; sequences = after })) (at_phase phase n) sequences
-      (all_weaker (IsJoin image) (λ s. IsJoin (record image { epoch = epoch; sequences = after }) (at_phase phase n s)) (phase_join image epoch after) sequences all)
+      by : (b : Bool) → (let changed : SeqRow = record s { phase = phase } in if b then changed else s).kind ≡ s.kind
+      by true = refl
+      by false = refl
 
   pub phase_sorted : (sequences : List SeqRow) → IsStrictlySortedBy by_node sequences → IsStrictlySortedBy by_node (map (at_phase phase n) sequences)
   unfolding IsStrictlySortedBy
@@ -235,7 +178,7 @@ module _ (phase : Phase) (n : ℕ) where
   phase_incoming [] = refl
   phase_incoming (s ∷ sequences) = ap (λ l. l ++ incoming (map (at_phase phase n) sequences)) (phase_in_pairs s) ∙ ap (λ l. s.in_pairs ++ l) (phase_incoming sequences)
 
-  phase_out_pairs : (s : SeqRow) → (at_phase phase n s).out_pairs ≡ s.out_pairs
+  pub phase_out_pairs : (s : SeqRow) → (at_phase phase n s).out_pairs ≡ s.out_pairs
   phase_out_pairs s = by (s.node == n)
     where
       by : (b : Bool) → (let changed : SeqRow = record s { phase = phase } in if b then changed else s).out_pairs ≡ s.out_pairs
@@ -248,3 +191,19 @@ module _ (phase : Phase) (n : ℕ) where
 
   pub phase_moved : (s : SeqRow) → moved_by (at_phase phase n s) ≡ moved_by s
   phase_moved s = λ i. phase_out_pairs s i ++ phase_in_pairs s i
+
+  pub phase_brought : (sequences : List SeqRow) → brought (map (at_phase phase n) sequences) ≡ brought sequences
+  phase_brought [] = refl
+  phase_brought (s ∷ sequences) = λ i. brought_by (phase_kind s i) (phase_in_pairs s i) ++ phase_brought sequences i
+
+-- ---- what movements bring at tokens of their own
+
+pub part_brought : (sequences : List SeqRow) → IsPart (brought sequences) (incoming sequences)
+part_brought [] = part_all []
+part_brought (s ∷ sequences) = part_append (by s.kind) (part_brought sequences)
+  where
+    by : (k : Kind) → IsPart (brought_by k s.in_pairs) s.in_pairs
+    by Join = part_all s.in_pairs
+    by Move = part_all s.in_pairs
+    by Leave = part_all s.in_pairs
+    by Replace = part_none s.in_pairs

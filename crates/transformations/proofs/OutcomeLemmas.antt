@@ -1,84 +1,194 @@
 -- The rings that come of movements that are done or given up: which pairs they have, and what places them at a token.
-use Rattle.std.proofs.Common.{◌≡◌, Bool, true, false, cond, not, ◌||◌, if◌then◌else◌, ℤ, List, [], ◌∷◌, ◌++◌, filter, flat_map, refl, sym, ap, ◌∙◌, arith, append-nil, true≢false}
+use Rattle.std.proofs.Common.{◌≡◌, Bool, true, false, cond, not, ◌&&◌, ◌||◌, if◌then◌else◌, ℤ, List, [], ◌∷◌, filter, flat_map, refl, sym, ap, ◌∙◌, arith, true≢false}
 use Rattle.std.proofs.lemmas.Bool.{or_left, or_right}
 use Rattle.std.specs.List.{AllByRecursion}
 use Rattle.cluster_terms.proofs.GroupLemmas.{or_elim}
+use Rattle.cluster_terms.proofs.PairLemmas.{same_pair-tells}
 use Rattle.cluster_terms.proofs.PlacedByReach.{placed_by_reach}
 use Rattle.cluster_terms.proofs.ReachSame.{reached-append, reached-none}
-use Rattle.cluster_terms.specs.Pair.{has_pair}
+use Rattle.cluster_terms.specs.Pair.{has_pair, same_pair}
 use Rattle.cluster_terms.specs.Reach.{IsBetween, is_reached}
 use Rattle.cluster_terms.specs.Replication.{groups_of}
 use Rattle.cluster_terms.specs.declared.replication.Replication.{Replication}
 use Rattle.cluster_terms.specs.declared.token.Pair.{Pair}
-use Rattle.transformations.proofs.KeptSteps.{fixed_by_joins, has_append}
-use Rattle.transformations.proofs.ListLemmas.{all_weaker}
-use Rattle.transformations.proofs.MovementLemmas.{nothing_out}
-use Rattle.transformations.proofs.WidestLemmas.{ring_at-joins}
+use Rattle.transformations.proofs.ExchangeLemmas.{IsExchange, exchanges}
+use Rattle.transformations.proofs.ListLemmas.{all_each, all_weaker, filter_none, member_holds, part_all_of, part_any, part_filter}
+use Rattle.transformations.proofs.OnceLemmas.{AreOnce, first_alone, later_once, not_out, once_by_node, out_takes}
+use Rattle.transformations.proofs.OwnedLemmas.{has_append, has_filter, has_fixed}
+use Rattle.transformations.proofs.RangeLemmas.{IsWithinWidest, fixed_part, moved_within, part_taken}
 use Rattle.transformations.specs.Ranges.{AgreeAt, AreOutcomes, PlacedByRanges, in_ranges, moved_by, outcome_ring, side}
-use Rattle.transformations.specs.Rings.{fixed_ring, incoming, is_mid, is_started, ring_at, widest}
-use Rattle.transformations.specs.Valid.{IsJoin, IsSound}
+use Rattle.transformations.specs.Rings.{fixed_ring, incoming, is_mid, is_started, outgoing, replaced, widest}
+use Rattle.transformations.specs.Steps.{takes_part}
+use Rattle.transformations.specs.Valid.{IsSound}
 use Rattle.transformations.specs.declared.image.Image.{Image}
-use Rattle.transformations.specs.declared.sequence.Phase.{Phase}
 use Rattle.transformations.specs.declared.sequence.SeqRow.{SeqRow}
 
--- ---- the rings of an image are outcomes
-
--- joins that are given up leave nothing
-sides_by_joins : (image : Image) (done : SeqRow → Bool) (sequences : List SeqRow) → AllByRecursion (IsJoin image) sequences → flat_map (side done) sequences ≡ incoming (filter done sequences)
-sides_by_joins image done [] all = refl
-sides_by_joins image done (s ∷ sequences) all = by (done s) (sides_by_joins image done sequences all.1)
-  where
-    by : (b : Bool) → flat_map (side done) sequences ≡ incoming (filter done sequences)
-        → (if b then s.in_pairs else s.out_pairs) ++ flat_map (side done) sequences ≡ incoming (cond b (s ∷ filter done sequences) (filter done sequences))
-    by true rest = ap (λ l. s.in_pairs ++ l) rest
-    by false rest = ap (λ l. l ++ flat_map (side done) sequences) all.0.out ∙ rest
-
-fixed_ring-joins : (image : Image) → IsSound image → fixed_ring image ≡ image.tokens
-fixed_ring-joins image h = fixed_by_joins image (nothing_out image image.sequences h.joins)
-
-outcome-joins : (image : Image) (done : SeqRow → Bool) → IsSound image → outcome_ring image done ≡ image.tokens ++ incoming (filter done image.sequences)
-outcome-joins image done h = λ i. fixed_ring-joins image h i ++ sides_by_joins image done image.sequences h.joins i
-
-outcome_at : (image : Image) (applied : Phase → Bool) → IsSound image → ring_at applied image ≡ outcome_ring image (λ s. applied s.phase)
-outcome_at image applied h = ring_at-joins applied image h ∙ sym (outcome-joins image (λ (s : SeqRow). applied s.phase) h)
-
-none_applied : (ring : List Pair) (sequences : List SeqRow) → ring ++ incoming (filter (λ (s : SeqRow). false) sequences) ≡ ring
-none_applied ring [] = append-nil ring
-none_applied ring (s ∷ sequences) = none_applied ring sequences
-
-pub are_outcomes : (image : Image) → IsSound image → AreOutcomes image
-are_outcomes image h = record {
-  low = λ p. ap (λ ring. has_pair ring p) (sym (none_applied image.tokens image.sequences) ∙ sym (outcome-joins image (λ (s : SeqRow). false) h));
-  read = λ p. ap (λ ring. has_pair ring p) (outcome_at image is_mid h);
-  high = λ p. ap (λ ring. has_pair ring p) (outcome_at image is_started h);
-}
-
--- ---- pairs among those of outcomes
+-- ---- the pairs of the movements that are done, and of the others
 
 has_cons : (f : SeqRow → List Pair) (s : SeqRow) (sequences : List SeqRow) (p : Pair) → (has_pair (f s) p || has_pair (flat_map f sequences) p) ≡ has_pair (flat_map f (s ∷ sequences)) p
 has_cons f s sequences p = has_append (f s) (flat_map f sequences) p
 
--- what any outcome brings, movements bring
-side-within : (image : Image) (done : SeqRow → Bool) (p : Pair) (sequences : List SeqRow) → AllByRecursion (IsJoin image) sequences → has_pair (flat_map (side done) sequences) p ≡ true → has_pair (incoming sequences) p ≡ true
-side-within image done p [] all there = there
-side-within image done p (s ∷ sequences) all there =
-    sym (has_cons (λ (s : SeqRow). s.in_pairs) s sequences p)
-    ∙ or_elim (has_pair (side done s) p) (has_pair (flat_map (side done) sequences) p) (has_cons (side done) s sequences p ∙ there)
-    (λ here. or_left (has_pair s.in_pairs p) (has_pair (incoming sequences) p) (by (done s) here))
-    (λ more. or_right (has_pair s.in_pairs p) (has_pair (incoming sequences) p) (side-within image done p sequences all.1 more))
+module _ (done : SeqRow → Bool) (p : Pair) where
+  -- whether a movement that is done takes the pair out or puts it in, and whether one that isn't takes it out
+  abbrev goes : List SeqRow → Bool
+  goes sequences = has_pair (outgoing (filter done sequences)) p
+
+  abbrev comes : List SeqRow → Bool
+  comes sequences = has_pair (incoming (filter done sequences)) p
+
+  abbrev back : List SeqRow → Bool
+  back sequences = has_pair (outgoing (filter (λ s. not (done s)) sequences)) p
+
+  -- pairs come back or come to stand
+  has_sides : (sequences : List SeqRow) → has_pair (flat_map (side done) sequences) p ≡ (comes sequences || back sequences)
+  has_sides [] = refl
+  has_sides (s ∷ sequences) = sym (has_cons (side done) s sequences p) ∙ by (done s) (has_sides sequences)
+    where
+      in_first : (a b c : Bool) → (a || (b || c)) ≡ ((a || b) || c)
+      in_first a b c = grind arith
+
+      out_first : (a b c : Bool) → (a || (b || c)) ≡ (b || (a || c))
+      out_first a b c = grind arith
+
+      by : (d : Bool) → has_pair (flat_map (side done) sequences) p ≡ (comes sequences || back sequences)
+          → (has_pair (if d then s.in_pairs else s.out_pairs) p || has_pair (flat_map (side done) sequences) p)
+          ≡ (has_pair (incoming (cond d (s ∷ filter done sequences) (filter done sequences))) p
+          || has_pair (outgoing (cond (not d) (s ∷ filter (λ q. not (done q)) sequences) (filter (λ q. not (done q)) sequences))) p)
+      by true rest =
+          ap (λ b. has_pair s.in_pairs p || b) rest ∙ in_first (has_pair s.in_pairs p) (comes sequences) (back sequences)
+          ∙ ap (λ b. b || back sequences) (has_cons (λ (q : SeqRow). q.in_pairs) s (filter done sequences) p)
+      by false rest =
+          ap (λ b. has_pair s.out_pairs p || b) rest ∙ out_first (has_pair s.out_pairs p) (comes sequences) (back sequences)
+          ∙ ap (λ b. comes sequences || b) (has_cons (λ (q : SeqRow). q.out_pairs) s (filter (λ q. not (done q)) sequences) p)
+
+  -- what any movement takes out
+  has_out : (sequences : List SeqRow) → has_pair (outgoing sequences) p ≡ (goes sequences || back sequences)
+  has_out [] = refl
+  has_out (s ∷ sequences) = sym (has_cons (λ (q : SeqRow). q.out_pairs) s sequences p) ∙ by (done s) (has_out sequences)
+    where
+      in_first : (a b c : Bool) → (a || (b || c)) ≡ ((a || b) || c)
+      in_first a b c = grind arith
+
+      out_first : (a b c : Bool) → (a || (b || c)) ≡ (b || (a || c))
+      out_first a b c = grind arith
+
+      by : (d : Bool) → has_pair (outgoing sequences) p ≡ (goes sequences || back sequences)
+          → (has_pair s.out_pairs p || has_pair (outgoing sequences) p)
+          ≡ (has_pair (outgoing (cond d (s ∷ filter done sequences) (filter done sequences))) p
+          || has_pair (outgoing (cond (not d) (s ∷ filter (λ q. not (done q)) sequences) (filter (λ q. not (done q)) sequences))) p)
+      by true rest =
+          ap (λ b. has_pair s.out_pairs p || b) rest ∙ in_first (has_pair s.out_pairs p) (goes sequences) (back sequences)
+          ∙ ap (λ b. b || back sequences) (has_cons (λ (q : SeqRow). q.out_pairs) s (filter done sequences) p)
+      by false rest =
+          ap (λ b. has_pair s.out_pairs p || b) rest ∙ out_first (has_pair s.out_pairs p) (goes sequences) (back sequences)
+          ∙ ap (λ b. goes sequences || b) (has_cons (λ (q : SeqRow). q.out_pairs) s (filter (λ q. not (done q)) sequences) p)
+
+  -- no two movements take the pair out
+  out_once : (sequences : List SeqRow) → AreOnce sequences → (goes sequences && back sequences) ≡ false
+  out_once [] once = refl
+  out_once (s ∷ sequences) once = by (has_pair s.out_pairs p) refl (done s) (out_once sequences (later_once s sequences once))
+    where
+      none : (test : SeqRow → Bool) → has_pair s.out_pairs p ≡ true → has_pair (outgoing (filter test sequences)) p ≡ false
+      none test here =
+          not_out p (filter test sequences)
+          (part_all_of (λ (q : SeqRow). takes_part p.node q ≡ false) (part_filter test sequences) (first_alone s sequences once p.node (out_takes s p here)))
+
+      second_none : (a b : Bool) → b ≡ false → (a && b) ≡ false
+      second_none a b e = grind arith
+
+      first_none : (a b : Bool) → a ≡ false → (a && b) ≡ false
+      first_none a b e = grind arith
+
+      by : (o : Bool) → has_pair s.out_pairs p ≡ o → (d : Bool) → (goes sequences && back sequences) ≡ false
+          → (has_pair (outgoing (cond d (s ∷ filter done sequences) (filter done sequences))) p
+          && has_pair (outgoing (cond (not d) (s ∷ filter (λ q. not (done q)) sequences) (filter (λ q. not (done q)) sequences))) p) ≡ false
+      by true e true rest = second_none (has_pair (outgoing (s ∷ filter done sequences)) p) (back sequences) (none (λ q. not (done q)) e)
+      by true e false rest = first_none (goes sequences) (has_pair (outgoing (s ∷ filter (λ q. not (done q)) sequences)) p) (none done e)
+      by false e true rest =
+          sym (λ i. has_cons (λ (q : SeqRow). q.out_pairs) s (filter done sequences) p i && back sequences) ∙ ap (λ b. (b || goes sequences) && back sequences) e ∙ rest
+      by false e false rest =
+          sym (λ i. goes sequences && has_cons (λ (q : SeqRow). q.out_pairs) s (filter (λ q. not (done q)) sequences) p i) ∙ ap (λ b. goes sequences && (b || back sequences)) e ∙ rest
+
+-- ---- the rings of an image are outcomes
+
+-- what some movements take out stands in the ring
+out_in_ring : (image : Image) (p : Pair) (sequences : List SeqRow) → AllByRecursion (IsExchange image) sequences → has_pair (outgoing sequences) p ≡ true → has_pair image.tokens p ≡ true
+out_in_ring image p [] all there = absurd (true≢false (sym there))
+out_in_ring image p (s ∷ sequences) all there =
+    or_elim (has_pair s.out_pairs p) (has_pair (outgoing sequences) p) (has_cons (λ (q : SeqRow). q.out_pairs) s sequences p ∙ there)
+    (part_any (same_pair p) (part_taken image s all.0)) (out_in_ring image p sequences all.1)
+
+pub outcome_same : (image : Image) (done : SeqRow → Bool) → IsSound image → (p : Pair)
+    → has_pair (replaced image.tokens (outgoing (filter done image.sequences)) (incoming (filter done image.sequences))) p ≡ has_pair (outcome_ring image done) p
+outcome_same image done h p =
+    let some : List SeqRow = filter done image.sequences in
+    let t : Bool = has_pair image.tokens p in
+    sym (has_append (filter (λ q. not (has_pair (outgoing some) q)) image.tokens) (incoming some) p)
+    ∙ ap (λ b. b || comes done p image.sequences) (has_filter (λ q. not (has_pair (outgoing some) q)) image.tokens p)
+    ∙ alike t (goes done p image.sequences) (back done p image.sequences) (comes done p image.sequences) in_ring (out_once done p image.sequences (once_by_node image.sequences h.once))
+    ∙ sym (λ i. (t && not (has_out done p image.sequences i)) || has_sides done p image.sequences i)
+    ∙ sym (ap (λ b. b || has_pair (flat_map (side done) image.sequences) p) (has_fixed image p))
+    ∙ has_append (fixed_ring image) (flat_map (side done) image.sequences) p
   where
-    by : (b : Bool) → has_pair (if b then s.in_pairs else s.out_pairs) p ≡ true → has_pair s.in_pairs p ≡ true
-    by true here = here
-    by false here = absurd (true≢false (sym here ∙ ap (λ l. has_pair l p) all.0.out))
+    in_ring : back done p image.sequences ≡ true → has_pair image.tokens p ≡ true
+    in_ring there =
+        let other : SeqRow → Bool = λ s. not (done s) in
+        out_in_ring image p (filter other image.sequences) (part_all_of (IsExchange image) (part_filter other image.sequences) (exchanges image h)) there
+
+    alike : (t g b c : Bool) → (b ≡ true → t ≡ true) → (g && b) ≡ false → ((t && not g) || c) ≡ ((t && not (g || b)) || (c || b))
+    alike true true true c within once = absurd (true≢false once)
+    alike true true false true within once = refl
+    alike true true false false within once = refl
+    alike true false true true within once = refl
+    alike true false true false within once = refl
+    alike true false false c within once = refl
+    alike false g true c within once = absurd (true≢false (sym (within refl)))
+    alike false g false true within once = refl
+    alike false g false false within once = refl
+
+-- where none is done the ring is as it is
+none_done : (image : Image) (p : Pair) → has_pair (replaced image.tokens (outgoing (filter (λ (s : SeqRow). false) image.sequences)) (incoming (filter (λ (s : SeqRow). false) image.sequences))) p ≡ has_pair image.tokens p
+none_done image p =
+    let none : filter (λ (s : SeqRow). false) image.sequences ≡ [] = filter_none (λ (s : SeqRow). false) image.sequences (all_each (λ (s : SeqRow). false ≡ false) (λ s. refl) image.sequences) in
+    ap (λ l. has_pair (replaced image.tokens (outgoing l) (incoming l)) p) none
+    ∙ sym (has_append (filter (λ q. not (has_pair [] q)) image.tokens) [] p)
+    ∙ ap (λ b. b || false) (has_filter (λ q. not (has_pair [] q)) image.tokens p) ∙ plain (has_pair image.tokens p)
+  where
+    plain : (t : Bool) → ((t && true) || false) ≡ t
+    plain true = refl
+    plain false = refl
+
+pub are_outcomes : (image : Image) → IsSound image → AreOutcomes image
+are_outcomes image h = record {
+  low = λ p. sym (none_done image p) ∙ outcome_same image (λ s. false) h p;
+  read = outcome_same image (λ s. is_mid s.phase) h;
+  high = outcome_same image (λ s. is_started s.phase) h;
+}
+
+-- ---- pairs among those of outcomes
+
+-- what a movement brings or leaves, it moves
+side-moved : (done : SeqRow → Bool) (s : SeqRow) (p : Pair) → has_pair (side done s) p ≡ true → has_pair (moved_by s) p ≡ true
+side-moved done s p there = sym (has_append s.out_pairs s.in_pairs p) ∙ by (done s) there
+  where
+    by : (b : Bool) → has_pair (if b then s.in_pairs else s.out_pairs) p ≡ true → (has_pair s.out_pairs p || has_pair s.in_pairs p) ≡ true
+    by true here = or_right (has_pair s.out_pairs p) (has_pair s.in_pairs p) here
+    by false here = or_left (has_pair s.out_pairs p) (has_pair s.in_pairs p) here
+
+-- so it is among the widest pairs
+side-within : (image : Image) (done : SeqRow → Bool) (p : Pair) (sequences : List SeqRow) → AllByRecursion (IsWithinWidest image) sequences → has_pair (flat_map (side done) sequences) p ≡ true → has_pair (widest image) p ≡ true
+side-within image done p [] all there = absurd (true≢false (sym there))
+side-within image done p (s ∷ sequences) all there =
+    or_elim (has_pair (side done s) p) (has_pair (flat_map (side done) sequences) p) (has_cons (side done) s sequences p ∙ there)
+    (λ here. member_holds same_pair same_pair-tells (λ q. has_pair (widest image) q ≡ true) (moved_by s) all.0 p (side-moved done s p here))
+    (side-within image done p sequences all.1)
 
 between : (image : Image) (done : SeqRow → Bool) → IsSound image → IsBetween (fixed_ring image) (widest image) (outcome_ring image done)
 between image done h = record {
   keeps = λ p there. sym (has_append (fixed_ring image) (flat_map (side done) image.sequences) p) ∙ or_left (has_pair (fixed_ring image) p) (has_pair (flat_map (side done) image.sequences) p) there;
   within = λ p there.
-      sym (has_append image.tokens (incoming image.sequences) p)
-      ∙ or_elim (has_pair (fixed_ring image) p) (has_pair (flat_map (side done) image.sequences) p) (has_append (fixed_ring image) (flat_map (side done) image.sequences) p ∙ there)
-      (λ here. or_left (has_pair image.tokens p) (has_pair (incoming image.sequences) p) (ap (λ l. has_pair l p) (sym (fixed_ring-joins image h)) ∙ here))
-      (λ more. or_right (has_pair image.tokens p) (has_pair (incoming image.sequences) p) (side-within image done p image.sequences h.joins more));
+      or_elim (has_pair (fixed_ring image) p) (has_pair (flat_map (side done) image.sequences) p) (has_append (fixed_ring image) (flat_map (side done) image.sequences) p ∙ there)
+      (part_any (same_pair p) (fixed_part image)) (side-within image done p image.sequences (moved_within image h));
 }
 
 -- ---- the movements that don't have x in their ranges
@@ -94,14 +204,6 @@ with_away a b m c h = grind arith
 
 with_others : (a b m c : Bool) → (b || c) ≡ true → ((a || b) || (m || c)) ≡ true
 with_others a b m c h = grind arith
-
--- what a movement brings or leaves, it moves
-side-moved : (done : SeqRow → Bool) (s : SeqRow) (p : Pair) → has_pair (side done s) p ≡ true → has_pair (moved_by s) p ≡ true
-side-moved done s p there = sym (has_append s.out_pairs s.in_pairs p) ∙ by (done s) there
-  where
-    by : (b : Bool) → has_pair (if b then s.in_pairs else s.out_pairs) p ≡ true → (has_pair s.out_pairs p || has_pair s.in_pairs p) ≡ true
-    by true here = or_right (has_pair s.out_pairs p) (has_pair s.in_pairs p) here
-    by false here = or_left (has_pair s.out_pairs p) (has_pair s.in_pairs p) here
 
 module _ (image : Image) (replication : Replication) (x : ℤ) where
   -- whether x is in the ranges, and the pairs of the movements where it isn't

@@ -1,5 +1,5 @@
 -- The ranges of movements, row by row: they are the same from a token up to the end of its row between cuts.
-use Rattle.std.proofs.Common.{◌≡◌, true, false, true≢false, not, ◌&&◌, ℤ, ◌≤ℤ◌, List, [], ◌∷◌, ◌++◌, find, Option, Some, None, option_map, refl, sym, ap, ◌∙◌, subst}
+use Rattle.std.proofs.Common.{◌≡◌, true, false, true≢false, not, ◌&&◌, ◌==◌, ℤ, ◌≤ℤ◌, List, [], ◌∷◌, ◌++◌, find, Option, Some, None, option_map, refl, sym, ◌∙◌, subst}
 use Rattle.std.proofs.lemmas.Bool.Decides.{Decides-int_eq}
 use Rattle.std.proofs.lemmas.Cmp.{int_cmp_total, int_eq_equiv}
 use Rattle.std.proofs.Math.Logic.{◌↔◌}
@@ -20,12 +20,13 @@ use Rattle.cluster_terms.specs.declared.row.TokenRange.{TokenRange}
 use Rattle.cluster_terms.specs.declared.token.Pair.{Pair}
 use Rattle.cluster_terms.specs.declared.token.RightEnd.{RightEnd}
 use Rattle.transformations.proofs.AcceptedLemmas.{mapped_none}
+use Rattle.transformations.proofs.ExchangeLemmas.{IsExchange, exchanges}
 use Rattle.transformations.proofs.ListLemmas.{IsPart, all_append, all_both, all_flat_map, all_found, all_from_map, all_map, all_members, all_weaker, found_passes, member_holds, none_found, part_all_of, part_append, part_back, part_filter, part_front, part_none, part_trans}
 use Rattle.transformations.proofs.RingLemmas.{tokens_of}
 use Rattle.transformations.proofs.RowEndLemmas.{HasEnd, end_of}
 use Rattle.transformations.specs.Ranges.{first_shared, in_both, in_ranges, is_shared, moved_by}
 use Rattle.transformations.specs.Rings.{cuts, fixed_ring, incoming, outgoing, widest}
-use Rattle.transformations.specs.Valid.{IsJoin, IsSound}
+use Rattle.transformations.specs.Valid.{IsSound}
 use Rattle.transformations.specs.declared.image.Image.{Image}
 use Rattle.transformations.specs.declared.sequence.SeqRow.{SeqRow}
 
@@ -47,15 +48,17 @@ parts_incoming (s ∷ sequences) = (
       (λ q part. part_append (part_none s.in_pairs) part) sequences (parts_incoming sequences),
 )
 
--- a join moves what it brings
-pub moved_by_join : (image : Image) (s : SeqRow) → IsJoin image s → moved_by s ≡ s.in_pairs
-moved_by_join image s h = ap (λ out. out ++ s.in_pairs) h.out
+-- what a movement takes out is a part of the ring
+pub part_taken : (image : Image) (s : SeqRow) → IsExchange image s → IsPart s.out_pairs image.tokens
+part_taken image s x = subst (λ out. IsPart out image.tokens) (sym x.out) (part_filter (λ (p : Pair). p.node == x.from) image.tokens)
 
 pub moved_within : (image : Image) → IsSound image → AllByRecursion (IsWithinWidest image) image.sequences
 moved_within image h =
-    all_both (IsJoin image) (λ (s : SeqRow). IsPart s.in_pairs (incoming image.sequences)) (IsWithinWidest image)
-    (λ s j part. rw (moved_by_join image s j) (part_within (part_trans part (part_back image.tokens (incoming image.sequences)))))
-    image.sequences h.joins (parts_incoming image.sequences)
+    all_both (IsExchange image) (λ (s : SeqRow). IsPart s.in_pairs (incoming image.sequences)) (IsWithinWidest image)
+    (λ s x part. all_append (λ p. has_pair (widest image) p ≡ true) s.out_pairs s.in_pairs
+    (part_within (part_trans (part_taken image s x) (part_front image.tokens (incoming image.sequences))))
+    (part_within (part_trans part (part_back image.tokens (incoming image.sequences)))))
+    image.sequences (exchanges image h) (parts_incoming image.sequences)
 
 -- what holds of each pair of the widest set holds of the fixed pairs and of what moves
 pub fixed_part : (image : Image) → IsPart (fixed_ring image) (widest image)

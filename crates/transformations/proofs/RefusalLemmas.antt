@@ -1,5 +1,5 @@
 -- Lemmas on the refusals of commands.
-use Rattle.std.proofs.Common.{◌≡◌, ◌+◌, ◌-◌, ◌^◌, ◌≤◌, Bool, false, ◌||◌, ℤ, List, [], ◌∷◌, ◌++◌, length, map, min, Option, Some, None, nat_lt, MatchOption, refl, ap, ◌∙◌, arith, length-append}
+use Rattle.std.proofs.Common.{◌≡◌, ◌+◌, ◌-◌, ◌^◌, ◌≤◌, Bool, false, ◌||◌, ℤ, List, [], ◌∷◌, ◌++◌, length, map, min, None, nat_lt, refl, ap, ◌∙◌, arith, length-append}
 use Rattle.std.proofs.lemmas.Bool.Decides.{Decides-int_eq, Decides-like, nat_tests, same_from_decides}
 use Rattle.std.proofs.lemmas.Cmp.{int_cmp_total, int_eq_equiv}
 use Rattle.std.proofs.lemmas.List.{length-map}
@@ -14,10 +14,9 @@ use Rattle.std.specs.List.Sorted.{IsPermutation, IsSorted}
 use Rattle.std.specs.Ordering.{eq_by_cmp, int_cmp, int_eq}
 use Rattle.std.specs.Set.{is_member, distinct_count}
 use Rattle.cluster_terms.specs.declared.token.Pair.{Pair}
-use Rattle.transformations.specs.Refusals.{first_of, is_taken, most_tokens, refused_if, tokens_full, tokens_with}
+use Rattle.transformations.specs.Refusals.{is_taken, most_tokens, refused_if, tokens_full, tokens_with}
 use Rattle.transformations.specs.Rings.{widest}
 use Rattle.transformations.specs.declared.image.Image.{Image}
-use Rattle.transformations.specs.declared.refusal.Refusal.{Refusal}
 use Rattle.transformations.specs.declared.refusal.Refusal.TheVariants.{TokensFull}
 use Rattle.transformations.specs.declared.sequence.SeqRow.{SeqRow}
 
@@ -63,11 +62,3 @@ few_tokens image tokens few =
     let pairs = length-map (widest image) (λ (p : Pair). p.token) in
     let is : nat_lt most_tokens (tokens_with image tokens) ≡ false = grind (arith, nat_tests) in
     ap (λ b. refused_if b TokensFull) is
-
--- ---- the first refusal
-
--- the second of two refusals comes where the first does not
-pub first_of_two : (a b r : Option Refusal) → MatchOption a (r ≡ b) (λ x. r ≡ Some x) → r ≡ first_of (a ∷ b ∷ [])
-first_of_two None None r is = is
-first_of_two None (Some x) r is = is
-first_of_two (Some x) b r is = is

@@ -1,20 +1,22 @@
 -- Rings into which the pairs of a node are put, and the tokens of their pairs.
-use Rattle.std.proofs.Common.{◌≡◌, ℕ, ◌≤◌, Bool, true, false, ◌==◌, ℤ, int_lt, List, [], ◌∷◌, ◌++◌, map, filter, length, refl, ap, ◌∙◌, subst, arith, append_assoc, length-append}
+use Rattle.std.proofs.Common.{◌≡◌, ℕ, ◌≤◌, Bool, true, false, ◌==◌, ℤ, int_lt, List, [], ◌∷◌, ◌++◌, map, filter, length, refl, sym, ap, ◌∙◌, subst, arith, append_assoc, length-append}
 use Rattle.std.proofs.lemmas.Cmp.{int_cmp_total, int_eq_equiv, on_total}
 use Rattle.std.proofs.lemmas.List.{length-map, map-append}
-use Rattle.std.proofs.lemmas.List.Sorted.{IsPermutation-append_comm, IsPermutation-append_left, IsPermutation-map, length_permutation}
+use Rattle.std.proofs.lemmas.List.Sorted.{IsPermutation-append_comm, IsPermutation-append_left, IsPermutation-map, length_permutation, list_any-IsPermutation}
 use Rattle.std.proofs.lemmas.Map.Keys.{IsDistinct-IsPermutation, IsDistinct-from_sorted}
 use Rattle.std.proofs.lemmas.Map.Made.{distinct_count-from_IsDistinct}
 use Rattle.std.specs.Cmp.{IsTotalOrder}
-use Rattle.std.specs.List.{AllByRecursion, IsDistinct, list_any}
+use Rattle.std.specs.List.{AllByRecursion, IsDistinct}
 use Rattle.std.specs.List.Sorted.{IsPermutation, IsStrictlySortedBy}
 use Rattle.std.specs.Ordering.{int_cmp, int_eq}
 use Rattle.std.specs.declared.cmp.Ordering.TheVariants.{Less}
+use Rattle.std.specs.Set.{distinct_count, is_member}
 use Rattle.cluster_terms.proofs.AscendingLemmas.{All-put_all, below_sorted, put_all_sorted}
+use Rattle.cluster_terms.proofs.DistinctCounts.{distinct_count-within}
 use Rattle.cluster_terms.specs.Ascending.{put_all}
 use Rattle.cluster_terms.specs.declared.token.Pair.{Pair}
 use Rattle.transformations.proofs.AcceptedLemmas.{AreNew, same_id}
-use Rattle.transformations.proofs.ListLemmas.{all_false, all_map, all_weaker, any_false, both_left, both_right, distinct_append, distinct_by, filter_none, length-filter_put_all, part_distinct, part_filter, part_front, part_length, part_map, put_all_permutes}
+use Rattle.transformations.proofs.ListLemmas.{IsPart, all_false, all_map, all_weaker, both_left, both_right, distinct_append, distinct_by, filter_none, length-filter_put_all, part_all, part_all_of, part_any, part_append, part_distinct, part_filter, part_front, part_length, part_map, put_all_permutes}
 use Rattle.transformations.specs.History.{ascend}
 use Rattle.transformations.specs.Orders.{by_token}
 use Rattle.transformations.specs.Refusals.{is_taken, most_tokens, tokens_with}
@@ -23,7 +25,6 @@ use Rattle.transformations.specs.States.{is_joined}
 use Rattle.transformations.specs.Steps.{pairs_of}
 use Rattle.transformations.specs.Valid.{IsOwned, is_standing}
 use Rattle.transformations.specs.declared.image.Image.{Image}
-use Rattle.transformations.specs.declared.sequence.SeqRow.{SeqRow}
 
 pub by_token_total : IsTotalOrder by_token
 by_token_total = on_total (λ (p : Pair). p.token) int_cmp_total
@@ -41,6 +42,19 @@ pub few_moved : (pairs others : List Pair) → IsPermutation pairs others → Ar
 few_moved pairs others moved h = record {
   fresh = IsDistinct-IsPermutation int_eq int_eq_equiv.symm (tokens_of pairs) (tokens_of others) (IsPermutation-map (λ (p : Pair). p.token) pairs others moved) h.fresh;
   few = (let same = length_permutation pairs others moved in omega (arith, h.few));
+}
+
+pub few_part : {pairs others : List Pair} → IsPart pairs others → AreFew others → AreFew pairs
+few_part part h = record {
+  fresh = part_distinct int_eq (part_map (λ (p : Pair). p.token) part) h.fresh;
+  few = (let less = part_length part in omega (arith, h.few));
+}
+
+-- the same tokens with other nodes
+pub few_alike : (pairs others : List Pair) → tokens_of pairs ≡ tokens_of others → AreFew others → AreFew pairs
+few_alike pairs others same h = record {
+  fresh = rw same h.fresh;
+  few = omega (arith, h.few, ap length same, length-map pairs (λ (p : Pair). p.token), length-map others (λ (p : Pair). p.token));
 }
 
 -- pairs put into a ring stand there beside its own
@@ -74,7 +88,7 @@ pub pairs_own : (n : ℕ) (tokens : List ℤ) → AllByRecursion (λ p. p.node �
 pairs_own n [] = tt
 pairs_own n (t ∷ tokens) = (refl, pairs_own n tokens)
 
-tokens_of-pairs : (n : ℕ) (tokens : List ℤ) → tokens_of (pairs_of n tokens) ≡ tokens
+pub tokens_of-pairs : (n : ℕ) (tokens : List ℤ) → tokens_of (pairs_of n tokens) ≡ tokens
 tokens_of-pairs n [] = refl
 tokens_of-pairs n (t ∷ tokens) = ap (λ l. t ∷ l) (tokens_of-pairs n tokens)
 
@@ -82,27 +96,32 @@ pub length-pairs : (n : ℕ) (tokens : List ℤ) → length (pairs_of n tokens) 
 length-pairs n tokens = length-map tokens (λ t. record { token = t; node = n })
 
 -- tokens that are new, beside the pairs that stand already
-pub new_pairs : (image : Image) (n : ℕ) (tokens : List ℤ) → ascend tokens ≡ true → AreNew image tokens → IsDistinct int_eq (tokens_of (widest image)) → AreFew (pairs_of n tokens ++ widest image)
-new_pairs image n tokens up new fresh =
-    let is : tokens_of (pairs_of n tokens ++ widest image) ≡ tokens ++ tokens_of (widest image) =
-    map-append (λ (p : Pair). p.token) (pairs_of n tokens) (widest image) ∙ ap (λ l. l ++ tokens_of (widest image)) (tokens_of-pairs n tokens) in
+pub new_pairs : (image : Image) (n : ℕ) (tokens : List ℤ) (ring : List Pair) → ascend tokens ≡ true → AreNew image tokens → IsPart ring (widest image) → IsDistinct int_eq (tokens_of ring) → AreFew (pairs_of n tokens ++ ring)
+new_pairs image n tokens ring up new part fresh =
+    let is : tokens_of (pairs_of n tokens ++ ring) ≡ tokens ++ tokens_of ring =
+    map-append (λ (p : Pair). p.token) (pairs_of n tokens) ring ∙ ap (λ l. l ++ tokens_of ring) (tokens_of-pairs n tokens) in
     let own : IsDistinct int_eq tokens = IsDistinct-from_sorted int_cmp tokens (tokens_sorted tokens up) in
-    let all : IsDistinct int_eq (tokens ++ tokens_of (widest image)) =
-    distinct_append int_eq tokens (tokens_of (widest image)) own fresh
-    (all_weaker (λ t. is_taken image t ≡ false) (λ t. AllByRecursion (λ u. int_eq t u ≡ false) (tokens_of (widest image))) untaken tokens new.untaken) in
-    let turned : IsDistinct int_eq (tokens_of (widest image) ++ tokens) =
-    IsDistinct-IsPermutation int_eq int_eq_equiv.symm (tokens ++ tokens_of (widest image)) (tokens_of (widest image) ++ tokens) (IsPermutation-append_comm tokens (tokens_of (widest image))) all in
-    let count : tokens_with image tokens ≡ length (tokens_of (widest image) ++ tokens) = distinct_count-from_IsDistinct int_eq_equiv (tokens_of (widest image) ++ tokens) turned in
+    let all : IsDistinct int_eq (tokens ++ tokens_of ring) =
+    distinct_append int_eq tokens (tokens_of ring) own fresh
+    (all_weaker (λ t. is_taken image t ≡ false) (λ t. AllByRecursion (λ u. int_eq t u ≡ false) (tokens_of ring)) untaken tokens new.untaken) in
+    let count : distinct_count int_eq (tokens ++ tokens_of ring) ≡ length (tokens ++ tokens_of ring) = distinct_count-from_IsDistinct int_eq_equiv (tokens ++ tokens_of ring) all in
+    let fewer : distinct_count int_eq (tokens ++ tokens_of ring) ≤ tokens_with image tokens = distinct_count-within int_eq_equiv (tokens ++ tokens_of ring) (tokens_of (widest image) ++ tokens) there in
     record {
       fresh = rw is all;
-      few = omega (arith, new.few, length-append (tokens_of (widest image)) tokens, length-append (pairs_of n tokens) (widest image), length-pairs n tokens, length-map (widest image) (λ (p : Pair). p.token));
+      few = omega (arith, new.few, count, fewer, length-append tokens (tokens_of ring), length-append (pairs_of n tokens) ring, length-pairs n tokens, length-map ring (λ (p : Pair). p.token));
     }
   where
-    untaken : (t : ℤ) → is_taken image t ≡ false → AllByRecursion (λ u. int_eq t u ≡ false) (tokens_of (widest image))
+    untaken : (t : ℤ) → is_taken image t ≡ false → AllByRecursion (λ u. int_eq t u ≡ false) (tokens_of ring)
     untaken t free =
-        all_map (λ u. int_eq t u ≡ false) (λ (p : Pair). p.token) (widest image)
+        part_all_of (λ u. int_eq t u ≡ false) (part_map (λ (p : Pair). p.token) part)
+        (all_map (λ u. int_eq t u ≡ false) (λ (p : Pair). p.token) (widest image)
         (all_weaker (λ (p : Pair). int_eq p.token t ≡ false) (λ (p : Pair). int_eq t p.token ≡ false) (λ p e. int_eq_equiv.symm t p.token ∙ e) (widest image)
-        (all_false (λ (p : Pair). int_eq p.token t) (widest image) free))
+        (all_false (λ (p : Pair). int_eq p.token t) (widest image) free)))
+
+    there : (t : ℤ) → is_member int_eq (tokens ++ tokens_of ring) t ≡ true → is_member int_eq (tokens_of (widest image) ++ tokens) t ≡ true
+    there t h =
+        let whole : is_member int_eq (tokens ++ tokens_of (widest image)) t ≡ true = part_any (int_eq t) (part_append (part_all tokens) (part_map (λ (p : Pair). p.token) part)) h in
+        sym (list_any-IsPermutation (int_eq t) (tokens ++ tokens_of (widest image)) (tokens_of (widest image) ++ tokens) (IsPermutation-append_comm tokens (tokens_of (widest image)))) ∙ whole
 
 -- ---- whose pairs there are
 
@@ -110,21 +129,12 @@ new_pairs image n tokens up new fresh =
 pub not_others : (n m : ℕ) (pairs : List Pair) → (n == m) ≡ false → AllByRecursion (λ p. p.node ≡ n) pairs → AllByRecursion (λ p. (p.node == m) ≡ false) pairs
 not_others n m pairs other = all_weaker (λ (p : Pair). p.node ≡ n) (λ (p : Pair). (p.node == m) ≡ false) (λ p is. ap (λ k. k == m) is ∙ other) pairs
 
--- another node that has no token has none then
-pub bare_put : (n m : ℕ) (pairs ring : List Pair) → (n == m) ≡ false → AllByRecursion (λ p. p.node ≡ n) pairs
-    → list_any (λ p. p.node == m) ring ≡ false → list_any (λ p. p.node == m) (put_all by_token pairs ring) ≡ false
-bare_put n m pairs ring other own bare =
-    any_false (λ (p : Pair). p.node == m) (put_all by_token pairs ring)
-    (All-put_all by_token (λ (p : Pair). (p.node == m) ≡ false) pairs ring (not_others n m pairs other own) (all_false (λ (p : Pair). p.node == m) ring bare))
-
--- the ring once a node that stands and has no token has got at most 256
-pub owned_with : (image : Image) (n : ℕ) (pairs : List Pair) (epoch : ℕ) (sequences : List SeqRow) → is_standing image.nodes n ≡ true → is_joined image n ≡ false
-    → AllByRecursion (λ p. p.node ≡ n) pairs → length pairs ≤ 256 → IsOwned image
-    → IsOwned (record image { epoch = epoch; tokens = put_all by_token pairs image.tokens; sequences = sequences })
-owned_with image n pairs epoch sequences up bare own short h = record {
+-- the ring once a node has got at most 256 pairs, of which it has none
+pub owned_with : (image : Image) (n : ℕ) (pairs : List Pair) → is_joined image n ≡ false → AllByRecursion (λ p. is_standing image.nodes p.node ≡ true) pairs
+    → AllByRecursion (λ p. p.node ≡ n) pairs → length pairs ≤ 256 → IsOwned image → IsOwned (record image { tokens = put_all by_token pairs image.tokens })
+owned_with image n pairs bare up own short h = record {
   ascending = put_all_sorted by_token by_token_total pairs image.tokens h.ascending;
-  owners = All-put_all by_token (λ p. is_standing image.nodes p.node ≡ true) pairs image.tokens
-      (all_weaker (λ (p : Pair). p.node ≡ n) (λ (p : Pair). is_standing image.nodes p.node ≡ true) (λ p is. ap (is_standing image.nodes) is ∙ up) pairs own) h.owners;
+  owners = All-put_all by_token (λ p. is_standing image.nodes p.node ≡ true) pairs image.tokens up h.owners;
   few = λ m. few m (n == m) refl;
 }
   where

@@ -1,25 +1,26 @@
 -- The commands that are accepted keep an image valid: no two of its movements overlap afterwards.
-use Rattle.std.proofs.Common.{◌≡◌, ℕ, ◌+◌, ◌<◌, Bool, true, false, not, ◌==◌, ℤ, List, [], ◌∷◌, map, find, Some, None, refl, sym, subst, ◌&&◌}
+use Rattle.std.proofs.Common.{◌≡◌, ℕ, ◌+◌, ◌<◌, Bool, true, false, not, ◌==◌, ℤ, List, [], ◌∷◌, map, Some, None, refl, sym, subst, ◌&&◌}
 use Rattle.std.proofs.lemmas.Map.Keys.{IsDistinct-IsPermutation, IsDistinct-cons}
 use Rattle.std.specs.List.{AllByRecursion, IsDistinct, list_any}
 use Rattle.cluster_terms.specs.Arc.{IsToken}
-use Rattle.transformations.proofs.AcceptedLemmas.{drop_keyspace_idle, early_accepted, keyspace_idle, prepare_join_accepted, unsafe_join_idle}
+use Rattle.transformations.proofs.AcceptedLemmas.{drop_keyspace_idle, early_accepted, keyspace_idle, unsafe_join_idle}
 use Rattle.transformations.proofs.ApartLemmas.{both_at, both_flips, distinct_alike, distinct_map, pairs_from_distinct}
+use Rattle.transformations.proofs.DoneLemmas.{done}
 use Rattle.transformations.proofs.KeptLemmas.{IsKept, both_kept, ranges_alike}
 use Rattle.transformations.proofs.KeptNodes.{kept_register, kept_unregister}
-use Rattle.transformations.proofs.KeptSteps.{done, kept_phase}
+use Rattle.transformations.proofs.KeptSteps.{kept_phase}
 use Rattle.transformations.proofs.ListLemmas.{all_filter, all_weaker, part_distinct, part_filter}
 use Rattle.transformations.proofs.MovementLemmas.{phase_moved, sequences_put}
-use Rattle.transformations.proofs.PreparedLemmas.{apart_prepare_join, kept_prepare_join}
-use Rattle.transformations.proofs.RangesKept.{apart_at, finish_by, kept_later, kept_others}
+use Rattle.transformations.proofs.PreparedLemmas.{apart_begun, kept_begun, new_movement}
+use Rattle.transformations.proofs.RangesKept.{apart_at, cancel_by, finish_by, kept_later, others_done, others_given_up, without_it}
 use Rattle.transformations.proofs.SoundLemmas.{sound_empty, sound_next}
-use Rattle.transformations.specs.History.{empty_image, is_command, most_epochs, next_image}
+use Rattle.transformations.specs.History.{begun, empty_image, is_command, most_epochs, next_image}
 use Rattle.transformations.specs.Ranges.{AreApart}
-use Rattle.transformations.specs.Refusals.{refusal_of}
-use Rattle.transformations.specs.Steps.{at_phase, join_of, others}
+use Rattle.transformations.specs.Refusals.{prepared_by, refusal_of}
+use Rattle.transformations.specs.Steps.{at_phase, join_of, leave_of, move_of, others, replace_of}
 use Rattle.transformations.specs.Valid.{IsValid}
 use Rattle.transformations.specs.declared.command.Command.{Command}
-use Rattle.transformations.specs.declared.command.Command.TheVariants.{Register, Unregister, UnsafeJoin, Keyspace, DropKeyspace, PrepareJoin, Step}
+use Rattle.transformations.specs.declared.command.Command.TheVariants.{Register, Unregister, UnsafeJoin, Keyspace, DropKeyspace, PrepareJoin, PrepareMove, PrepareLeave, PrepareReplace, Step, Cancel}
 use Rattle.transformations.specs.declared.image.Image.{Image}
 use Rattle.transformations.specs.declared.sequence.Goal.{Goal}
 use Rattle.transformations.specs.declared.sequence.Goal.TheVariants as goal
@@ -59,17 +60,18 @@ apart_phase phase image n epoch h = λ x token.
     (distinct_map (both_at after x) (at_phase phase n) image.sequences
     (distinct_alike (both_at after x) (λ s q. both_at after x (at_phase phase n s) (at_phase phase n q)) (IsKept image after x) (λ s q one other. own s q) image.sequences (kept_phase phase image n epoch x) kept))
 
--- one of them done
-apart_done : (image : Image) (s : SeqRow) (epoch : ℕ) → find (λ (q : SeqRow). q.node == s.node) image.sequences ≡ Some s → IsValid image → AreApart (done image s epoch)
-apart_done image s epoch found h = λ x token.
-    let after : Image = done image s epoch in
+-- without one of them, whose node others are not
+apart_others : (image after : Image) (s : SeqRow) → after.sequences ≡ others image.sequences s.node → image.keyspaces ≡ after.keyspaces → IsValid image
+    → ((x : ℤ) → IsToken x → AllByRecursion (λ q. (q.node == s.node) ≡ false → IsKept image after x q) image.sequences) → AreApart after
+apart_others image after s same keyspaces h each = λ x token.
     let other : SeqRow → Bool = λ q. not (q.node == s.node) in
     let kept : AllByRecursion (IsKept image after x) (others image.sequences s.node) =
     all_filter other (IsKept image after x) image.sequences
     (all_weaker (λ (q : SeqRow). (q.node == s.node) ≡ false → IsKept image after x q) (λ (q : SeqRow). other q ≡ true → IsKept image after x q)
-    (λ q kept passes. kept (unlike (q.node == s.node) passes)) image.sequences (kept_others image s epoch found h x token)) in
+    (λ q kept passes. kept (unlike (q.node == s.node) passes)) image.sequences (each x token)) in
     pairs_from_distinct (both_at after x) after.sequences
-    (distinct_kept image after refl x (others image.sequences s.node) kept (part_distinct (both_at image x) (part_filter other image.sequences) (apart_at image h x token)))
+    (subst (λ l. IsDistinct (both_at after x) l) (sym same)
+    (distinct_kept image after keyspaces x (others image.sequences s.node) kept (part_distinct (both_at image x) (part_filter other image.sequences) (apart_at image h x token))))
   where
     unlike : (b : Bool) → not b ≡ true → b ≡ false
     unlike true e = sym e
@@ -80,23 +82,28 @@ unfolding next_image
 apart_step image goal.Start kind n h = apart_phase Started image n (image.epoch + 1) h
 apart_step image goal.Mid kind n h = apart_phase Mid image n (image.epoch + 1) h
 apart_step image goal.Finish kind n h =
-    finish_by AreApart image n (image.epoch + 1) h
+    finish_by AreApart image n (image.epoch + 1)
     (λ none. apart_same image (record image { epoch = image.epoch + 1 }) refl refl h (λ x token. kept_later image (image.epoch + 1) x))
-    (λ s found. apart_done image s (image.epoch + 1) found h)
+    (λ s found. apart_others image (done image s (image.epoch + 1)) s refl refl h (others_done image s (image.epoch + 1) found h))
+
+apart_cancel : (image : Image) (n : ℕ) → IsValid image → AreApart (next_image image (Cancel n))
+unfolding next_image
+apart_cancel image n h =
+    cancel_by AreApart image n (image.epoch + 1)
+    (λ none. apart_same image (record image { epoch = image.epoch + 1 }) refl refl h (λ x token. kept_later image (image.epoch + 1) x))
+    (apart_phase Started image n (image.epoch + 1) h)
+    (λ s found. apart_others image (without_it image s (image.epoch + 1) found h) s refl refl h (others_given_up image s (image.epoch + 1) found h))
 
 -- ---- commands
 
-apart_prepared : (image : Image) (n : ℕ) (tokens : List ℤ) → IsValid image → is_command (PrepareJoin n tokens) ≡ true → refusal_of image (PrepareJoin n tokens) ≡ None → AreApart (next_image image (PrepareJoin n tokens))
-unfolding next_image
-apart_prepared image n tokens h right none = λ x token.
-    let join : SeqRow = join_of n tokens in
-    let after : Image = next_image image (PrepareJoin n tokens) in
-    let new = (prepare_join_accepted image n tokens (early_accepted image (PrepareJoin n tokens) none)).0.apart in
+apart_prepared : (image : Image) (c : Command) (j : SeqRow) → IsValid image → is_command c ≡ true → refusal_of image c ≡ None → prepared_by image.tokens c ≡ Some j → AreApart (begun image j)
+apart_prepared image c j h right none is = λ x token.
+    let after : Image = begun image j in
     let kept : IsDistinct (both_at after x) image.sequences =
-    distinct_kept image after refl x image.sequences (kept_prepare_join image n tokens h.sound right none x token) (apart_at image h x token) in
+    distinct_kept image after refl x image.sequences (kept_begun image c j h.sound right none is x token) (apart_at image h x token) in
     pairs_from_distinct (both_at after x) after.sequences
-    (IsDistinct-IsPermutation (both_at after x) (both_flips after x) (join ∷ image.sequences) after.sequences (sequences_put join image.sequences new)
-    (IsDistinct-cons (both_at after x) join image.sequences (apart_prepare_join image n tokens h.sound right none x token) kept))
+    (IsDistinct-IsPermutation (both_at after x) (both_flips after x) (j ∷ image.sequences) after.sequences (sequences_put j image.sequences (new_movement image c j h.sound right none is))
+    (IsDistinct-cons (both_at after x) j image.sequences (apart_begun image c j h.sound right none is x token) kept))
 
 apart_next : (image : Image) (c : Command) → IsValid image → is_command c ≡ true → refusal_of image c ≡ None → AreApart (next_image image c)
 unfolding next_image
@@ -108,8 +115,12 @@ apart_next image (UnsafeJoin n tokens) h right none = apart_none (next_image ima
 apart_next image (Keyspace name replication) h right none =
     apart_none (next_image image (Keyspace name replication)) (keyspace_idle image name replication (early_accepted image (Keyspace name replication) none))
 apart_next image (DropKeyspace name) h right none = apart_none (next_image image (DropKeyspace name)) (drop_keyspace_idle image name (early_accepted image (DropKeyspace name) none))
-apart_next image (PrepareJoin n tokens) h right none = apart_prepared image n tokens h right none
+apart_next image (PrepareJoin n tokens) h right none = apart_prepared image (PrepareJoin n tokens) (join_of n tokens) h right none refl
+apart_next image (PrepareMove n t) h right none = apart_prepared image (PrepareMove n t) (move_of image.tokens n t) h right none refl
+apart_next image (PrepareLeave n) h right none = apart_prepared image (PrepareLeave n) (leave_of image.tokens n) h right none refl
+apart_next image (PrepareReplace n gone) h right none = apart_prepared image (PrepareReplace n gone) (replace_of image.tokens n gone) h right none refl
 apart_next image (Step g kind n) h right none = apart_step image g kind n h
+apart_next image (Cancel n) h right none = apart_cancel image n h
 
 pub valid_empty : IsValid empty_image
 valid_empty = record { sound = sound_empty; apart = apart_none empty_image refl }

@@ -1,48 +1,131 @@
 -- The rings of a sound image: no token stands twice in any of them.
-use Rattle.std.proofs.Common.{◌≡◌, Bool, true, false, cond, List, [], ◌∷◌, ◌++◌, filter, sym, ap, ◌∙◌, subst}
-use Rattle.std.specs.List.{IsDistinct}
+use Rattle.std.proofs.Common.{◌≡◌, ℕ, Bool, true, false, true≢false, not, ◌&&◌, ◌||◌, ◌==◌, List, [], ◌∷◌, ◌++◌, filter, refl, sym, ap, ◌∙◌, subst, append_assoc, arith}
+use Rattle.std.proofs.lemmas.List.Elements.{filter-append}
+use Rattle.std.proofs.lemmas.List.Folds.{list_any-append}
+use Rattle.std.proofs.lemmas.Map.Keys.{IsDistinct-head}
+use Rattle.std.specs.List.{AllByRecursion, IsDistinct, list_any}
 use Rattle.std.specs.Ordering.{int_eq}
+use Rattle.std.specs.Set.{is_member}
+use Rattle.cluster_terms.proofs.PairLemmas.{same_pair-refl}
+use Rattle.cluster_terms.specs.Pair.{has_pair, same_pair}
 use Rattle.cluster_terms.specs.declared.token.Pair.{Pair}
-use Rattle.transformations.proofs.ListLemmas.{IsPart, part_all, part_all_of, part_append, part_distinct, part_filter, part_front, part_map, part_none}
-use Rattle.transformations.proofs.MovementLemmas.{none_taken_out, nothing_out}
-use Rattle.transformations.proofs.RingLemmas.{tokens_of}
-use Rattle.transformations.specs.Rings.{high_ring, incoming, is_mid, is_started, low_ring, outgoing, read_ring, replaced, ring_at, widest}
-use Rattle.transformations.specs.Valid.{IsJoin, IsSound}
+use Rattle.transformations.proofs.AcceptedLemmas.{same_id}
+use Rattle.transformations.proofs.BeginLemmas.{settled_few}
+use Rattle.transformations.proofs.ExchangeLemmas.{IsExchange, exchanges, own_takes}
+use Rattle.transformations.proofs.FilterLemmas.{filter_alike, filter_both}
+use Rattle.transformations.proofs.ListLemmas.{all_both, all_members, all_pi, all_weaker, exchanged, filter_all, filter_none, nothing, part_all, part_all_of, part_append, part_distinct, part_filter, part_flat, part_front, part_map}
+use Rattle.transformations.proofs.OnceLemmas.{AreOnce, both_take, first_alone, later_once, not_out, once_by_node}
+use Rattle.transformations.proofs.OwnedLemmas.{has_filter, owned_without, without}
+use Rattle.transformations.proofs.RingLemmas.{AreFew, few_moved, few_part, not_others, tokens_of}
+use Rattle.transformations.proofs.SwapLemmas.{PutsAnew, few_swapped}
+use Rattle.transformations.specs.Rings.{high_ring, incoming, is_mid, is_started, low_ring, outgoing, read_ring, replaced, ring_at}
+use Rattle.transformations.specs.Steps.{owned, takes_part}
+use Rattle.transformations.specs.Valid.{IsSound, brought, brought_by}
 use Rattle.transformations.specs.declared.image.Image.{Image}
 use Rattle.transformations.specs.declared.sequence.Phase.{Phase}
 use Rattle.transformations.specs.declared.sequence.SeqRow.{SeqRow}
 
--- some movements bring some of the pairs that all bring
-pub part_incoming : (applied : SeqRow → Bool) (sequences : List SeqRow) → IsPart (incoming (filter applied sequences)) (incoming sequences)
-part_incoming applied [] = part_all []
-part_incoming applied (s ∷ sequences) = by (applied s) (part_incoming applied sequences)
-  where
-    by : (b : Bool) → IsPart (incoming (filter applied sequences)) (incoming sequences)
-        → IsPart (incoming (cond b (s ∷ filter applied sequences) (filter applied sequences))) (s.in_pairs ++ incoming sequences)
-    by true rest = part_append (part_all s.in_pairs) rest
-    by false rest = part_append (part_none s.in_pairs) rest
+-- a movement that swaps the pairs of a node in a ring for others
+record IsSwap (ring : List Pair) (s : SeqRow) : Type 0 where
+  from : ℕ
+  out : s.out_pairs ≡ owned ring from
+  takes : takes_part from s ≡ true
+  own : AllByRecursion (λ p. p.node ≡ s.node) s.in_pairs
+  puts : PutsAnew s.kind s
 
--- the ring with some joins applied is the ring with what they bring
-pub ring_at-joins : (applied : Phase → Bool) (image : Image) → IsSound image → ring_at applied image ≡ image.tokens ++ incoming (filter (λ (s : SeqRow). applied s.phase) image.sequences)
-ring_at-joins applied image h =
-    let sequences : List SeqRow = filter (λ (s : SeqRow). applied s.phase) image.sequences in
-    let none : outgoing sequences ≡ [] = nothing_out image sequences (part_all_of (IsJoin image) (part_filter (λ (s : SeqRow). applied s.phase) image.sequences) h.joins) in
-    ap (λ out. replaced image.tokens out (incoming sequences)) none ∙ ap (λ ring. ring ++ incoming sequences) (none_taken_out image.tokens)
+-- ---- the first of some movements
 
--- it is a part of the widest
-pub ring_part : (applied : Phase → Bool) (image : Image) → IsSound image → IsPart (ring_at applied image) (widest image)
-ring_part applied image h =
-    subst (λ ring. IsPart ring (widest image)) (sym (ring_at-joins applied image h))
-    (part_append (part_all image.tokens) (part_incoming (λ (s : SeqRow). applied s.phase) image.sequences))
+module _ (ring : List Pair) (s : SeqRow) (later : List SeqRow) (x : IsSwap ring s) (once : AreOnce (s ∷ later)) where
+  abbrev kept : List Pair
+  kept = without ring x.from
 
-tokens_apart : (image : Image) (ring : List Pair) → IsSound image → IsPart ring (widest image) → IsDistinct int_eq (tokens_of ring)
-tokens_apart image ring h part = part_distinct int_eq (part_map (λ (p : Pair). p.token) part) h.fresh
+  abbrev stays : List SeqRow → Pair → Bool
+  stays sequences p = not (is_member same_pair (outgoing sequences) p)
+
+  -- the later ones swap the pairs of other nodes
+  other_from : (n : ℕ) → takes_part n s ≡ false → owned ring n ≡ owned (s.in_pairs ++ kept) n
+  other_from n none =
+      sym (filter-append (λ (p : Pair). p.node == n) s.in_pairs kept
+      ∙ (λ i. filter_none (λ (p : Pair). p.node == n) s.in_pairs (not_others s.node n s.in_pairs (first (s.node == n) (list_any (λ (p : Pair). p.node == n) s.out_pairs) none) x.own) i ++ owned_without ring x.from n (apart (n == x.from) refl) i))
+    where
+      first : (a b : Bool) → (a || b) ≡ false → a ≡ false
+      first a b e = grind arith
+
+      apart : (b : Bool) → (n == x.from) ≡ b → (n == x.from) ≡ false
+      apart false e = e
+      apart true e = absurd (true≢false (sym x.takes ∙ ap (λ k. takes_part k s) (sym (same_id n x.from e)) ∙ none))
+
+  swaps_later : AllByRecursion (IsSwap ring) later → AllByRecursion (IsSwap (s.in_pairs ++ kept)) later
+  swaps_later all =
+      all_both (IsSwap ring) (λ (q : SeqRow). (n : ℕ) → both_take n s q ≡ false) (IsSwap (s.in_pairs ++ kept))
+      (λ q y apart. record { from = y.from; out = y.out ∙ other_from y.from (away (takes_part y.from s) (takes_part y.from q) y.takes (apart y.from)); takes = y.takes; own = y.own; puts = y.puts })
+      later all (all_pi (λ (n : ℕ) (q : SeqRow). both_take n s q ≡ false) later (λ n. IsDistinct-head (both_take n) s later (once n)))
+    where
+      away : (a b : Bool) → b ≡ true → (a && b) ≡ false → a ≡ false
+      away a b e h = grind arith
+
+  -- the pairs that come are not taken out again
+  comers_stay : filter (stays later) s.in_pairs ≡ s.in_pairs
+  comers_stay =
+      filter_all (stays later) s.in_pairs
+      (all_weaker (λ (p : Pair). p.node ≡ s.node) (λ (p : Pair). stays later p ≡ true)
+      (λ p is. ap not (not_out p later (subst (λ n. AllByRecursion (λ q. takes_part n q ≡ false) later) (sym is) (first_alone s later once s.node (own_takes s))))) s.in_pairs x.own)
+
+  -- what stays of the ring
+  rest_stays : filter (stays (s ∷ later)) ring ≡ filter (stays later) kept
+  rest_stays =
+      filter_alike (stays (s ∷ later)) (λ (p : Pair). not (p.node == x.from) && stays later p) ring
+      (all_members same_pair same_pair-refl (λ p. stays (s ∷ later) p ≡ (not (p.node == x.from) && stays later p)) ring each)
+      ∙ sym (filter_both (stays later) (λ (p : Pair). not (p.node == x.from)) ring)
+    where
+      neither : (a b : Bool) → not (a || b) ≡ (not a && not b)
+      neither true b = refl
+      neither false b = refl
+
+      each : (p : Pair) → has_pair ring p ≡ true → stays (s ∷ later) p ≡ (not (p.node == x.from) && stays later p)
+      each p there =
+          let out : has_pair s.out_pairs p ≡ (p.node == x.from) = ap (λ l. has_pair l p) x.out ∙ has_filter (λ (q : Pair). q.node == x.from) ring p ∙ ap (λ b. b && (p.node == x.from)) there in
+          ap not (list_any-append (same_pair p) s.out_pairs (outgoing later) ∙ ap (λ b. b || has_pair (outgoing later) p) out) ∙ neither (p.node == x.from) (has_pair (outgoing later) p)
+
+-- ---- all of them
+
+few_replaced : (ring : List Pair) (sequences : List SeqRow) → AllByRecursion (IsSwap ring) sequences → AreOnce sequences → AreFew (ring ++ brought sequences) → AreFew (replaced ring (outgoing sequences) (incoming sequences))
+few_replaced ring [] all once few = few_part (part_append (part_filter (λ p. not (is_member same_pair [] p)) ring) nothing) few
+few_replaced ring (s ∷ later) all once few =
+    let own : List Pair = brought_by s.kind s.in_pairs in
+    let kept : List Pair = without ring all.0.from in
+    let left : List Pair = filter (λ p. not (is_member same_pair (outgoing later) p)) kept in
+    let first : AreFew (own ++ (ring ++ brought later)) = few_moved (ring ++ (own ++ brought later)) (own ++ (ring ++ brought later)) (exchanged ring own (brought later)) few in
+    let step : AreFew ((s.in_pairs ++ kept) ++ brought later) =
+    subst AreFew (sym (append_assoc s.in_pairs kept (brought later))) (few_swapped s.kind ring (brought later) s all.0.from all.0.out all.0.puts first) in
+    let rest : AreFew (replaced (s.in_pairs ++ kept) (outgoing later) (incoming later)) =
+    few_replaced (s.in_pairs ++ kept) later (swaps_later ring s later all.0 once all.1) (later_once s later once) step in
+    let split : filter (λ p. not (is_member same_pair (outgoing later) p)) (s.in_pairs ++ kept) ≡ s.in_pairs ++ left =
+    filter-append (λ p. not (is_member same_pair (outgoing later) p)) s.in_pairs kept ∙ ap (λ l. l ++ left) (comers_stay ring s later all.0 once) in
+    let turned : AreFew (left ++ (s.in_pairs ++ incoming later)) =
+    few_moved (s.in_pairs ++ (left ++ incoming later)) (left ++ (s.in_pairs ++ incoming later)) (exchanged s.in_pairs left (incoming later))
+    (subst AreFew (append_assoc s.in_pairs left (incoming later)) (subst (λ l. AreFew (l ++ incoming later)) split rest)) in
+    subst (λ l. AreFew (l ++ (s.in_pairs ++ incoming later))) (sym (rest_stays ring s later all.0 once)) turned
+
+-- ---- the rings
+
+swap : (image : Image) (s : SeqRow) → IsExchange image s → IsSwap image.tokens s
+swap image s x = record { from = x.from; out = x.out; takes = x.takes; own = x.own; puts = x.puts }
+
+ring_few : (applied : Phase → Bool) (image : Image) → IsSound image → AreFew (ring_at applied image)
+ring_few applied image h =
+    let test : SeqRow → Bool = λ s. applied s.phase in
+    let part = part_filter test image.sequences in
+    few_replaced image.tokens (filter test image.sequences)
+    (part_all_of (IsSwap image.tokens) part (all_weaker (IsExchange image) (IsSwap image.tokens) (swap image) image.sequences (exchanges image h)))
+    (λ n. part_distinct (both_take n) part (once_by_node image.sequences h.once n))
+    (few_part (part_append (part_all image.tokens) (part_flat (λ (q : SeqRow). brought_by q.kind q.in_pairs) test image.sequences)) (settled_few image h))
 
 -- the tokens of the low, the read and the high ring
 pub widest-tokens : (image : Image) → IsSound image
     → IsDistinct int_eq (tokens_of (low_ring image)) × IsDistinct int_eq (tokens_of (read_ring image)) × IsDistinct int_eq (tokens_of (high_ring image))
 widest-tokens image h = (
-  tokens_apart image (low_ring image) h (part_front image.tokens (incoming image.sequences)),
-  tokens_apart image (read_ring image) h (ring_part is_mid image h),
-  tokens_apart image (high_ring image) h (ring_part is_started image h),
+  part_distinct int_eq (part_map (λ (p : Pair). p.token) (part_front image.tokens (brought image.sequences))) h.fresh,
+  (ring_few is_mid image h).fresh,
+  (ring_few is_started image h).fresh,
 )

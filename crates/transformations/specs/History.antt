@@ -5,17 +5,22 @@ use Rattle.cluster_terms.specs.Ascending.{put, put_all}
 use Rattle.cluster_terms.specs.declared.node.NodeRow.{NodeRow}
 use Rattle.transformations.specs.Orders.{by_token, by_name, by_node}
 use Rattle.transformations.specs.Refusals.{refusal_of}
-use Rattle.transformations.specs.Steps.{pairs_of, join_of, stepped}
+use Rattle.transformations.specs.Steps.{pairs_of, join_of, move_of, leave_of, replace_of, stepped, cancelled}
 use Rattle.transformations.specs.declared.command.Command.{Command}
-use Rattle.transformations.specs.declared.command.Command.TheVariants.{Register, Unregister, UnsafeJoin, Keyspace, DropKeyspace, PrepareJoin, Step}
+use Rattle.transformations.specs.declared.command.Command.TheVariants.{Register, Unregister, UnsafeJoin, Keyspace, DropKeyspace, PrepareJoin, PrepareMove, PrepareLeave, PrepareReplace, Step, Cancel}
 use Rattle.transformations.specs.declared.image.Image.{Image}
 use Rattle.transformations.specs.declared.keyspace.KeyspaceRow.{KeyspaceRow}
 use Rattle.transformations.specs.declared.refusal.Refusal.{Refusal}
+use Rattle.transformations.specs.declared.sequence.SeqRow.{SeqRow}
 use Rattle.transformations.specs.declared.refusal.Refusal.TheVariants.{EpochsFull}
 
 -- the image before the first command
 abbrev pub empty_image : Image
 empty_image = record { epoch = 0; next = 1; nodes = []; tokens = []; keyspaces = []; sequences = [] }
+
+-- the image once a movement is prepared
+abbrev pub begun : Image → SeqRow → Image
+begun image s = record image { epoch = image.epoch + 1; sequences = put by_node s image.sequences }
 
 -- the image after a command
 unfoldable pub next_image : Image → Command → Image
@@ -31,8 +36,11 @@ next_image image (Keyspace name replication) =
     record image { epoch = image.epoch + 1; keyspaces = put by_name row image.keyspaces }
 next_image image (DropKeyspace name) =
     record image { epoch = image.epoch + 1; keyspaces = filter (λ row. not (bytes_eq row.name name)) image.keyspaces }
-next_image image (PrepareJoin node tokens) =
-    record image { epoch = image.epoch + 1; sequences = put by_node (join_of node tokens) image.sequences }
+next_image image (PrepareJoin node tokens) = begun image (join_of node tokens)
+next_image image (PrepareMove node token) = begun image (move_of image.tokens node token)
+next_image image (PrepareLeave node) = begun image (leave_of image.tokens node)
+next_image image (PrepareReplace node gone) = begun image (replace_of image.tokens node gone)
+next_image image (Cancel node) = (let after : Image = cancelled image node in record after { epoch = image.epoch + 1 })
 next_image image (Step goal kind node) = (let after : Image = stepped image goal node in record after { epoch = image.epoch + 1 })
 
 -- the image after some commands from an image on, and after the first e commands of a history

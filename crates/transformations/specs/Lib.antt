@@ -1,4 +1,6 @@
+pub mod Counted
 pub mod History
+pub mod Meeting
 pub mod Orders
 pub mod Ranges
 pub mod Refusals

@@ -1,21 +1,26 @@
 -- When a command is refused.
-use Rattle.std.specs.Prelude.{ℕ, Bool, true, false, ◌&&◌, not, if◌then◌else◌, ℤ, List, [], ◌∷◌, ◌++◌, map, length, Option, Some, None, is_some, option_map, option_and_then, find, nat_le, nat_lt}
+use Rattle.std.specs.Prelude.{ℕ, Bool, true, false, ◌&&◌, not, if◌then◌else◌, ℤ, List, [], ◌∷◌, ◌++◌, map, length, Option, Some, None, is_some, option_map, option_and_then, find, nat_le, nat_lt, ◌==◌}
 use Rattle.std.specs.List.{list_any}
 use Rattle.std.specs.Ordering.{int_eq}
 use Rattle.std.specs.Set.{distinct_count}
 use Rattle.std.specs.Str.{bytes_eq}
 use Rattle.cluster_terms.specs.Ascending.{put}
+use Rattle.cluster_terms.specs.Group.{Group, nodes_of, node_count}
 use Rattle.cluster_terms.specs.NodeRow.{row_of}
+use Rattle.cluster_terms.specs.Replication.{groups_of}
+use Rattle.cluster_terms.specs.declared.node.NodeRow.{NodeRow}
+use Rattle.cluster_terms.specs.declared.token.Pair.{Pair}
 use Rattle.transformations.specs.Orders.{by_node}
 use Rattle.transformations.specs.Ranges.{first_shared}
 use Rattle.transformations.specs.Rings.{widest}
-use Rattle.transformations.specs.States.{node_state}
-use Rattle.transformations.specs.Steps.{join_of, movement_of, takes_part, is_next_step, others}
+use Rattle.transformations.specs.States.{is_joined, node_state, node_tokens}
+use Rattle.transformations.specs.Steps.{join_of, move_of, leave_of, replace_of, movement_of, takes_part, is_next_step, others}
 use Rattle.transformations.specs.declared.command.Command.{Command}
-use Rattle.transformations.specs.declared.command.Command.TheVariants.{Register, Unregister, UnsafeJoin, Keyspace, DropKeyspace, PrepareJoin, Step}
+use Rattle.transformations.specs.declared.command.Command.TheVariants.{Register, Unregister, UnsafeJoin, Keyspace, DropKeyspace, PrepareJoin, PrepareMove, PrepareLeave, PrepareReplace, Step, Cancel}
 use Rattle.transformations.specs.declared.image.Image.{Image}
+use Rattle.transformations.specs.declared.keyspace.KeyspaceRow.{KeyspaceRow}
 use Rattle.transformations.specs.declared.refusal.Refusal.{Refusal}
-use Rattle.transformations.specs.declared.refusal.Refusal.TheVariants.{NameTaken, NodesFull, NoNode, WrongState, InSequence, NoSequence, WrongStep, TokenTaken, TokensFull, NotIdle, NoKeyspace, KeyspacesFull, Locked}
+use Rattle.transformations.specs.declared.refusal.Refusal.TheVariants.{NameTaken, NodesFull, NoNode, WrongState, InSequence, NoSequence, WrongStep, TokenTaken, NoTokens, TokensFull, NotOneToken, OtherRack, NotIdle, NoKeyspace, KeyspacesFull, TooFewNodes, Locked}
 use Rattle.transformations.specs.declared.sequence.Goal.{Goal}
 use Rattle.transformations.specs.declared.sequence.Kind.{Kind}
 use Rattle.transformations.specs.declared.sequence.SeqRow.{SeqRow}
@@ -62,6 +67,10 @@ abbrev pub is_idle : NodeState → Bool
 is_idle state.Registered = true
 is_idle _ = false
 
+abbrev pub has_joined : NodeState → Bool
+has_joined state.Joined = true
+has_joined _ = false
+
 abbrev pub is_idle_or_left : NodeState → Bool
 is_idle_or_left state.Registered = true
 is_idle_or_left state.Left = true
@@ -93,6 +102,39 @@ is_taken image t = list_any (λ p. int_eq p.token t) (widest image)
 
 abbrev pub token_taken : Image → List ℤ → Option Refusal
 token_taken image tokens = option_map TokenTaken (find (is_taken image) tokens)
+
+-- the node that is to be replaced has no token
+abbrev pub no_tokens : Image → ℕ → Option Refusal
+no_tokens image gone = refused_if (not (is_joined image gone)) NoTokens
+
+-- the node doesn't have one token; how many it has is shown
+abbrev pub unless_one : ℕ → Option Refusal
+unless_one count = refused_if (not (count == 1)) (NotOneToken count)
+
+abbrev pub not_one_token : Image → ℕ → Option Refusal
+not_one_token image n = unless_one (length (node_tokens image n))
+
+-- the node that is to be replaced stands in another datacenter or rack, which are shown
+abbrev pub same_place : NodeRow → NodeRow → Bool
+same_place row gone = bytes_eq row.dc gone.dc && bytes_eq row.rack gone.rack
+
+abbrev pub unless_near : NodeRow → NodeRow → Option Refusal
+unless_near gone row = refused_if (not (same_place row gone)) (OtherRack gone.dc gone.rack)
+
+abbrev pub other_rack : Image → ℕ → ℕ → Option Refusal
+other_rack image n gone =
+    option_and_then (λ left. option_and_then (unless_near left) (row_of image.nodes n)) (row_of image.nodes gone)
+
+-- a group of the node has no more nodes with tokens than it is to have replicas; the first keyspace of which this holds
+-- is shown
+abbrev pub is_short : Image → ℕ → Group → Bool
+is_short image n g = is_some (g.rack_of n) && nat_le (node_count g (nodes_of image.tokens)) g.rf
+
+abbrev pub is_too_few : Image → ℕ → KeyspaceRow → Bool
+is_too_few image n k = list_any (is_short image n) (groups_of image.nodes k.replication)
+
+abbrev pub too_few_nodes : Image → ℕ → Option Refusal
+too_few_nodes image n = option_map (λ k. TooFewNodes k.name) (find (is_too_few image n) image.keyspaces)
 
 -- there would be too many tokens
 abbrev pub tokens_with : Image → List ℤ → ℕ
@@ -142,16 +184,28 @@ early_refusal_of image (DropKeyspace name) = first_of (no_keyspace image name �
 early_refusal_of image (PrepareJoin node tokens) =
     first_of (no_node image node ∷ in_sequence image node ∷ wrong_state is_idle image node
     ∷ token_taken image tokens ∷ tokens_full image tokens ∷ [])
+early_refusal_of image (PrepareMove node token) =
+    first_of (no_node image node ∷ in_sequence image node ∷ wrong_state has_joined image node ∷ not_one_token image node
+    ∷ token_taken image (token ∷ []) ∷ tokens_full image (token ∷ []) ∷ [])
+early_refusal_of image (PrepareLeave node) =
+    first_of (no_node image node ∷ in_sequence image node ∷ wrong_state has_joined image node ∷ too_few_nodes image node ∷ [])
+early_refusal_of image (PrepareReplace node gone) =
+    first_of (no_node image node ∷ no_node image gone ∷ in_sequence image node ∷ in_sequence image gone
+    ∷ wrong_state is_idle image node ∷ no_tokens image gone ∷ other_rack image node gone ∷ [])
+early_refusal_of image (Cancel node) = first_of (no_node image node ∷ no_sequence image node ∷ [])
 early_refusal_of image (Step goal kind node) =
     first_of (no_node image node ∷ no_sequence image node ∷ wrong_step goal kind image node ∷ [])
 
 -- the movement that a command prepares; and its ranges are locked
-abbrev pub prepared_by : Command → Option SeqRow
-prepared_by (PrepareJoin node tokens) = Some (join_of node tokens)
-prepared_by _ = None
+abbrev pub prepared_by : List Pair → Command → Option SeqRow
+prepared_by ring (PrepareJoin node tokens) = Some (join_of node tokens)
+prepared_by ring (PrepareMove node token) = Some (move_of ring node token)
+prepared_by ring (PrepareLeave node) = Some (leave_of ring node)
+prepared_by ring (PrepareReplace node gone) = Some (replace_of ring node gone)
+prepared_by ring _ = None
 
 abbrev pub ranges_locked : Image → Command → Option Refusal
-ranges_locked image command = option_and_then (λ s. locked (with_movement image s) s) (prepared_by command)
+ranges_locked image command = option_and_then (λ s. locked (with_movement image s) s) (prepared_by image.tokens command)
 
 -- the first refusal of a command; that of locked ranges is the last
 unfoldable pub refusal_of : Image → Command → Option Refusal

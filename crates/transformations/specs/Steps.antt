@@ -1,8 +1,9 @@
 -- Movements, and the steps that they take.
-use Rattle.std.specs.Prelude.{ℕ, Bool, true, false, not, ◌&&◌, ◌||◌, if◌then◌else◌, ℤ, List, [], map, filter, find, Option, Some, None, ◌==◌}
+use Rattle.std.specs.Prelude.{ℕ, Bool, true, false, not, ◌&&◌, ◌||◌, if◌then◌else◌, ℤ, List, [], ◌∷◌, map, filter, find, Option, Some, None, ◌==◌}
 use Rattle.std.specs.List.{list_any}
 use Rattle.std.specs.Set.{is_member}
 use Rattle.cluster_terms.specs.Ascending.{put_all}
+use Rattle.cluster_terms.specs.declared.node.NodeRow.{NodeRow}
 use Rattle.cluster_terms.specs.declared.token.Pair.{Pair}
 use Rattle.cluster_terms.specs.Pair.{same_pair}
 use Rattle.transformations.specs.Orders.{by_token}
@@ -22,6 +23,24 @@ pairs_of node tokens = map (λ t. record { token = t; node = node }) tokens
 -- a join that is prepared: it takes no pair out, and puts in the node's tokens
 abbrev pub join_of : ℕ → List ℤ → SeqRow
 join_of node tokens = record { node = node; kind = Join; out_pairs = []; in_pairs = pairs_of node tokens; phase = Prepared }
+
+-- the pairs of a node in a ring
+abbrev pub owned : List Pair → ℕ → List Pair
+owned ring n = filter (λ p. p.node == n) ring
+
+-- a move that is prepared: it takes the node's pairs out, and puts in its one new token
+abbrev pub move_of : List Pair → ℕ → ℤ → SeqRow
+move_of ring node token = record { node = node; kind = Move; out_pairs = owned ring node; in_pairs = pairs_of node (token ∷ []); phase = Prepared }
+
+-- a leave that is prepared: it takes the node's pairs out, and puts none in
+abbrev pub leave_of : List Pair → ℕ → SeqRow
+leave_of ring node = record { node = node; kind = Leave; out_pairs = owned ring node; in_pairs = []; phase = Prepared }
+
+-- a replace that is prepared: it takes the pairs of the node that is gone out, and puts in the same tokens with the node
+abbrev pub replace_of : List Pair → ℕ → ℕ → SeqRow
+replace_of ring node gone =
+    let out = owned ring gone in
+    record { node = node; kind = Replace; out_pairs = out; in_pairs = pairs_of node (map (λ p. p.token) out); phase = Prepared }
 
 -- the movement of a node
 abbrev pub movement_of : Image → ℕ → Option SeqRow
@@ -65,13 +84,45 @@ others sequences n = filter (λ s. not (s.node == n)) sequences
 abbrev pub ring_after : List Pair → SeqRow → List Pair
 ring_after ring s = put_all by_token s.in_pairs (filter (λ p. not (is_member same_pair s.out_pairs p)) ring)
 
+-- the node of the first of some pairs
+abbrev pub first_node : List Pair → Option ℕ
+first_node [] = None
+first_node (p ∷ ps) = Some p.node
+
+-- the node that has left once a movement is done: that of a leave, and the one that a replace takes the pairs of
+abbrev pub leaver_by : Kind → SeqRow → Option ℕ
+leaver_by Leave s = Some s.node
+leaver_by Replace s = first_node s.out_pairs
+leaver_by _ s = None
+
+abbrev pub leaver : SeqRow → Option ℕ
+leaver s = leaver_by s.kind s
+
+-- the nodes, of which one may have left now
+abbrev pub marked : ℕ → NodeRow → NodeRow
+marked n row = let left : NodeRow = record row { left = true } in if row.id == n then left else row
+
+abbrev pub with_left : List NodeRow → Option ℕ → List NodeRow
+with_left nodes None = nodes
+with_left nodes (Some n) = map (marked n) nodes
+
 -- the image once a movement is finished
 abbrev pub finished : Image → Option SeqRow → Image
 finished image None = image
-finished image (Some s) = record image { tokens = ring_after image.tokens s; sequences = others image.sequences s.node }
+finished image (Some s) =
+    record image { nodes = with_left image.nodes (leaver s); tokens = ring_after image.tokens s; sequences = others image.sequences s.node }
 
 -- the image once the movement of a node has taken a step; the epoch is as before
 abbrev pub stepped : Image → Goal → ℕ → Image
 stepped image goal.Start n = record image { sequences = map (at_phase Started n) image.sequences }
 stepped image goal.Mid n = record image { sequences = map (at_phase Mid n) image.sequences }
 stepped image goal.Finish n = finished image (movement_of image n)
+
+-- the movements once that of a node is cancelled: from MID it goes back to STARTED, and else it ends
+abbrev pub sequences_without : List SeqRow → ℕ → Option SeqRow → List SeqRow
+sequences_without sequences n None = sequences
+sequences_without sequences n (Some s) = if same_phase s.phase Mid then map (at_phase Started n) sequences else others sequences n
+
+-- the image once the movement of a node is cancelled; the epoch is as before
+abbrev pub cancelled : Image → ℕ → Image
+cancelled image n = record image { sequences = sequences_without image.sequences n (movement_of image n) }

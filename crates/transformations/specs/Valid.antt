@@ -1,19 +1,21 @@
 -- Valid images: what holds of every image that a history leads to.
-use Rattle.std.specs.Prelude.{◌≡◌, ℕ, ◌+◌, ◌<◌, ◌≤◌, Bool, true, false, not, List, [], map, length, Option, Some, None}
-use Rattle.std.specs.List.{AllByRecursion, IsDistinct}
+use Rattle.std.specs.Prelude.{◌≡◌, ℕ, ◌+◌, ◌<◌, ◌≤◌, Bool, true, false, not, ◌&&◌, List, [], ◌++◌, map, flat_map, length, Option, Some, None}
+use Rattle.std.specs.List.{AllByRecursion, AllPairs, IsDistinct}
 use Rattle.std.specs.List.Sorted.{IsStrictlyIncreasing, IsStrictlySortedBy}
 use Rattle.std.specs.Ordering.{int_eq}
 use Rattle.std.specs.Str.{bytes_eq}
 use Rattle.cluster_terms.specs.NodeRow.{row_of}
 use Rattle.cluster_terms.specs.declared.node.NodeRow.{NodeRow}
+use Rattle.cluster_terms.specs.declared.token.Pair.{Pair}
 use Rattle.transformations.specs.History.{most_epochs}
 use Rattle.transformations.specs.Orders.{by_token, by_name, by_node}
 use Rattle.transformations.specs.Ranges.{AreApart}
-use Rattle.transformations.specs.Refusals.{most_nodes, most_tokens, most_keyspaces}
-use Rattle.transformations.specs.Rings.{widest}
+use Rattle.transformations.specs.Refusals.{most_nodes, most_tokens, most_keyspaces, other_rack}
 use Rattle.transformations.specs.States.{is_joined, node_tokens}
+use Rattle.transformations.specs.Steps.{owned, pairs_of, takes_part}
 use Rattle.transformations.specs.declared.image.Image.{Image}
-use Rattle.transformations.specs.declared.sequence.Kind.TheVariants.{Join}
+use Rattle.transformations.specs.declared.sequence.Kind.{Kind}
+use Rattle.transformations.specs.declared.sequence.Kind.TheVariants.{Join, Move, Leave, Replace}
 use Rattle.transformations.specs.declared.sequence.SeqRow.{SeqRow}
 
 -- whether a node is registered and hasn't left
@@ -37,17 +39,61 @@ pub record IsOwned (image : Image) : Type 0 where
   pub owners : AllByRecursion (λ p. is_standing image.nodes p.node ≡ true) image.tokens
   pub few : (n : ℕ) → length (node_tokens image n) ≤ 256
 
--- a join in flight: it takes no pair out and brings 1 to 256 of its node, by ascending token; its node is registered,
--- hasn't left, and has no token
+-- the pairs of a join: it takes no pair out and puts in 1 to 256 of its node, which has no token
 pub record IsJoin (image : Image) (s : SeqRow) : Type 0 where
-  pub kind : s.kind ≡ Join
   pub out : s.out_pairs ≡ []
   pub some : 1 ≤ length s.in_pairs
   pub few : length s.in_pairs ≤ 256
-  pub ascending : IsStrictlySortedBy by_token s.in_pairs
   pub own : AllByRecursion (λ p. p.node ≡ s.node) s.in_pairs
-  pub stands : is_standing image.nodes s.node ≡ true
   pub bare : is_joined image s.node ≡ false
+
+-- of a move: it takes out the node's one pair, and puts in one
+pub record IsMove (image : Image) (s : SeqRow) : Type 0 where
+  pub out : s.out_pairs ≡ owned image.tokens s.node
+  pub one : length s.out_pairs ≡ 1
+  pub new : length s.in_pairs ≡ 1
+  pub own : AllByRecursion (λ p. p.node ≡ s.node) s.in_pairs
+
+-- of a leave: it takes out the node's pairs, of which there are some, and puts none in
+pub record IsLeave (image : Image) (s : SeqRow) : Type 0 where
+  pub out : s.out_pairs ≡ owned image.tokens s.node
+  pub some : 1 ≤ length s.out_pairs
+  pub in_none : s.in_pairs ≡ []
+
+-- of a replace: it takes out all pairs of another node, of which there are some, and puts in the same tokens with its
+-- node, which has none; both nodes have the same datacenter and rack
+pub record IsReplace (image : Image) (s : SeqRow) : Type 0 where
+  pub gone : ℕ
+  pub out : s.out_pairs ≡ owned image.tokens gone
+  pub some : 1 ≤ length s.out_pairs
+  pub same : s.in_pairs ≡ pairs_of s.node (map (λ p. p.token) s.out_pairs)
+  pub bare : is_joined image s.node ≡ false
+  pub near : other_rack image s.node gone ≡ None
+
+-- the pairs of a movement fit its kind
+abbrev pub Fits : Kind → Image → SeqRow → Type 0
+Fits Join image s = IsJoin image s
+Fits Move image s = IsMove image s
+Fits Leave image s = IsLeave image s
+Fits Replace image s = IsReplace image s
+
+-- a movement in flight: its node is registered and hasn't left, and its pairs ascend and fit its kind
+pub record IsMovement (image : Image) (s : SeqRow) : Type 0 where
+  pub stands : is_standing image.nodes s.node ≡ true
+  pub ascending : IsStrictlySortedBy by_token s.in_pairs
+  pub fits : Fits s.kind image s
+
+-- two movements in which no node takes part twice
+abbrev pub HaveNoNodeTwice : SeqRow → SeqRow → Type 0
+HaveNoNodeTwice s q = (n : ℕ) → (takes_part n s && takes_part n q) ≡ false
+
+-- the pairs that a movement brings at tokens of its own; a replace brings none
+abbrev pub brought_by : Kind → List Pair → List Pair
+brought_by Replace pairs = []
+brought_by _ pairs = pairs
+
+abbrev pub brought : List SeqRow → List Pair
+brought sequences = flat_map (λ s. brought_by s.kind s.in_pairs) sequences
 
 -- an image that is sound taken list by list: all that holds of an image that commands lead to, but for the ranges of its
 -- movements
@@ -60,10 +106,11 @@ pub record IsSound (image : Image) : Type 0 where
   pub few_keyspaces : length image.keyspaces ≤ most_keyspaces
   pub keyspaces : IsStrictlySortedBy by_name image.keyspaces
   pub movements : IsStrictlySortedBy by_node image.sequences
-  pub joins : AllByRecursion (IsJoin image) image.sequences
-  -- no token stands twice, in the ring or in what movements bring, and there are at most 16,384
-  pub fresh : IsDistinct int_eq (map (λ p. p.token) (widest image))
-  pub few_tokens : length (widest image) ≤ most_tokens
+  pub fitting : AllByRecursion (IsMovement image) image.sequences
+  pub once : AllPairs HaveNoNodeTwice image.sequences
+  -- no token stands twice, in the ring or in what movements bring to it, and there are at most 16,384
+  pub fresh : IsDistinct int_eq (map (λ p. p.token) (image.tokens ++ brought image.sequences))
+  pub few_tokens : length (image.tokens ++ brought image.sequences) ≤ most_tokens
 
 -- an image that commands lead to: no two of its movements overlap
 pub record IsValid (image : Image) : Type 0 where

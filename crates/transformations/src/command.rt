@@ -1,7 +1,7 @@
 ghost use Rattle.std.specs.Prelude.{◌≡◌};
 
 use crate::sequence::{Goal, Kind};
-use cluster_terms::{Memory, Name, NodeId, Replication, TokenList, TryCopy};
+use cluster_terms::{Memory, Name, NodeId, Replication, Token, TokenList, TryCopy};
 
 /// A transformation of the cluster's metadata (CEP-21).
 #[derive(Debug, Drop)]
@@ -35,10 +35,28 @@ pub enum Command {
         node: NodeId,
         tokens: TokenList,
     },
+    /// Prepares a move: the node, which has one token, is to have this one in its place.
+    PrepareMove {
+        node: NodeId,
+        token: Token,
+    },
+    /// Prepares a leave: the node gives up its tokens, and has left once this is done.
+    PrepareLeave {
+        node: NodeId,
+    },
+    /// Prepares a replace: the node takes the tokens of the one that is gone, which has left once this is done.
+    PrepareReplace {
+        node: NodeId,
+        gone: NodeId,
+    },
     /// Takes the movement of a node, which is of this kind, one step on.
     Step {
         goal: Goal,
         kind: Kind,
+        node: NodeId,
+    },
+    /// Cancels the movement of a node: half way, it goes back to where it had started; before that, it ends.
+    Cancel {
         node: NodeId,
     },
 }
@@ -65,6 +83,16 @@ impl TryCopy for Command {
                 node: *node,
                 tokens: tokens.copy()?,
             }),
+            Command::PrepareMove { node, token } => Ok(Command::PrepareMove {
+                node: *node,
+                token: *token,
+            }),
+            Command::PrepareLeave { node } => Ok(Command::PrepareLeave { node: *node }),
+            Command::PrepareReplace { node, gone } => Ok(Command::PrepareReplace {
+                node: *node,
+                gone: *gone,
+            }),
+            Command::Cancel { node } => Ok(Command::Cancel { node: *node }),
             Command::Step { goal, kind, node } => Ok(Command::Step {
                 goal: *goal,
                 kind: *kind,

@@ -1,6 +1,7 @@
 ghost use Rattle.std.specs.Prelude.{◌≡◌};
+ghost use Rattle.transformations.specs.Meeting.{HaveReplications};
 
-use crate::keyspace::KeyspaceRows;
+use crate::keyspace::{KeyspaceRows, have_replications};
 use crate::sequence::SeqRows;
 use cluster_terms::{Memory, NodeRows, PairList, TryCopy};
 
@@ -15,6 +16,15 @@ pub struct Image {
     pub tokens: PairList,
     pub keyspaces: KeyspaceRows,
     pub sequences: SeqRows,
+}
+
+impl Image {
+    /// What the keyspaces of each image have: replications, of which each names a datacenter once.
+    pub fn replications(&self)
+        ensures { HaveReplications self.now }
+    {
+        have_replications(self.keyspaces.as_slice())
+    }
 }
 
 impl TryCopy for Image {

@@ -4,6 +4,7 @@
 pub mod command;
 pub mod image;
 pub mod keyspace;
+mod prepares;
 pub mod refusal;
 pub mod refusals;
 pub mod rings;
@@ -24,4 +25,6 @@ pub use rings::{RingKind, cuts, fixed_ring, ring_with, widest};
 pub use sequence::{Goal, Kind, Phase, SeqRow, SeqRows};
 pub use state::{NodeState, node_state, state_of};
 pub use steps::movement_of;
-pub use validity::{histories_are_valid, locked_ranges_overlap, movements_are_apart};
+pub use validity::{
+    adjacent_epochs_meet, histories_are_valid, locked_ranges_overlap, movements_are_apart,
+};

@@ -1,12 +1,13 @@
 ghost use Rattle.std.specs.Prelude.{◌≡◌, [], ◌∷◌, not, IfOk, MatchOption};
 ghost use Rattle.std.specs.List.{list_any};
 ghost use Rattle.std.specs.Ordering.{int_eq};
-ghost use Rattle.transformations.specs.Refusals.{has_keyspace, in_sequence, is_idle, is_idle_or_left, is_registered, is_taken, keyspaces_full, name_taken, no_keyspace, no_node, no_sequence, nodes_full, not_idle, first_of, early_refusal_of, refused_if, token_taken, tokens_full, wrong_state, wrong_step};
+ghost use Rattle.transformations.specs.Refusals.{has_joined, has_keyspace, in_sequence, is_idle, is_idle_or_left, is_registered, is_taken, keyspaces_full, name_taken, no_keyspace, no_node, no_sequence, nodes_full, not_idle, first_of, early_refusal_of, refused_if, token_taken, tokens_full, wrong_state, wrong_step};
 ghost use Rattle.transformations.specs.States.{node_state};
 ghost use Rattle.transformations.specs.declared.command.Command.TheVariants as command;
 
 use crate::command::Command;
 use crate::image::Image;
+use crate::prepares::{no_tokens, not_one_token, other_rack, too_few_nodes};
 use crate::refusal::Refusal;
 use crate::sequence::{Goal, Kind, SeqRow};
 use crate::state::{NodeState, node_state, row_of};
@@ -25,7 +26,7 @@ const MOST_TOKENS: usize = 16_384;
 const MOST_KEYSPACES: usize = 64;
 
 /// A refusal, where a test says so.
-fn refused_if(test: bool, refusal: Refusal) -> Option<Refusal>
+pub(crate) fn refused_if(test: bool, refusal: Refusal) -> Option<Refusal>
     ensures { result ≡ refused_if test refusal }
 {
     if test { Some(refusal) } else { None }
@@ -72,6 +73,13 @@ fn is_idle(state: NodeState) -> bool
     ensures { result ≡ is_idle state }
 {
     matches!(state, NodeState::Registered)
+}
+
+/// Whether a node has a token, and no movement of it has started.
+fn has_joined(state: NodeState) -> bool
+    ensures { result ≡ has_joined state }
+{
+    matches!(state, NodeState::Joined)
 }
 
 /// Whether a node is registered and nothing else, or has left.
@@ -220,6 +228,45 @@ fn not_ready(image: &Image, n: NodeId) -> Option<Refusal>
     wrong_state(image, n, is_idle)
 }
 
+/// The node isn't registered, takes part in a movement, or has not joined: what comes first.
+fn not_settled(image: &Image, n: NodeId) -> Option<Refusal>
+    ensures { result ≡ first_of (no_node image.now n ∷ in_sequence image.now n ∷ wrong_state has_joined image.now n ∷ []) }
+{
+    if let Some(refusal) = no_node(image, n) {
+        return Some(refusal);
+    }
+    if let Some(refusal) = in_sequence(image, n) {
+        return Some(refusal);
+    }
+    wrong_state(image, n, has_joined)
+}
+
+/// One of two nodes isn't registered, or one takes part in a movement: what comes first.
+fn not_both_free(image: &Image, n: NodeId, m: NodeId) -> Option<Refusal>
+    ensures { result ≡ first_of (no_node image.now n ∷ no_node image.now m ∷ in_sequence image.now n ∷ in_sequence image.now m ∷ []) }
+{
+    if let Some(refusal) = no_node(image, n) {
+        return Some(refusal);
+    }
+    if let Some(refusal) = no_node(image, m) {
+        return Some(refusal);
+    }
+    if let Some(refusal) = in_sequence(image, n) {
+        return Some(refusal);
+    }
+    in_sequence(image, m)
+}
+
+/// One of some tokens is taken, or there would be too many: what comes first.
+fn not_available(alloc: Global, image: &Image, tokens: &[Token]) -> Result<Option<Refusal>, Memory>
+    ensures { IfOk result (λ found. found ≡ first_of (token_taken image.now tokens.now ∷ tokens_full image.now tokens.now ∷ [])) }
+{
+    if let Some(refusal) = token_taken(image, tokens) {
+        return Ok(Some(refusal));
+    }
+    tokens_full(alloc, image, tokens)
+}
+
 /// A movement is in flight, or one of some tokens is taken: what comes first.
 fn not_free(image: &Image, tokens: &[Token]) -> Option<Refusal>
     ensures { result ≡ first_of (not_idle image.now.sequences ∷ token_taken image.now tokens.now ∷ []) }
@@ -228,6 +275,69 @@ fn not_free(image: &Image, tokens: &[Token]) -> Option<Refusal>
         return Some(refusal);
     }
     token_taken(image, tokens)
+}
+
+/// The first refusal of a node that is to be registered under a name.
+fn register(image: &Image, name: &Name) -> Option<Refusal>
+    ensures { result ≡ first_of (name_taken image.now name.now ∷ nodes_full image.now ∷ []) }
+{
+    if let Some(refusal) = name_taken(image, name) {
+        return Some(refusal);
+    }
+    nodes_full(image)
+}
+
+/// The first refusal of a node that is to be removed.
+fn unregister(image: &Image, n: NodeId) -> Option<Refusal>
+    ensures { result ≡ first_of (no_node image.now n ∷ in_sequence image.now n ∷ wrong_state is_idle_or_left image.now n ∷ []) }
+{
+    if let Some(refusal) = no_node(image, n) {
+        return Some(refusal);
+    }
+    if let Some(refusal) = in_sequence(image, n) {
+        return Some(refusal);
+    }
+    wrong_state(image, n, is_idle_or_left)
+}
+
+/// The first refusal of a keyspace that is to be made or changed.
+fn keyspace(image: &Image, name: &Name) -> Option<Refusal>
+    ensures { result ≡ first_of (keyspaces_full image.now name.now ∷ not_idle image.now.sequences ∷ []) }
+{
+    if let Some(refusal) = keyspaces_full(image, name) {
+        return Some(refusal);
+    }
+    not_idle(image.sequences.as_slice())
+}
+
+/// The first refusal of a keyspace that is to be removed.
+fn drop_keyspace(image: &Image, name: &Name) -> Option<Refusal>
+    ensures { result ≡ first_of (no_keyspace image.now name.now ∷ not_idle image.now.sequences ∷ []) }
+{
+    if let Some(refusal) = no_keyspace(image, name) {
+        return Some(refusal);
+    }
+    not_idle(image.sequences.as_slice())
+}
+
+/// The first refusal of a movement that is to be cancelled.
+fn cancel(image: &Image, n: NodeId) -> Option<Refusal>
+    ensures { result ≡ first_of (no_node image.now n ∷ no_sequence image.now n ∷ []) }
+{
+    if let Some(refusal) = no_node(image, n) {
+        return Some(refusal);
+    }
+    no_sequence(image, n)
+}
+
+/// The first refusal of a step that a movement is to take.
+fn step(image: &Image, goal: Goal, kind: Kind, n: NodeId) -> Option<Refusal>
+    ensures { result ≡ first_of (no_node image.now n ∷ no_sequence image.now n ∷ wrong_step goal kind image.now n ∷ []) }
+{
+    if let Some(refusal) = cancel(image, n) {
+        return Some(refusal);
+    }
+    wrong_step(goal, kind, image, n)
 }
 
 /// The first refusal of tokens that a node is to get at once.
@@ -240,9 +350,11 @@ fn unsafe_join(
 ) -> Result<Option<Refusal>, Memory>
     ensures { IfOk result (λ found. found ≡ early_refusal_of image.now (command.UnsafeJoin node tokens.now)) }
 {
-    let early = not_ready(image, node).or_else(|| not_free(image, tokens));
-    if early.is_some() {
-        return Ok(early);
+    if let Some(refusal) = not_ready(image, node) {
+        return Ok(Some(refusal));
+    }
+    if let Some(refusal) = not_free(image, tokens) {
+        return Ok(Some(refusal));
     }
     tokens_full(alloc, image, tokens)
 }
@@ -257,19 +369,70 @@ fn prepare_join(
 ) -> Result<Option<Refusal>, Memory>
     ensures { IfOk result (λ found. found ≡ early_refusal_of image.now (command.PrepareJoin node tokens.now)) }
 {
-    let early = not_ready(image, node).or_else(|| token_taken(image, tokens));
-    if early.is_some() {
-        return Ok(early);
+    if let Some(refusal) = not_ready(image, node) {
+        return Ok(Some(refusal));
     }
-    tokens_full(alloc, image, tokens)
+    not_available(alloc, image, tokens)
+}
+
+/// The first refusal of a token that the one of a node is to be moved to.
+#[tactic(auto, unfolding(crate::specs::Refusals::early_refusal_of))]
+fn prepare_move(
+    alloc: Global,
+    image: &Image,
+    node: NodeId,
+    token: Token,
+) -> Result<Option<Refusal>, Memory>
+    ensures { IfOk result (λ found. found ≡ early_refusal_of image.now (command.PrepareMove node token)) }
+{
+    if let Some(refusal) = not_settled(image, node) {
+        return Ok(Some(refusal));
+    }
+    if let Some(refusal) = not_one_token(image, node)? {
+        return Ok(Some(refusal));
+    }
+    not_available(alloc, image, &[token])
+}
+
+/// The first refusal of a leave that is to be prepared.
+#[tactic(auto, unfolding(crate::specs::Refusals::early_refusal_of))]
+fn prepare_leave(alloc: Global, image: &Image, node: NodeId) -> Result<Option<Refusal>, Memory>
+    ensures { IfOk result (λ found. found ≡ early_refusal_of image.now (command.PrepareLeave node)) }
+{
+    if let Some(refusal) = not_settled(image, node) {
+        return Ok(Some(refusal));
+    }
+    too_few_nodes(alloc, image, node)
+}
+
+/// The first refusal of a replace that is to be prepared.
+#[tactic(auto, unfolding(crate::specs::Refusals::early_refusal_of))]
+fn prepare_replace(image: &Image, node: NodeId, gone: NodeId) -> Result<Option<Refusal>, Memory>
+    ensures { IfOk result (λ found. found ≡ early_refusal_of image.now (command.PrepareReplace node gone)) }
+{
+    if let Some(refusal) = not_both_free(image, node, gone) {
+        return Ok(Some(refusal));
+    }
+    if let Some(refusal) = wrong_state(image, node, is_idle) {
+        return Ok(Some(refusal));
+    }
+    if let Some(refusal) = no_tokens(image, gone) {
+        return Ok(Some(refusal));
+    }
+    other_rack(image, node, gone)
 }
 
 /// The first refusal of a command in an image, if it is refused there, but for that of locked ranges, which is the last
-/// one: the first that comes of the command's refusals in their order. None after it is looked for. A search for a node
-/// or a keyspace is one pass over the rows. For k tokens of a command the search for one that is taken is at most k
-/// passes over the pairs of the ring and those that movements bring. `Err` comes only where memory is wanting to count
-/// the tokens of such a command.
-#[tactic(auto, using(crate::proofs::RefusalLemmas::first_of_two), unfolding(crate::specs::Refusals::early_refusal_of))]
+/// one: the first that comes of the command's refusals in their order. None after it is looked for.
+///
+/// A search for a node or a keyspace is one pass over the rows. For k tokens of a command the search for one that is
+/// taken is at most k passes over the pairs of the ring and those that movements bring. For `PrepareLeave` the nodes
+/// with tokens are sorted once, and each costs one pass over the rows for each keyspace that names the datacenter of the
+/// node that is to leave.
+///
+/// `Err` comes where memory is wanting to count tokens or nodes or to copy the names of a refusal, and for a move of a
+/// node with 2^32 tokens or more.
+#[tactic(auto, unfolding(crate::specs::Refusals::early_refusal_of))]
 pub fn early_refusal(
     alloc: Global,
     image: &Image,
@@ -278,24 +441,18 @@ pub fn early_refusal(
     ensures { IfOk result (λ found. found ≡ early_refusal_of image.now command.now) }
 {
     match command {
-        Command::Register { name, .. } => Ok(name_taken(image, name).or_else(|| nodes_full(image))),
-        Command::Unregister { node } => {
-            let early = no_node(image, *node).or_else(|| in_sequence(image, *node));
-            Ok(early.or_else(|| wrong_state(image, *node, is_idle_or_left)))
-        }
+        Command::Register { name, .. } => Ok(register(image, name)),
+        Command::Unregister { node } => Ok(unregister(image, *node)),
         Command::UnsafeJoin { node, tokens } => unsafe_join(alloc, image, *node, tokens.as_slice()),
-        Command::Keyspace { name, .. } => {
-            Ok(keyspaces_full(image, name).or_else(|| not_idle(image.sequences.as_slice())))
-        }
-        Command::DropKeyspace { name } => {
-            Ok(no_keyspace(image, name).or_else(|| not_idle(image.sequences.as_slice())))
-        }
+        Command::Keyspace { name, .. } => Ok(keyspace(image, name)),
+        Command::DropKeyspace { name } => Ok(drop_keyspace(image, name)),
         Command::PrepareJoin { node, tokens } => {
             prepare_join(alloc, image, *node, tokens.as_slice())
         }
-        Command::Step { goal, kind, node } => {
-            let early = no_node(image, *node).or_else(|| no_sequence(image, *node));
-            Ok(early.or_else(|| wrong_step(*goal, *kind, image, *node)))
-        }
+        Command::PrepareMove { node, token } => prepare_move(alloc, image, *node, *token),
+        Command::PrepareLeave { node } => prepare_leave(alloc, image, *node),
+        Command::PrepareReplace { node, gone } => prepare_replace(image, *node, *gone),
+        Command::Cancel { node } => Ok(cancel(image, *node)),
+        Command::Step { goal, kind, node } => Ok(step(image, *goal, *kind, *node)),
     }
 }

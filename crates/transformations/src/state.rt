@@ -62,7 +62,7 @@ fn started_of(image: &Image, n: NodeId) -> Option<&SeqRow>
 }
 
 /// Whether one of some pairs is the node's.
-fn has_pair(pairs: &[Pair], n: NodeId) -> bool
+pub(crate) fn has_pair(pairs: &[Pair], n: NodeId) -> bool
     ensures { result ≡ list_any (λ p. p.node == n) pairs.now }
 {
     pairs.iter().any(|pair| pair.node == n)

@@ -1,24 +1,17 @@
-ghost use Rattle.std.specs.Prelude.{◌≡◌, ◌==◌};
+ghost use Rattle.std.specs.Prelude.{◌≡◌};
 ghost use Rattle.std.specs.Option.{option_copied};
-ghost use Rattle.std.specs.List.{list_any};
 ghost use Rattle.transformations.specs.Steps.{is_next_step, movement_of, phase_before, takes_part};
 
 use crate::image::Image;
 use crate::sequence::{Goal, Kind, Phase, SeqRow};
-use cluster_terms::{NodeId, Pair};
+use crate::state::has_pair;
+use cluster_terms::NodeId;
 
 /// The movement of a node. `None` comes exactly where it has none.
 pub fn movement_of(image: &Image, n: NodeId) -> Option<&SeqRow>
     ensures { option_copied result ≡ movement_of image.now n }
 {
     image.sequences.as_slice().iter().find(|row| row.node == n)
-}
-
-/// Whether one of some pairs is a node's.
-fn has_pair(pairs: &[Pair], n: NodeId) -> bool
-    ensures { result ≡ list_any (λ p. p.node == n) pairs.now }
-{
-    pairs.iter().any(|pair| pair.node == n)
 }
 
 /// Whether a node takes part in a movement: it is its node, or the one that it takes pairs from.

@@ -5,7 +5,7 @@ use crate::{
     early_refusal, fixed_ring, node_state, ring_with, widest,
 };
 use cluster_terms::{
-    Name, NodeId, NodeRow, Pair, PairList, Replication, Rf, SmallList, Token, TokenList,
+    Factors, Name, NodeId, NodeRow, Pair, PairList, Replication, Rf, SmallList, Token, TokenList,
 };
 use std::alloc::Global;
 use std::test::Fail;
@@ -17,6 +17,10 @@ enum Asked<'a> {
     Unregister(u32),
     Tokens(u32, &'a [i64]),
     Join(u32, &'a [i64]),
+    Move(u32, i64),
+    Leave(u32),
+    Replace(u32, u32),
+    Cancel(u32),
     Step(Goal, Kind, u32),
     Keyspace(&'a str),
     Drop(&'a str),
@@ -56,6 +60,20 @@ fn command_of(alloc: Global, asked: &Asked) -> Result<Command, Fail> {
             node: NodeId(*node),
             tokens: tokens_of(alloc, tokens)?,
         }),
+        Asked::Move(node, token) => Ok(Command::PrepareMove {
+            node: NodeId(*node),
+            token: Token::new(*token),
+        }),
+        Asked::Leave(node) => Ok(Command::PrepareLeave {
+            node: NodeId(*node),
+        }),
+        Asked::Replace(node, gone) => Ok(Command::PrepareReplace {
+            node: NodeId(*node),
+            gone: NodeId(*gone),
+        }),
+        Asked::Cancel(node) => Ok(Command::Cancel {
+            node: NodeId(*node),
+        }),
         Asked::Step(goal, kind, node) => Ok(Command::Step {
             goal: *goal,
             kind: *kind,
@@ -82,16 +100,27 @@ fn empty_image(alloc: Global) -> Image {
     }
 }
 
-fn add_node(alloc: Global, image: &mut Image, id: u32, name: &str, left: bool) -> Result<(), Fail> {
+fn add_node_at(
+    alloc: Global,
+    image: &mut Image,
+    id: u32,
+    name: &str,
+    place: (&str, &str),
+    left: bool,
+) -> Result<(), Fail> {
     let row = NodeRow {
         id: NodeId(id),
         name: name_of(alloc, name)?,
-        dc: name_of(alloc, "dc1")?,
-        rack: name_of(alloc, "r1")?,
+        dc: name_of(alloc, place.0)?,
+        rack: name_of(alloc, place.1)?,
         left,
     };
     image.nodes.push(row).map_err(|_| "memory")?;
     Ok(())
+}
+
+fn add_node(alloc: Global, image: &mut Image, id: u32, name: &str, left: bool) -> Result<(), Fail> {
+    add_node_at(alloc, image, id, name, ("dc1", "r1"), left)
 }
 
 fn add_keyspace(alloc: Global, image: &mut Image, name: &str) -> Result<(), Fail> {
@@ -134,9 +163,31 @@ fn add_movement(
     Ok(())
 }
 
+/// A leave of a node with one token that has started.
+fn add_leave(alloc: Global, image: &mut Image, node: u32, token: i64) -> Result<(), Fail> {
+    let mut out_pairs = PairList::empty(alloc);
+    add_pair(&mut out_pairs, token, node)?;
+    let row = SeqRow {
+        node: NodeId(node),
+        kind: Kind::Leave,
+        out_pairs,
+        in_pairs: PairList::empty(alloc),
+        phase: Phase::Started,
+    };
+    image.sequences.push(row).map_err(|_| "memory")?;
+    Ok(())
+}
+
 fn refusal(alloc: Global, image: &Image, asked: &Asked) -> Result<Option<Refusal>, Fail> {
     let command = command_of(alloc, asked)?;
     Ok(early_refusal(alloc, image, &command).map_err(|_| "memory")?)
+}
+
+/// Whether two refusals are the same, to the names that they hold.
+fn same(alloc: Global, found: &Option<Refusal>, wanted: &Option<Refusal>) -> Result<bool, Fail> {
+    let found = format!(in alloc; "{found:?}")?;
+    let wanted = format!(in alloc; "{wanted:?}")?;
+    Ok(found.as_str() == wanted.as_str())
 }
 
 fn wrong(state: NodeState) -> Option<Refusal> {
@@ -232,10 +283,124 @@ fn refusals_of_a_small_image(rt: HostRuntime) -> Result<(), Fail> {
     .enumerate()
     {
         let found = refusal(rt.alloc(), &image, asked)?;
-        assert_eq!(rt; found, *wanted, "row {at}");
+        assert!(rt; same(rt.alloc(), &found, wanted)?, "row {at}: {found:?}");
     }
     assert_eq!(rt; node_state(&image, NodeId(6)), Some(NodeState::Registered));
     assert_eq!(rt; node_state(&image, NodeId(7)), None);
+    Ok(())
+}
+
+/// A keyspace with so many replicas in one datacenter.
+fn topology(alloc: Global, name: &str, dc: &str, factor: u8) -> Result<KeyspaceRow, Fail> {
+    let rf = Rf::new(factor).ok_or("no factor")?;
+    let rows = [(name_of(alloc, dc)?, rf)];
+    let factors = Factors::from_rows(alloc, &rows).map_err(|_| "memory")?;
+    let replication = Replication::Topology(factors.ok_or("no factors")?);
+    let name = name_of(alloc, name)?;
+    Ok(KeyspaceRow { name, replication })
+}
+
+/// Nodes 1 to 9: node 5 stands in another rack, node 6 has left, and node 9 stands in another datacenter.
+fn nine_nodes(alloc: Global) -> Result<Image, Fail> {
+    let mut image = empty_image(alloc);
+    for (id, name, place, left) in [
+        (1, "a", ("dc1", "r1"), false),
+        (2, "b", ("dc1", "r1"), false),
+        (3, "c", ("dc1", "r1"), false),
+        (4, "d", ("dc1", "r1"), false),
+        (5, "e", ("dc1", "r2"), false),
+        (6, "f", ("dc1", "r1"), true),
+        (7, "g", ("dc1", "r1"), false),
+        (8, "h", ("dc1", "r1"), false),
+        (9, "i", ("dc2", "r1"), false),
+    ] {
+        add_node_at(alloc, &mut image, id, name, place, left)?;
+    }
+    Ok(image)
+}
+
+/// Node 1 at 0 and 50; nodes 2, 3, 8 and 9 at 100, 200, 300 and 400.
+fn add_pairs(image: &mut Image) -> Result<(), Fail> {
+    for (token, node) in [(0, 1), (50, 1), (100, 2), (200, 3), (300, 8), (400, 9)] {
+        add_pair(&mut image.tokens, token, node)?;
+    }
+    Ok(())
+}
+
+/// These nodes with these pairs, where a join of node 7 at 150 is prepared and a leave of node 8 has started. Of the
+/// keyspaces one has three replicas, and one four in the datacenter of the first nodes.
+fn image_of_movements(alloc: Global) -> Result<Image, Fail> {
+    let mut image = nine_nodes(alloc)?;
+    add_pairs(&mut image)?;
+    add_movement(alloc, &mut image, 7, Kind::Join, 150, Phase::Prepared)?;
+    add_leave(alloc, &mut image, 8, 300)?;
+    add_keyspace(alloc, &mut image, "ks")?;
+    let row = topology(alloc, "kt", "dc1", 4)?;
+    image.keyspaces.push(row).map_err(|_| "memory")?;
+    Ok(image)
+}
+
+#[test]
+fn refusals_of_moves_and_leaves(rt: HostRuntime) -> Result<(), Fail> {
+    let image = image_of_movements(rt.alloc())?;
+    let short = Some(Refusal::TooFewNodes(name_of(rt.alloc(), "kt")?));
+    for (at, (asked, wanted)) in [
+        (Asked::Move(12, 0), Some(Refusal::NoNode)),
+        (Asked::Move(7, 0), in_sequence(7)),
+        (Asked::Move(8, 0), in_sequence(8)),
+        (Asked::Move(4, 0), wrong(NodeState::Registered)),
+        (Asked::Move(6, 0), wrong(NodeState::Left)),
+        (Asked::Move(1, 100), Some(Refusal::NotOneToken(2))),
+        (Asked::Move(2, 100), taken(100)),
+        (Asked::Move(2, 150), taken(150)),
+        (Asked::Move(2, 260), None),
+        (Asked::Leave(12), Some(Refusal::NoNode)),
+        (Asked::Leave(7), in_sequence(7)),
+        (Asked::Leave(8), in_sequence(8)),
+        (Asked::Leave(4), wrong(NodeState::Registered)),
+        (Asked::Leave(6), wrong(NodeState::Left)),
+        (Asked::Leave(9), None),
+        (Asked::Cancel(12), Some(Refusal::NoNode)),
+        (Asked::Cancel(1), Some(Refusal::NoSequence)),
+        (Asked::Cancel(7), None),
+        (Asked::Cancel(8), None),
+    ]
+    .iter()
+    .enumerate()
+    {
+        let found = refusal(rt.alloc(), &image, asked)?;
+        assert!(rt; same(rt.alloc(), &found, wanted)?, "row {at}: {found:?}");
+    }
+    let found = refusal(rt.alloc(), &image, &Asked::Leave(1))?;
+    assert!(rt; same(rt.alloc(), &found, &short)?, "{found:?}");
+    Ok(())
+}
+
+#[test]
+fn refusals_of_replaces(rt: HostRuntime) -> Result<(), Fail> {
+    let image = image_of_movements(rt.alloc())?;
+    for (at, (asked, wanted)) in [
+        (Asked::Replace(12, 8), Some(Refusal::NoNode)),
+        (Asked::Replace(7, 12), Some(Refusal::NoNode)),
+        (Asked::Replace(7, 8), in_sequence(7)),
+        (Asked::Replace(1, 8), in_sequence(8)),
+        (Asked::Replace(4, 7), in_sequence(7)),
+        (Asked::Replace(1, 4), wrong(NodeState::Joined)),
+        (Asked::Replace(6, 4), wrong(NodeState::Left)),
+        (Asked::Replace(5, 4), Some(Refusal::NoTokens)),
+        (Asked::Replace(4, 2), None),
+    ]
+    .iter()
+    .enumerate()
+    {
+        let found = refusal(rt.alloc(), &image, asked)?;
+        assert!(rt; same(rt.alloc(), &found, wanted)?, "row {at}: {found:?}");
+    }
+    for (asked, dc) in [(Asked::Replace(5, 2), "dc1"), (Asked::Replace(4, 9), "dc2")] {
+        let wanted = Refusal::OtherRack(name_of(rt.alloc(), dc)?, name_of(rt.alloc(), "r1")?);
+        let found = refusal(rt.alloc(), &image, &asked)?;
+        assert!(rt; same(rt.alloc(), &found, &Some(wanted))?, "{found:?}");
+    }
     Ok(())
 }
 
@@ -268,8 +433,23 @@ fn what_there_is_at_most(rt: HostRuntime) -> Result<(), Fail> {
     .iter()
     .enumerate()
     {
-        assert_eq!(rt; refusal(rt.alloc(), &full, asked)?, *wanted, "row {at}");
-        assert_eq!(rt; refusal(rt.alloc(), &one_fewer, asked)?, None, "row {at}");
+        let found = refusal(rt.alloc(), &full, asked)?;
+        assert!(rt; same(rt.alloc(), &found, wanted)?, "row {at}: {found:?}");
+        assert!(rt;
+            refusal(rt.alloc(), &one_fewer, asked)?.is_none(),
+            "row {at}"
+        );
+    }
+    Ok(())
+}
+
+#[test]
+fn a_move_brings_a_token(rt: HostRuntime) -> Result<(), Fail> {
+    for (tokens, wanted) in [(16_382, None), (16_383, Some(Refusal::TokensFull))] {
+        let mut image = large_image(rt.alloc(), 2, 0, tokens)?;
+        add_pair(&mut image.tokens, 20_000, 2)?;
+        let found = refusal(rt.alloc(), &image, &Asked::Move(2, -1))?;
+        assert!(rt; same(rt.alloc(), &found, &wanted)?, "{found:?}");
     }
     Ok(())
 }
@@ -283,7 +463,7 @@ fn a_token_of_two_nodes_counts_once(rt: HostRuntime) -> Result<(), Fail> {
         ([-2, -1].as_slice(), Some(Refusal::TokensFull)),
     ] {
         let found = refusal(rt.alloc(), &image, &Asked::Join(2, tokens))?;
-        assert_eq!(rt; found, wanted);
+        assert!(rt; same(rt.alloc(), &found, &wanted)?, "{found:?}");
     }
     Ok(())
 }
@@ -296,16 +476,7 @@ fn have_tokens(pairs: &PairList, tokens: &[i64]) -> bool {
 /// The small image, where node 1 is to leave.
 fn image_with_a_leave(alloc: Global) -> Result<Image, Fail> {
     let mut image = small_image(alloc)?;
-    let mut out_pairs = PairList::empty(alloc);
-    add_pair(&mut out_pairs, 0, 1)?;
-    let row = SeqRow {
-        node: NodeId(1),
-        kind: Kind::Leave,
-        out_pairs,
-        in_pairs: PairList::empty(alloc),
-        phase: Phase::Started,
-    };
-    image.sequences.push(row).map_err(|_| "memory")?;
+    add_leave(alloc, &mut image, 1, 0)?;
     Ok(image)
 }
 

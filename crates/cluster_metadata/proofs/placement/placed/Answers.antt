@@ -5,5 +5,5 @@ use Rattle.cluster_metadata.proofs.placement.placed.Goals as goal
 -- the ring has the pairs, in another order
 pub returns : goal.returns
 returns c =
-    let same = place-permuted c.args.pairs.now c.in_ok-ring.ring c.in_ok-ring.ensures c.args.t (groups_of c.args.dir.now.rows c.args.replication.now) in
+    let same = place-permuted c.args.pairs.now c.in_ok-ring.ring c.in_ok-ring.ensures.pairs c.args.t (groups_of c.args.dir.now.rows c.args.replication.now) in
     rw same c.walked.ensures

@@ -10,3 +10,7 @@ pub returns-in-KeyspacesFull-clause-added : goal.returns-in-KeyspacesFull-clause
 unfolding refusal_text
 returns-in-KeyspacesFull-clause-added c =
     rw c.in-KeyspacesFull.is (MatchResult-weaker c.extend-in-KeyspacesFull.result c.extend-in-KeyspacesFull.ensures (λ x h. h) (λ y h. tt))
+
+pub returns-in-TooFewNodes-clause-added : goal.returns-in-TooFewNodes-clause-added
+unfolding refusal_text
+returns-in-TooFewNodes-clause-added c = rw c.in-TooFewNodes.is c.labelled-in-TooFewNodes.ensures.added

@@ -1,7 +1,9 @@
 use Rattle.std.proofs.Common.{◌≡◌, subst}
+use Rattle.transformations.specs.Meeting.{QuorumsMeet}
 use Rattle.transformations.specs.Ranges.{KeepsRanges}
 use Rattle.transformations.specs.Valid.{IsValid}
-use Rattle.cluster_metadata.proofs.OutcomeLemmas.{keeps_ranges, placed, rings, valid_after}
+use Rattle.cluster_metadata.proofs.DirectoryLemmas.{renewed}
+use Rattle.cluster_metadata.proofs.OutcomeLemmas.{keeps_ranges, placed, quorums_meet, rings, valid_after}
 use Rattle.cluster_metadata.proofs.metadata.Metadata.enact.Goals as goal
 
 -- the image that is made is valid
@@ -12,7 +14,11 @@ valid c =
     valid_after c.self.inside.image c.make.new.image _ _ permitted c.make.ensures.made c.self.invariant.0
 
 pub invariant_of-self : goal.invariant_of-self
-invariant_of-self c = (valid c, c.make.ensures.running)
+invariant_of-self c =
+    let same : c.permit.inside.image.value ≡ c.self.inside.image = cc in
+    let left = rw same at c.permit.invariant.3 in
+    let directory = renewed c.self.inside.image _ _ _ _ left c.self.invariant.2 c.renew.ensures in
+    (valid c, c.make.ensures.running, rw c.make.ensures.made directory)
 
 pub returns-clause-apart : goal.returns-clause-apart
 returns-clause-apart c = (valid c).apart
@@ -29,3 +35,11 @@ returns-clause-ranges c =
     let permitted = rw same at c.permit.invariant.0 in
     let kept = keeps_ranges c.self.inside.image c.make.new.image _ _ permitted c.make.ensures.made c.self.invariant.0 in
     subst (λ i. KeepsRanges i c.make.new.image) c.self.view_is kept
+
+pub returns-clause-meets : goal.returns-clause-meets
+returns-clause-meets c =
+    let same : c.permit.inside.image.value ≡ c.self.inside.image = cc in
+    let permitted = rw same at c.permit.invariant.0 in
+    let command : c.permit.inside.command.value ≡ c.args.permit.command = cc in
+    λ moves. subst (λ i. QuorumsMeet i c.make.new.image) c.self.view_is
+    (quorums_meet c.self.inside.image c.make.new.image _ _ permitted c.make.ensures.made c.self.invariant.0 c.replications.ensures (rw command moves))

@@ -1,0 +1,55 @@
+-- The movement that an accepted command prepares, and the change that it makes.
+use Rattle.std.proofs.Common.{◌≡◌, true, false, ◌==◌, List, Result, Ok, Err, IfOk, Option, Some, None, ap, sym, ◌∙◌}
+use Rattle.std.proofs.lemmas.Option.{none-some}
+use Rattle.std.specs.List.{AllByRecursion}
+use Rattle.cluster_terms.specs.declared.token.Pair.{Pair}
+use Rattle.transformations.proofs.BeginLemmas.{begin_new, may_begin}
+use Rattle.transformations.specs.History.{begun, is_command, next_image}
+use Rattle.transformations.specs.Refusals.{early_refusal_of, prepared_by}
+use Rattle.transformations.specs.Valid.{IsSound}
+use Rattle.transformations.specs.declared.command.Command.{Command}
+use Rattle.transformations.specs.declared.command.Command.TheVariants.{Register, Unregister, UnsafeJoin, Keyspace, DropKeyspace, PrepareJoin, PrepareMove, PrepareLeave, PrepareReplace, Step, Cancel}
+use Rattle.transformations.specs.declared.image.Image.{Image}
+use Rattle.transformations.specs.declared.sequence.Phase.TheVariants as phase
+use Rattle.transformations.specs.declared.sequence.SeqRow.{SeqRow}
+use Rattle.cluster_metadata.specs.Change.{Begins, IsChange}
+use Rattle.cluster_metadata.specs.declared.change.Change.{Change}
+
+-- it is prepared
+pub prepared_phase : (ring : List Pair) (c : Command) (row : SeqRow) → prepared_by ring c ≡ Some row → row.phase ≡ phase.Prepared
+prepared_phase ring (PrepareJoin n tokens) row h = cc h
+prepared_phase ring (PrepareMove n t) row h = cc h
+prepared_phase ring (PrepareLeave n) row h = cc h
+prepared_phase ring (PrepareReplace n gone) row h = cc h
+prepared_phase ring (Register name dc rack) row h = absurd (none-some row h)
+prepared_phase ring (Unregister n) row h = absurd (none-some row h)
+prepared_phase ring (UnsafeJoin n tokens) row h = absurd (none-some row h)
+prepared_phase ring (Keyspace name replication) row h = absurd (none-some row h)
+prepared_phase ring (DropKeyspace name) row h = absurd (none-some row h)
+prepared_phase ring (Step g kind n) row h = absurd (none-some row h)
+prepared_phase ring (Cancel n) row h = absurd (none-some row h)
+
+-- its node has no other movement
+pub prepared_new : (image : Image) (c : Command) (row : SeqRow) → IsSound image → is_command c ≡ true → early_refusal_of image c ≡ None → prepared_by image.tokens c ≡ Some row
+    → AllByRecursion (λ (s : SeqRow). (s.node == row.node) ≡ false) image.sequences
+prepared_new image c row sound formed early h = begin_new image row (may_begin image c row sound formed early h)
+
+-- the command begins it
+prepared_begun : (image : Image) (c : Command) (row : SeqRow) → prepared_by image.tokens c ≡ Some row → begun image row ≡ next_image image c
+unfolding next_image
+prepared_begun image (PrepareJoin n tokens) row h = ap (begun image) (sym (cc h))
+prepared_begun image (PrepareMove n t) row h = ap (begun image) (sym (cc h))
+prepared_begun image (PrepareLeave n) row h = ap (begun image) (sym (cc h))
+prepared_begun image (PrepareReplace n gone) row h = ap (begun image) (sym (cc h))
+prepared_begun image (Register name dc rack) row h = absurd (none-some row h)
+prepared_begun image (Unregister n) row h = absurd (none-some row h)
+prepared_begun image (UnsafeJoin n tokens) row h = absurd (none-some row h)
+prepared_begun image (Keyspace name replication) row h = absurd (none-some row h)
+prepared_begun image (DropKeyspace name) row h = absurd (none-some row h)
+prepared_begun image (Step g kind n) row h = absurd (none-some row h)
+prepared_begun image (Cancel n) row h = absurd (none-some row h)
+
+-- so a change that begins it is the command's
+pub prepares : (image : Image) (c : Command) (row : SeqRow) → prepared_by image.tokens c ≡ Some row → {E : Type 0} (result : Result Change E) → IfOk result (Begins image row) → IfOk result (IsChange image c)
+prepares image c row h (Ok change) begin = (begin.0 ∙ prepared_begun image c row h, begin.1)
+prepares image c row h (Err e) begin = begin

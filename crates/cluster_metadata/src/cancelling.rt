@@ -1,0 +1,38 @@
+//! The cancel of a movement.
+
+ghost use Rattle.std.specs.Prelude.{◌≡◌, None, IfOk};
+ghost use Rattle.std.specs.List.Sorted.{IsStrictlySortedBy};
+ghost use Rattle.transformations.specs.Orders.{by_node};
+ghost use Rattle.transformations.specs.Refusals.{early_refusal_of};
+ghost use Rattle.transformations.specs.Rings.{is_mid};
+ghost use Rattle.transformations.specs.declared.command.Command.TheVariants as command;
+ghost use Rattle.cluster_metadata.specs.Change.{IsChange};
+
+use crate::change::Change;
+use crate::stepping::{at_phase, others, place_of};
+use cluster_terms::{Memory, NodeId};
+use transformations::{Image, Phase};
+
+/// Whether a movement at a phase is half way.
+fn is_mid(phase: Phase) -> bool
+    ensures { result ≡ is_mid phase }
+{
+    matches!(phase, Phase::Mid)
+}
+
+/// The movement of a node is cancelled: half way it goes back to where it had started, and else it ends.
+pub fn cancel(image: &Image, node: NodeId) -> Result<Change, Memory>
+    requires movements { IsStrictlySortedBy by_node image.now.sequences }
+    requires accepted { early_refusal_of image.now (command.Cancel node) ≡ None }
+    ensures { IfOk result (IsChange image.now (command.Cancel node)) }
+{
+    let sequences = image.sequences.as_slice();
+    let at = place_of(sequences, node);
+    let row = &sequences[at];
+    if is_mid(row.phase) {
+        let row = at_phase(row, Phase::Started)?;
+        return Ok(Change::BroughtBack { at, row });
+    }
+    let sequences = others(image, node)?;
+    Ok(Change::Ended { at, sequences })
+}

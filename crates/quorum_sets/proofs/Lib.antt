@@ -1,0 +1,3 @@
+pub mod CommonNodes
+pub mod PartedLemmas
+pub mod PendingLemmas

@@ -1,0 +1,125 @@
+ghost use Rattle.std.specs.Prelude.{◌≡◌, ◌≤◌, ◌&&◌, not, filter, length, is_some, IfSome, IsSome};
+ghost use Rattle.std.specs.Option.{option_copied};
+ghost use Rattle.cluster_terms.specs.NodeRow.{row_of};
+ghost use Rattle.cluster_terms.specs.Quorum.{datacenter_of, local_sets, pending, quorum_of, read_need, within, write_need};
+ghost use Rattle.cluster_terms.specs.Replication.{rack_within, total_of};
+ghost use Rattle.node_sets.specs.NodeSets.{IsNodeSet, has_node};
+ghost use Rattle.quorum_sets.specs.Existing.{ExistTogether};
+
+use crate::needs::Quorum;
+use cluster_terms::{Factors, Name, NodeId, Replication, Rf};
+use node_directory::Directory;
+use node_sets::NodeSet;
+
+/// Half of the replicas that are asked for, rounded down, and one.
+fn quorum_of(total: u32) -> u32
+    ensures { result ≡ quorum_of total }
+{
+    total / 2 + 1
+}
+
+/// How many of the nodes that are written are pending: they aren't read.
+fn count_pending(reads: &NodeSet, writes: &NodeSet) -> usize
+    ensures count { result ≡ length (pending reads.now writes.now) }
+    ensures reads { IsNodeSet reads.now }
+    ensures writes { IsNodeSet writes.now }
+{
+    let _ = reads.ids();
+    writes.ids().iter().filter(|n| !reads.has(**n)).count()
+}
+
+/// The needs of QUORUM: of the reads half of all replicas that the replication asks for, rounded down, and one; of the
+/// writes as many, and the pending ones besides, which are written and not read (CEP-21's pending replicas).
+///
+/// Where each node that is read is written, there are as many nodes to write as a write needs exactly where there are as
+/// many to read as a read needs.
+///
+/// Takes no memory, and makes a binary search for each node that is written.
+#[tactic(auto, using(crate::proofs::PendingLemmas::few_pending))]
+pub fn quorum(reads: &NodeSet, writes: &NodeSet, replication: &Replication) -> Quorum
+    requires { length writes.now ≤ 1024 }
+    ensures read { result.read_need ≡ read_need (record { total = total_of replication.now; reads = reads.now; writes = writes.now }) }
+    ensures write { result.write_need ≡ write_need (record { total = total_of replication.now; reads = reads.now; writes = writes.now }) }
+    ensures exist { ExistTogether reads.now result.read_need writes.now result.write_need }
+{
+    let read_need = quorum_of(replication.total());
+    let pending = count_pending(reads, writes) as u32;
+    Quorum {
+        read_need,
+        write_need: read_need + pending,
+    }
+}
+
+/// Whether a node stands in a datacenter.
+fn is_within(dir: &Directory, dc: &Name, n: NodeId) -> bool
+    ensures { result ≡ is_some (rack_within dc.now (row_of dir.now.rows n)) }
+{
+    match dir.place_of(n) {
+        Some((of, _rack)) => of.as_str() == dc.as_str(),
+        None => false,
+    }
+}
+
+/// How many of the nodes that are written stand in a datacenter and are pending.
+fn count_local_pending(reads: &NodeSet, writes: &NodeSet, dir: &Directory, dc: &Name) -> usize
+    ensures count { result ≡ length (filter (λ n. is_some (rack_within dc.now (row_of dir.now.rows n)) && not (has_node reads.now n)) writes.now) }
+    ensures reads { IsNodeSet reads.now }
+    ensures writes { IsNodeSet writes.now }
+{
+    let _ = reads.ids();
+    writes
+        .ids()
+        .iter()
+        .filter(|n| is_within(dir, dc, **n) && !reads.has(**n))
+        .count()
+}
+
+/// The row of a datacenter, where it is named.
+pub(crate) fn row_of_datacenter<'a>(factors: &'a Factors, dc: &Name) -> Option<&'a (Name, Rf)>
+    ensures { option_copied result ≡ datacenter_of factors.now dc.now }
+{
+    factors
+        .rows()
+        .iter()
+        .find(|row| row.0.as_str() == dc.as_str())
+}
+
+/// The factor of a datacenter that is named.
+fn factor_of(factors: &Factors, dc: &Name) -> Rf
+    requires { IsSome (datacenter_of factors.now dc.now) }
+    ensures { IfSome (datacenter_of factors.now dc.now) (λ f. result ≡ f.1) }
+{
+    match row_of_datacenter(factors, dc) {
+        Some(row) => row.1,
+        None => unreachable!(),
+    }
+}
+
+/// The needs of LOCAL_QUORUM in a datacenter: those of its own factor, among its own nodes that are read and written.
+///
+/// Where each of its nodes that is read is written, there are as many of them to write as a write needs exactly where
+/// there are as many to read as a read needs.
+///
+/// Takes no memory. Each node that is written costs a look-up of its row and a binary search.
+#[tactic(auto, using(crate::proofs::PendingLemmas::few_kept))]
+pub fn local_quorum(
+    reads: &NodeSet,
+    writes: &NodeSet,
+    dir: &Directory,
+    factors: &Factors,
+    dc: &Name,
+) -> Quorum
+    requires few { length writes.now ≤ 1024 }
+    requires named { IsSome (datacenter_of factors.now dc.now) }
+    ensures read { IfSome (datacenter_of factors.now dc.now) (λ f. result.read_need ≡ read_need (local_sets dir.now.rows f reads.now writes.now)) }
+    ensures write { IfSome (datacenter_of factors.now dc.now) (λ f. result.write_need ≡ write_need (local_sets dir.now.rows f reads.now writes.now)) }
+    ensures exist { ExistTogether (within dir.now.rows dc.now reads.now) result.read_need (within dir.now.rows dc.now writes.now) result.write_need }
+{
+    let rf = factor_of(factors, dc);
+    let read_need = quorum_of(u32::from(rf.value()));
+    let pending = count_local_pending(reads, writes, dir, dc) as u32;
+    Quorum {
+        read_need,
+        write_need: read_need + pending,
+    }
+}

@@ -1,0 +1,12 @@
+//! How many replicas the quorums of reads and writes need.
+#![tactic(auto)]
+
+mod counting;
+mod needs;
+#[cfg(test)]
+mod tests;
+mod validity;
+
+pub use counting::{local_quorum, quorum};
+pub use needs::Quorum;
+pub use validity::counting_tells;

@@ -1,0 +1,6 @@
+/// How many of the replicas that are read a read needs, and how many of those that are written a write needs.
+#[derive(Clone, Copy, Debug, PartialEq, Eq)]
+pub struct Quorum {
+    pub read_need: u32,
+    pub write_need: u32,
+}

@@ -1,0 +1,18 @@
+use Rattle.std.proofs.Common.{◌≡◌, refl, sym, subst}
+use Rattle.std.proofs.lemmas.Result.{IfOk-weaker}
+use Rattle.transformations.proofs.SoundLemmas.{sound_prepared}
+use Rattle.transformations.specs.Refusals.{with_movement}
+use Rattle.transformations.specs.Steps.{leave_of}
+use Rattle.transformations.specs.Valid.{IsSound}
+use Rattle.transformations.specs.declared.command.Command.TheVariants.{PrepareLeave}
+use Rattle.transformations.specs.declared.sequence.SeqRow.{SeqRow}
+use Rattle.sequence_rows.proofs.leaves.leave_row.Goals as goal
+
+-- the row is the leave's, with which the image stays sound
+pub returns-clause-sound : goal.returns-clause-sound
+returns-clause-sound c =
+    let image = c.args.image.now in
+    let row_of : SeqRow = leave_of image.tokens c.args.node in
+    let sound : IsSound (with_movement image row_of) = sound_prepared image (PrepareLeave c.args.node) row_of c.requires.sound refl c.requires.early refl in
+    IfOk-weaker c.leave_with.result (λ (row : SeqRow). row ≡ leave_of c.as_slice.result.now c.args.node) (λ (row : SeqRow). IsSound (with_movement image row))
+    (λ row same. subst (λ (s : SeqRow). IsSound (with_movement image s)) (sym (rw c.as_slice.ensures at same)) sound) c.leave_with.ensures

@@ -1,0 +1,38 @@
+ghost use Rattle.std.specs.Prelude.{◌≡◌, None, IfOk};
+ghost use Rattle.transformations.specs.Refusals.{early_refusal_of, with_movement};
+ghost use Rattle.transformations.specs.Steps.{leave_of};
+ghost use Rattle.transformations.specs.Valid.{IsSound};
+ghost use Rattle.transformations.specs.declared.command.Command.TheVariants as command;
+
+use crate::pairs::owned;
+use cluster_terms::{Memory, NodeId, Pair, PairList};
+use std::alloc::Global;
+use transformations::{Image, Kind, Phase, SeqRow};
+
+/// The row of a leave that is prepared.
+fn leave_with(alloc: Global, ring: &[Pair], node: NodeId) -> Result<SeqRow, Memory>
+    ensures { IfOk result (λ row. row ≡ leave_of ring.now node) }
+{
+    let out_pairs = owned(alloc, ring, node)?;
+    let in_pairs = PairList::empty(alloc);
+    Ok(SeqRow {
+        node,
+        kind: Kind::Leave,
+        out_pairs,
+        in_pairs,
+        phase: Phase::Prepared,
+    })
+}
+
+/// The row of a leave that is prepared: it takes the node's pairs out, and puts none
+/// in. The image stays sound with
+/// it, since it refuses the leave for its locked ranges at most. `Err` comes only where memory is wanting for the row's
+/// pairs.
+pub fn leave_row(alloc: Global, image: &Image, node: NodeId) -> Result<SeqRow, Memory>
+    requires sound { IsSound image.now }
+    requires early { early_refusal_of image.now (command.PrepareLeave node) ≡ None }
+    ensures row { IfOk result (λ row. row ≡ leave_of image.now.tokens node) }
+    ensures sound { IfOk result (λ row. IsSound (with_movement image.now row)) }
+{
+    leave_with(alloc, image.tokens.as_slice(), node)
+}

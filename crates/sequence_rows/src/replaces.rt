@@ -1,0 +1,43 @@
+ghost use Rattle.std.specs.Prelude.{◌≡◌, None, IfOk};
+ghost use Rattle.transformations.specs.Refusals.{early_refusal_of, with_movement};
+ghost use Rattle.transformations.specs.Steps.{replace_of};
+ghost use Rattle.transformations.specs.Valid.{IsSound};
+ghost use Rattle.transformations.specs.declared.command.Command.TheVariants as command;
+
+use crate::pairs::{handed_over, owned};
+use cluster_terms::{Memory, NodeId, Pair};
+use std::alloc::Global;
+use transformations::{Image, Kind, Phase, SeqRow};
+
+/// The row of a replace that is prepared.
+fn replace_with(alloc: Global, ring: &[Pair], node: NodeId, gone: NodeId) -> Result<SeqRow, Memory>
+    ensures { IfOk result (λ row. row ≡ replace_of ring.now node gone) }
+{
+    let out_pairs = owned(alloc, ring, gone)?;
+    let in_pairs = handed_over(alloc, out_pairs.as_slice(), node)?;
+    Ok(SeqRow {
+        node,
+        kind: Kind::Replace,
+        out_pairs,
+        in_pairs,
+        phase: Phase::Prepared,
+    })
+}
+
+/// The row of a replace that is prepared: it takes the pairs of the node that is gone
+/// out, and puts the same tokens in with the new node. The image stays sound with
+/// it, since it refuses the replace for its locked ranges at most. `Err` comes only where memory is wanting for the row's
+/// pairs.
+pub fn replace_row(
+    alloc: Global,
+    image: &Image,
+    node: NodeId,
+    gone: NodeId,
+) -> Result<SeqRow, Memory>
+    requires sound { IsSound image.now }
+    requires early { early_refusal_of image.now (command.PrepareReplace node gone) ≡ None }
+    ensures row { IfOk result (λ row. row ≡ replace_of image.now.tokens node gone) }
+    ensures sound { IfOk result (λ row. IsSound (with_movement image.now row)) }
+{
+    replace_with(alloc, image.tokens.as_slice(), node, gone)
+}

@@ -1,0 +1,5 @@
+use Rattle.tcm_session.proofs.PrintedLemmas.{prints_meeting}
+use Rattle.tcm_session.proofs.program.run.Goals as goal
+
+pub returns-in-Err-clause-quorums : goal.returns-in-Err-clause-quorums
+returns-in-Err-clause-quorums g c = prints_meeting _ _ _ _ c.in-Err.ensures.part

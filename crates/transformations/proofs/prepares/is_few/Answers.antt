@@ -1,0 +1,14 @@
+use Rattle.std.proofs.Common.{ℕ, ◌&&◌, List, ap, ◌∙◌, filter, length, nat_le}
+use Rattle.std.specs.List.{list_any}
+use Rattle.transformations.proofs.CountedLemmas.{few_topology}
+use Rattle.transformations.specs.Counted.{is_in}
+use Rattle.transformations.proofs.prepares.is_few.Goals as goal
+
+pub returns-in-Topology : goal.returns-in-Topology
+returns-in-Topology c =
+    let nodes = c.args.nodes.now in
+    let ids = c.args.ids.now in
+    let n = c.args.n in
+    c.is_short_in_any.ensures
+    ∙ ap (list_any (λ (f : List ℕ × ℕ). is_in nodes f.0 n && nat_le (length (filter (is_in nodes f.0) ids)) f.1)) c.rows.ensures.rows
+    ∙ few_topology nodes ids n c.args.row.now c.in-Topology.factors c.in-Topology.is

@@ -1,0 +1,24 @@
+-- Groups of replicas, where the nodes with tokens are counted once for all of them.
+use Rattle.std.specs.Prelude.{ℕ, Bool, ◌&&◌, List, filter, length, is_some, nat_eq, nat_le, ◌≡◌}
+use Rattle.std.specs.List.{list_any}
+use Rattle.std.specs.Set.{distinct_count}
+use Rattle.cluster_terms.specs.Group.{Group}
+use Rattle.cluster_terms.specs.NodeRow.{row_of}
+use Rattle.cluster_terms.specs.Replication.{groups_of, rack_within}
+use Rattle.cluster_terms.specs.declared.node.NodeRow.{NodeRow}
+use Rattle.transformations.specs.declared.keyspace.KeyspaceRow.{KeyspaceRow}
+
+-- whether a node stands in a datacenter
+abbrev pub is_in : List NodeRow → List ℕ → ℕ → Bool
+is_in nodes dc n = is_some (rack_within dc (row_of nodes n))
+
+-- some nodes are others, each once: so many of them pass a test as different ones of the others do
+abbrev pub IsOnce : List ℕ → List ℕ → Type 0
+IsOnce ids nodes = (test : ℕ → Bool) → length (filter test ids) ≡ distinct_count nat_eq (filter test nodes)
+
+-- whether a group of a node has no more of these nodes than it is to have replicas; and a keyspace with such a group
+abbrev pub is_short_of : List ℕ → ℕ → Group → Bool
+is_short_of ids n g = is_some (g.rack_of n) && nat_le (length (filter (λ m. is_some (g.rack_of m)) ids)) g.rf
+
+abbrev pub is_few_of : List NodeRow → List ℕ → ℕ → KeyspaceRow → Bool
+is_few_of nodes ids n k = list_any (is_short_of ids n) (groups_of nodes k.replication)

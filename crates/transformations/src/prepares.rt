@@ -1,0 +1,153 @@
+//! Why a movement is not prepared.
+
+ghost use Rattle.std.specs.Prelude.{◌≡◌, ◌&&◌, ◌==◌, filter, find, length, nat_le, IfOk};
+ghost use Rattle.std.specs.List.{list_any};
+ghost use Rattle.std.specs.Option.{option_copied};
+ghost use Rattle.cluster_terms.specs.Group.{nodes_of};
+ghost use Rattle.transformations.specs.Counted.{IsOnce, is_few_of, is_in};
+ghost use Rattle.transformations.specs.Refusals.{no_tokens, not_one_token, other_rack, same_place, too_few_nodes};
+
+use crate::image::Image;
+use crate::keyspace::KeyspaceRow;
+use crate::refusal::Refusal;
+use crate::refusals::refused_if;
+use crate::state::{has_pair, row_of};
+use cluster_terms::{Memory, Name, NodeId, NodeRow, Pair, Replication, Rf, TryCopy};
+use std::alloc::Global;
+
+/// The node that is to be replaced has no token.
+pub(crate) fn no_tokens(image: &Image, gone: NodeId) -> Option<Refusal>
+    ensures { result ≡ no_tokens image.now gone }
+{
+    refused_if(!has_pair(image.tokens.as_slice(), gone), Refusal::NoTokens)
+}
+
+/// How many tokens a node has.
+fn count_tokens(image: &Image, n: NodeId) -> usize
+    ensures { result ≡ length (filter (λ p. p.node == n) image.now.tokens) }
+{
+    image
+        .tokens
+        .as_slice()
+        .iter()
+        .filter(|pair| pair.node == n)
+        .count()
+}
+
+/// The node doesn't have one token: how many it has is shown. `Err` comes exactly where they are 2^32 or more.
+#[tactic(auto, using(crate::proofs::CountedLemmas::not_one_counted))]
+pub(crate) fn not_one_token(image: &Image, n: NodeId) -> Result<Option<Refusal>, Memory>
+    ensures { IfOk result (λ found. found ≡ not_one_token image.now n) }
+{
+    let Ok(count) = u32::try_from(count_tokens(image, n)) else {
+        return Err(Memory);
+    };
+    Ok(refused_if(count != 1, Refusal::NotOneToken(count)))
+}
+
+/// Whether two nodes stand in the same datacenter and rack.
+fn same_place(row: &NodeRow, gone: &NodeRow) -> bool
+    ensures { result ≡ same_place row.now gone.now }
+{
+    row.dc.as_str() == gone.dc.as_str() && row.rack.as_str() == gone.rack.as_str()
+}
+
+/// The node that is to be replaced stands in another datacenter or rack, which are shown.
+pub(crate) fn other_rack(image: &Image, n: NodeId, gone: NodeId) -> Result<Option<Refusal>, Memory>
+    ensures { IfOk result (λ found. found ≡ other_rack image.now n gone) }
+{
+    let Some(left) = row_of(image.nodes.as_slice(), gone) else {
+        return Ok(None);
+    };
+    let Some(row) = row_of(image.nodes.as_slice(), n) else {
+        return Ok(None);
+    };
+    if same_place(row, left) {
+        return Ok(None);
+    }
+    let dc = left.dc.copy()?;
+    let rack = left.rack.copy()?;
+    Ok(Some(Refusal::OtherRack(dc, rack)))
+}
+
+/// The nodes of some pairs.
+fn nodes_of(alloc: Global, pairs: &[Pair]) -> Result<Vec<NodeId>, Memory>
+    ensures { IfOk result (λ nodes. nodes.items ≡ nodes_of pairs.now) }
+{
+    Ok(pairs.iter().map(|pair| pair.node).collect(alloc)?)
+}
+
+/// Some nodes, each once, ascending.
+fn each_once(mut nodes: Vec<NodeId>) -> Vec<NodeId>
+    ensures { IsOnce result.items nodes.items }
+{
+    nodes.sort_unstable();
+    nodes.dedup();
+    nodes
+}
+
+/// Whether a node stands in a datacenter.
+fn is_in(nodes: &[NodeRow], dc: &Name, n: NodeId) -> bool
+    ensures { result ≡ is_in nodes.now dc.now n }
+{
+    row_of(nodes, n).is_some_and(|row| row.dc.as_str() == dc.as_str())
+}
+
+/// How many of some nodes stand in a datacenter.
+fn count_in(nodes: &[NodeRow], dc: &Name, ids: &[NodeId]) -> usize
+    ensures { result ≡ length (filter (is_in nodes.now dc.now) ids.now) }
+{
+    ids.iter().filter(|n| is_in(nodes, dc, **n)).count()
+}
+
+/// Whether the datacenter of a node has no more of some nodes than it is to have replicas.
+fn is_short_in(nodes: &[NodeRow], ids: &[NodeId], n: NodeId, row: &(Name, Rf)) -> bool
+    ensures { result ≡ (is_in nodes.now row.now.0 n && nat_le (length (filter (is_in nodes.now row.now.0) ids.now)) row.now.1) }
+{
+    is_in(nodes, &row.0, n) && count_in(nodes, &row.0, ids) <= usize::from(row.1.value())
+}
+
+/// Whether one of some datacenters, which is that of a node, has no more of some nodes than it is to have replicas.
+fn is_short_in_any(nodes: &[NodeRow], ids: &[NodeId], n: NodeId, rows: &[(Name, Rf)]) -> bool
+    ensures { result ≡ list_any (λ row. is_in nodes.now row.0 n && nat_le (length (filter (is_in nodes.now row.0) ids.now)) row.1) rows.now }
+{
+    rows.iter().any(|row| is_short_in(nodes, ids, n, row))
+}
+
+/// Whether a group of a node has no more of some nodes than it is to have replicas.
+#[tactic(auto, using(crate::proofs::CountedLemmas::few_simple, crate::proofs::CountedLemmas::few_topology))]
+fn is_few(nodes: &[NodeRow], ids: &[NodeId], n: NodeId, row: &KeyspaceRow) -> bool
+    ensures { result ≡ is_few_of nodes.now ids.now n row.now }
+{
+    match &row.replication {
+        Replication::Simple(rf) => ids.len() <= usize::from(rf.value()),
+        Replication::Topology(factors) => is_short_in_any(nodes, ids, n, factors.rows()),
+    }
+}
+
+/// The first keyspace in which a group of a node has no more of some nodes than it is to have replicas.
+fn first_few<'a>(image: &'a Image, ids: &[NodeId], n: NodeId) -> Option<&'a KeyspaceRow>
+    ensures { option_copied result ≡ find (is_few_of image.now.nodes ids.now n) image.now.keyspaces }
+{
+    let nodes = image.nodes.as_slice();
+    let keyspaces = image.keyspaces.as_slice();
+    keyspaces.iter().find(|row| is_few(nodes, ids, n, row))
+}
+
+/// A group of the node has no more nodes with tokens than it is to have replicas: the first keyspace of which this
+/// holds is shown. The nodes of the ring are sorted once. Each of them then costs one pass over the rows for each
+/// keyspace that names the datacenter of the node.
+#[tactic(auto, using(crate::proofs::CountedLemmas::too_few_found, crate::proofs::CountedLemmas::too_few_none))]
+pub(crate) fn too_few_nodes(
+    alloc: Global,
+    image: &Image,
+    n: NodeId,
+) -> Result<Option<Refusal>, Memory>
+    ensures { IfOk result (λ found. found ≡ too_few_nodes image.now n) }
+{
+    let ids = each_once(nodes_of(alloc, image.tokens.as_slice())?);
+    let Some(row) = first_few(image, &ids, n) else {
+        return Ok(None);
+    };
+    Ok(Some(Refusal::TooFewNodes(row.name.copy()?)))
+}
