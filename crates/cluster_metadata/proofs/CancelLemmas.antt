@@ -1,12 +1,12 @@
 -- What an accepted cancel says of the movements, and the changes that it makes.
-use Rattle.std.proofs.Common.{◌≡◌, ℕ, ◌+◌, ◌<◌, Bool, true, false, not, true≢false, cond, List, [], ◌∷◌, length, map, get_or, Option, Some, None, IsSome, is_some, option_map, refl, sym, ap, ◌∙◌}
+use Rattle.std.proofs.Common.{◌≡◌, ℕ, ◌+◌, ◌<◌, Bool, true, false, not, true≢false, cond, List, [], ◌∷◌, length, map, get_or, Some, None, IsSome, is_some, option_map, refl, sym, ap, ◌∙◌}
 use Rattle.std.specs.List.{remove, slice_get}
 use Rattle.std.specs.List.Sorted.{IsStrictlySortedBy}
 use Rattle.transformations.specs.History.{next_image}
 use Rattle.transformations.specs.Orders.{by_node}
 use Rattle.transformations.specs.Refusals.{early_refusal_of, no_node, no_sequence}
 use Rattle.transformations.specs.Rings.{is_mid}
-use Rattle.transformations.specs.Steps.{at_phase, movement_of, others, same_phase, sequences_without}
+use Rattle.transformations.specs.Steps.{at_phase, movement_of, others, same_phase, sequences_after_cancel}
 use Rattle.transformations.specs.declared.command.Command.TheVariants.{Cancel}
 use Rattle.transformations.specs.declared.image.Image.{Image}
 use Rattle.transformations.specs.declared.refusal.Refusal.TheVariants.{NoSequence}
@@ -42,10 +42,10 @@ module _ (image : Image) (n : ℕ) (at : ℕ) (s : SeqRow) (up : IsStrictlySorte
   with_rows rows = record image { epoch = image.epoch + 1; sequences = rows }
 
   -- what is left is chosen by whether it is half way
-  left : (b : Bool) → is_mid s.phase ≡ b → sequences_without image.sequences n (movement_of image n) ≡ cond b (map (at_phase phase.Started n) image.sequences) (others image.sequences n)
+  left : (b : Bool) → is_mid s.phase ≡ b → sequences_after_cancel image.sequences n (movement_of image n) ≡ cond b (map (at_phase phase.Started n) image.sequences) (others image.sequences n)
   left b is =
       let chosen : Bool → List SeqRow = λ b. cond b (map (at_phase phase.Started n) image.sequences) (others image.sequences n) in
-      ap (sequences_without image.sequences n) (found image n at s up within here place) ∙ ap chosen (mid_same s.phase ∙ is)
+      ap (sequences_after_cancel image.sequences n) (found image n at s up within here place) ∙ ap chosen (mid_same s.phase ∙ is)
 
   -- half way it goes back
   pub brought_back : (row : SeqRow) → is_mid s.phase ≡ true → row ≡ in_phase phase.Started s → IsChange image (Cancel n) (BroughtBack at row)

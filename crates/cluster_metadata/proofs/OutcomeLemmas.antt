@@ -5,7 +5,7 @@ use Rattle.transformations.proofs.OutcomeLemmas.{are_outcomes, placed_by_ranges}
 use Rattle.transformations.proofs.RangesKept.{ranges_kept}
 use Rattle.transformations.proofs.ValidLemmas.{valid_next}
 use Rattle.transformations.specs.History.{next_image}
-use Rattle.transformations.specs.Meeting.{HaveReplications, QuorumsMeet, is_movement}
+use Rattle.transformations.specs.Meeting.{HaveReplications, QuorumsMeet, makes_movement_epoch}
 use Rattle.transformations.specs.Ranges.{AreOutcomes, KeepsRanges, PlacedByRanges}
 use Rattle.transformations.specs.Valid.{IsValid}
 use Rattle.transformations.specs.declared.command.Command.{Command}
@@ -31,6 +31,6 @@ module _ (image after : Image) (c : Command) (change : Change) (permitted : IsPe
   keeps_ranges = subst (λ i. KeepsRanges image i) leads (ranges_kept image c valid permitted.formed permitted.accepted)
 
   -- the quorums of both meet where the command makes a movement epoch
-  pub quorums_meet : HaveReplications image → is_movement c ≡ true → QuorumsMeet image after
+  pub quorums_meet : HaveReplications image → makes_movement_epoch c ≡ true → QuorumsMeet image after
   quorums_meet have moves =
       subst (λ i. QuorumsMeet image i) leads (meet_next image c valid have permitted.formed permitted.accepted moves permitted.room)

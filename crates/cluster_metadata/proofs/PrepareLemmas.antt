@@ -1,8 +1,7 @@
 -- The movement that an accepted command prepares, and the change that it makes.
-use Rattle.std.proofs.Common.{◌≡◌, true, false, ◌==◌, List, Result, Ok, Err, IfOk, Option, Some, None, ap, sym, ◌∙◌}
+use Rattle.std.proofs.Common.{◌≡◌, true, false, ◌==◌, Result, Ok, Err, IfOk, Some, None, ap, sym, ◌∙◌}
 use Rattle.std.proofs.lemmas.Option.{none-some}
 use Rattle.std.specs.List.{AllByRecursion}
-use Rattle.cluster_terms.specs.declared.token.Pair.{Pair}
 use Rattle.transformations.proofs.BeginLemmas.{begin_new, may_begin}
 use Rattle.transformations.specs.History.{begun, is_command, next_image}
 use Rattle.transformations.specs.Refusals.{early_refusal_of, prepared_by}
@@ -10,24 +9,9 @@ use Rattle.transformations.specs.Valid.{IsSound}
 use Rattle.transformations.specs.declared.command.Command.{Command}
 use Rattle.transformations.specs.declared.command.Command.TheVariants.{Register, Unregister, UnsafeJoin, Keyspace, DropKeyspace, PrepareJoin, PrepareMove, PrepareLeave, PrepareReplace, Step, Cancel}
 use Rattle.transformations.specs.declared.image.Image.{Image}
-use Rattle.transformations.specs.declared.sequence.Phase.TheVariants as phase
 use Rattle.transformations.specs.declared.sequence.SeqRow.{SeqRow}
 use Rattle.cluster_metadata.specs.Change.{Begins, IsChange}
 use Rattle.cluster_metadata.specs.declared.change.Change.{Change}
-
--- it is prepared
-pub prepared_phase : (ring : List Pair) (c : Command) (row : SeqRow) → prepared_by ring c ≡ Some row → row.phase ≡ phase.Prepared
-prepared_phase ring (PrepareJoin n tokens) row h = cc h
-prepared_phase ring (PrepareMove n t) row h = cc h
-prepared_phase ring (PrepareLeave n) row h = cc h
-prepared_phase ring (PrepareReplace n gone) row h = cc h
-prepared_phase ring (Register name dc rack) row h = absurd (none-some row h)
-prepared_phase ring (Unregister n) row h = absurd (none-some row h)
-prepared_phase ring (UnsafeJoin n tokens) row h = absurd (none-some row h)
-prepared_phase ring (Keyspace name replication) row h = absurd (none-some row h)
-prepared_phase ring (DropKeyspace name) row h = absurd (none-some row h)
-prepared_phase ring (Step g kind n) row h = absurd (none-some row h)
-prepared_phase ring (Cancel n) row h = absurd (none-some row h)
 
 -- its node has no other movement
 pub prepared_new : (image : Image) (c : Command) (row : SeqRow) → IsSound image → is_command c ≡ true → early_refusal_of image c ≡ None → prepared_by image.tokens c ≡ Some row

@@ -1,13 +1,11 @@
 -- The values of the movements, by the place of their rows.
-use Rattle.std.proofs.Common.{◌≡◌, ℕ, suc, zero, ◌<◌, false, List, [], ◌∷◌, length, map, get_or, set, Option, Some, None, option_map, refl, sym, ap, ◌∙◌, subst, arith}
+use Rattle.std.proofs.Common.{◌≡◌, ℕ, suc, zero, ◌<◌, List, [], ◌∷◌, length, map, get_or, set, Some, refl, sym, ap, ◌∙◌, subst, arith}
 use Rattle.std.proofs.lemmas.List.{map-set}
 use Rattle.std.proofs.lemmas.Option.{none-some}
 use Rattle.std.specs.List.{insert, remove, slice_get}
-use Rattle.transformations.specs.Rings.{is_mid}
 use Rattle.transformations.specs.declared.sequence.Phase.{Phase}
-use Rattle.transformations.specs.declared.sequence.Phase.TheVariants as mid
 use Rattle.transformations.specs.declared.sequence.SeqRow.{SeqRow}
-use Rattle.cluster_metadata.specs.Change.{StandsAt, StandsBeforeMid, in_phase}
+use Rattle.cluster_metadata.specs.Change.{in_phase}
 use Rattle.cluster_metadata.specs.Running.{IsRunning, phase_of, row_of}
 use Rattle.cluster_metadata.specs.declared.running.Running.{Running}
 
@@ -82,19 +80,3 @@ module _ (rows : List SeqRow) (rs : List Running) (at : ℕ) (row : SeqRow) (is 
       let now : row_of new ≡ row = after ∙ ap (in_phase q) was ∙ same in
       let P : List Running → Type 0 = λ l. IsRunning (set rows at row) l in
       subst P (sym (put_back rs at new (place_within rows rs at (in_phase p row) is found))) (running_set rows rs at row new is now (next ∙ sym goes))
-
--- one that is half way is at the phase of its type
-pub mid_at : (rows : List SeqRow) (rs : List Running) (at : ℕ) (r : Running) → IsRunning rows rs → StandsAt rows at mid.Mid → r ≡ get_or rs at r → (at < length rs) × (phase_of r ≡ mid.Mid)
-mid_at rows rs at r is stands here = by (slice_get rows at) refl stands
-  where
-    by : (o : Option SeqRow) → slice_get rows at ≡ o → option_map phase o ≡ Some mid.Mid → (at < length rs) × (phase_of r ≡ mid.Mid)
-    by None e h = absurd (none-some mid.Mid h)
-    by (Some s) e h = (place_within rows rs at s is e, (value_at rows rs at s r is e here).1 ∙ cc h)
-
--- and one that isn't
-pub early_at : (rows : List SeqRow) (rs : List Running) (at : ℕ) (r : Running) → IsRunning rows rs → StandsBeforeMid rows at → r ≡ get_or rs at r → (at < length rs) × (is_mid (phase_of r) ≡ false)
-early_at rows rs at r is stands here = by (slice_get rows at) refl stands
-  where
-    by : (o : Option SeqRow) → slice_get rows at ≡ o → option_map (λ (s : SeqRow). is_mid s.phase) o ≡ Some false → (at < length rs) × (is_mid (phase_of r) ≡ false)
-    by None e h = absurd (none-some false h)
-    by (Some s) e h = (place_within rows rs at s is e, ap is_mid (value_at rows rs at s r is e here).1 ∙ cc h)

@@ -1,5 +1,5 @@
 -- What an accepted step says of the movements, and the changes that steps make.
-use Rattle.std.proofs.Common.{◌≡◌, ℕ, ◌+◌, ◌<◌, ◌≤◌, Bool, true, false, not, true≢false, ◌&&◌, ◌==◌, ℤ, List, [], ◌∷◌, length, map, get_or, set, Result, Ok, Err, IfOk, Option, Some, None, IsSome, is_some, option_map, option_and_then, refl, sym, ap, ◌∙◌}
+use Rattle.std.proofs.Common.{◌≡◌, ℕ, ◌+◌, ◌<◌, ◌≤◌, Bool, true, false, not, true≢false, ◌&&◌, ◌==◌, List, [], ◌∷◌, length, map, get_or, set, Option, Some, None, IsSome, is_some, option_map, option_and_then, refl, sym, ap, ◌∙◌}
 use Rattle.std.proofs.lemmas.Bool.Decides.{Decides-eqb}
 use Rattle.std.proofs.lemmas.Option.{none-some}
 use Rattle.std.specs.List.{insert, remove, slice_get}
@@ -24,7 +24,6 @@ use Rattle.transformations.specs.declared.sequence.Phase.TheVariants as phase
 use Rattle.transformations.specs.declared.sequence.SeqRow.{SeqRow}
 use Rattle.cluster_metadata.proofs.PlaceLemmas.{at_index, others_at, stepped_at}
 use Rattle.cluster_metadata.specs.Change.{Begins, IsChange, in_phase}
-use Rattle.cluster_metadata.specs.declared.change.Change.{Change}
 use Rattle.cluster_metadata.specs.declared.change.Change.TheVariants.{Begun, Started, Mid, Finished}
 
 -- ---- where no refusal comes

@@ -2,8 +2,6 @@
 #![tactic(auto)]
 
 mod admit_fault;
-#[cfg(test)]
-mod cancel_tests;
 mod cancelling;
 mod change;
 mod changes;
@@ -11,8 +9,6 @@ mod enact;
 mod leaving;
 mod locks;
 mod metadata;
-#[cfg(test)]
-mod movement_tests;
 mod permit;
 mod placement;
 mod preparing;

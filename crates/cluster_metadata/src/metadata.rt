@@ -1,7 +1,7 @@
 ghost use Rattle.std.specs.Prelude.{◌≡◌, ◌<◌, ◌≤◌, true, None, length, option_map, IfOk, IfSome, IsTrue, MatchResult};
 ghost use Rattle.std.specs.Option.{option_copied};
 ghost use Rattle.transformations.specs.History.{empty_image, is_command, most_epochs, next_image};
-ghost use Rattle.transformations.specs.Meeting.{QuorumsExistTogether, QuorumsMeet, ReadsAreWritten, is_movement};
+ghost use Rattle.transformations.specs.Meeting.{QuorumsExistTogether, QuorumsMeet, ReadsAreWritten, makes_movement_epoch};
 ghost use Rattle.transformations.specs.Refusals.{refusal_of};
 ghost use Rattle.cluster_metadata.specs.Change.{directory_of};
 ghost use Rattle.cluster_metadata.specs.Served.{keyspace_of as the_keyspace_of, served};
@@ -156,7 +156,7 @@ impl Metadata {
         ensures outcomes { PlacedByRanges self.new }
         ensures rings { AreOutcomes self.new }
         ensures ranges { KeepsRanges self.old self.new }
-        ensures meets { is_movement permit.command ≡ true → QuorumsMeet self.old self.new }
+        ensures meets { makes_movement_epoch permit.command ≡ true → QuorumsMeet self.old self.new }
     {
         self.image.replications();
         let Permit {
@@ -173,13 +173,14 @@ impl Metadata {
 
     /// The nodes that are read and those that are written at a token, under the replication of a keyspace: the replicas
     /// by SimpleStrategy or NetworkTopologyStrategy on the ring that reads see, and those on the ring before the
-    /// movements and on the ring that writes see. `None` comes exactly where no keyspace has the name.
+    /// movements and on the ring that writes see. `None` comes exactly where no keyspace has the name, and `Memory` only
+    /// where memory is wanting.
     ///
-    /// Each node that is read is written, and at most 1,024 nodes are. The write quorums of the image have a replica in common with its read quorums,
-    /// and a write quorum exists exactly where a read quorum does.
+    /// Each node that is read is written, and at most 1,024 nodes are. The write quorums of the image have a replica in
+    /// common with its read quorums, and a write quorum exists exactly where a read quorum does.
     ///
-    /// For now each look-up makes the three rings anew. For p pairs it copies and sorts them three times, and then walks
-    /// each ring once.
+    /// Each look-up makes the three rings anew. For p pairs it copies and sorts them three times, and then walks each
+    /// ring once.
     pub fn replicas(
         &self,
         alloc: Global,

@@ -1,5 +1,6 @@
 pub mod AscendingLemmas
 pub mod AscendingNumbers
+pub mod AscendingTokens
 pub mod CommonLemmas
 pub mod CountLemmas
 pub mod DistinctCounts

@@ -1,4 +1,5 @@
--- Tokens and arcs of the ring.
+-- Tokens and arcs of the ring, as of the Murmur3 partitioner. The least token is a token like any other, by a rule of
+-- this project.
 use Rattle.std.specs.Prelude.{Bool, ◌&&◌, ◌||◌, if◌then◌else◌, ℤ, pos, negsuc, int_lt, int_le, ◌≤ℤ◌}
 
 -- the greatest token, 2^63 - 1

@@ -25,15 +25,17 @@ node_count g ns = distinct_count nat_eq (filter (λ n. is_some (g.rack_of n)) ns
 abbrev pub rack_count : Group → List ℕ → ℕ
 rack_count g ns = distinct_count bytes_eq (filter_map g.rack_of ns)
 
--- how many replicas are to be found in a ring with these nodes, and how many of them may stand in a rack that has one
+-- how many replicas are to be found in a ring with these nodes, and how many of them may stand in a rack that has one:
+-- NetworkTopologyStrategy's acceptable rack repeats
 abbrev pub wanted : Group → List ℕ → ℕ
 wanted g ns = min g.rf (node_count g ns)
 
 abbrev pub spare : Group → List ℕ → ℕ
 spare g ns = g.rf - min g.rf (rack_count g ns)
 
--- whether a node of this rack is a replica in a ring with the nodes ns, where the nodes ahead are met before it:
--- not all replicas are found among them, and its rack is new or a further node of a rack may still be taken
+-- whether a node of this rack is a replica in a ring with the nodes ns, where the nodes ahead are met before it. Of d
+-- such nodes in p racks a walk has taken min (p + spare) d: the first of each rack, and as many further ones as may be.
+-- These aren't all that are wanted, and its rack is new or a further node of a rack may still be taken
 unfoldable pub is_chosen_rack : Group → List ℕ → List ℕ → List ℕ → Bool
 is_chosen_rack g ns ahead rack =
     let d = node_count g ahead in

@@ -1,4 +1,5 @@
--- How many replicas QUORUM and LOCAL_QUORUM need, and when such quorums have a replica in common.
+-- How many replicas QUORUM and LOCAL_QUORUM need, where some are pending (CEP-21), and when such quorums have a replica in
+-- common.
 use Rattle.std.specs.Prelude.{◌≡◌, ℕ, ◌+◌, ◌/◌, ◌≤◌, Bool, true, not, ◌||◌, List, ◌++◌, filter, find, length, Option, is_some, nat_eq, nat_lt}
 use Rattle.std.specs.List.{IsDistinct}
 use Rattle.std.specs.Set.{is_member, distinct_count}
@@ -40,8 +41,8 @@ read_need s = quorum_of s.total
 abbrev pub write_need : Sets → ℕ
 write_need s = quorum_of s.total + length (pending s.reads s.writes)
 
--- whether any a of some nodes have one in common with any b of others: there are no a, or no b, or both together are
--- more than all nodes
+-- whether any a of some nodes have one in common with any b of others: the ones are fewer than a, or the others fewer
+-- than b, or a and b together are more than all the nodes of both
 abbrev pub have_common : ℕ → List ℕ → ℕ → List ℕ → Bool
 have_common a ns b ms = nat_lt (length ns) a || (nat_lt (length ms) b || nat_lt (distinct_count nat_eq (ns ++ ms)) (a + b))
 

@@ -1,4 +1,4 @@
--- The rows between cuts: ranges that are open on the left and closed on the right.
+-- The rows between cuts: ranges that are open on the left and closed on the right, as Cassandra's are.
 use Rattle.std.specs.Prelude.{Bool, true, false, ◌&&◌, if◌then◌else◌, ℤ, int_lt, int_le, List, [], ◌∷◌, Option, Some, None}
 use Rattle.std.specs.Ordering.{int_eq}
 use Rattle.cluster_terms.specs.Arc.{greatest_token}

@@ -14,7 +14,7 @@ pub mod row;
 pub mod steps;
 pub mod token;
 
-pub use ascending::Ordered;
+pub use ascending::{Ordered, put_in_order};
 pub use factors::Factors;
 pub use list::{ByteText, PairList, SmallList, TokenList, TryCopy};
 pub use memory::Memory;

@@ -58,6 +58,13 @@ impl<T> SmallList<T> {
         }
     }
 
+    /// The list of a vector's items.
+    pub fn from_vec(items: Vec<T>) -> Self
+        ensures { result ≡ items.items }
+    {
+        SmallList { items }
+    }
+
     /// Adds an item at the end. Want of memory hands the item back and changes nothing.
     pub fn push(&mut self, item: T) -> Result<(), (T, Memory)>
         ensures { MatchResult result (λ _. self.new ≡ self.old ++ item ∷ []) (λ e. (self.new ≡ self.old) × (e.0 ≡ item)) }

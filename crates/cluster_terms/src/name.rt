@@ -24,18 +24,21 @@ impl Model for Name {
     ghost invariant = { λ name. IsTrue (is_name (string_bytes name.text)) };
 }
 
+/// Whether a text is a name.
 fn is_name(text: &str) -> bool
     ensures { result ≡ name_test text.now }
 {
     1 <= text.len() && text.len() <= 32 && has_name_bytes(text.as_bytes())
 }
 
+/// Whether all bytes are of those that names have.
 fn has_name_bytes(bytes: &[u8]) -> bool
     ensures { result ≡ list_all name_byte_test bytes.now }
 {
     bytes.iter().all(|byte| is_name_byte(*byte))
 }
 
+/// Whether a byte is one of those that names have.
 fn is_name_byte(byte: u8) -> bool
     ensures { result ≡ name_byte_test byte }
 {

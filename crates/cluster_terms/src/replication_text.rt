@@ -62,7 +62,7 @@ impl Replication {
     }
 }
 
-/// The words of a text.
+/// The words of a text, which single spaces part.
 fn words_of(alloc: Global, text: &[u8]) -> Result<Vec<&[u8]>, Memory>
     ensures { IfOk result (λ words. map (λ word. word.now) words.items ≡ spec.words_of text.now) }
 {
@@ -70,13 +70,14 @@ fn words_of(alloc: Global, text: &[u8]) -> Result<Vec<&[u8]>, Memory>
     Ok(words)
 }
 
+/// Whether a word is the one that is wanted.
 fn is_word(word: &[u8], wanted: &[u8]) -> bool
     ensures { result ≡ bytes_eq word.now wanted.now }
 {
     word == wanted
 }
 
-/// RF
+/// The replication that the words after `simple` write: one word RF.
 fn simple_of(words: &[&[u8]]) -> Option<Replication>
     ensures { result ≡ spec.simple_of (map (λ word. word.now) words.now) }
 {
@@ -86,7 +87,7 @@ fn simple_of(words: &[&[u8]]) -> Option<Replication>
     }
 }
 
-/// DC:RF ..
+/// The factors that the words after `topology` write. `None` comes exactly where they write none.
 fn factors_of(alloc: Global, words: &[&[u8]]) -> Result<Option<Factors>, Memory>
     ensures { IfOk result (λ found. found ≡ option_and_then spec.factors_of (spec.rows_of (map (λ word. word.now) words.now))) }
 {
@@ -96,6 +97,7 @@ fn factors_of(alloc: Global, words: &[&[u8]]) -> Result<Option<Factors>, Memory>
     }
 }
 
+/// The rows that words DC:RF write, in their order. `None` comes exactly where one of the words writes none.
 fn rows_of(alloc: Global, words: &[&[u8]]) -> Result<Option<SmallList<(Name, Rf)>>, Memory>
     ensures { IfOk result (λ found. found ≡ spec.rows_of (map (λ word. word.now) words.now)) }
 {
@@ -109,7 +111,7 @@ fn rows_of(alloc: Global, words: &[&[u8]]) -> Result<Option<SmallList<(Name, Rf)
     Ok(Some(rows))
 }
 
-/// DC:RF
+/// The datacenter and the factor that a word DC:RF writes. `None` comes exactly where it writes none.
 #[tactic(auto, using(crate::proofs::ReplicationTexts::no_colon), unfolding(crate::specs::ReplicationText::row_of))]
 fn row_of(alloc: Global, word: &[u8]) -> Result<Option<(Name, Rf)>, Memory>
     ensures { IfOk result (λ found. found ≡ spec.row_of word.now) }
@@ -142,6 +144,7 @@ fn write_rows(rows: &[(Name, Rf)], out: &mut ByteText) -> Result<(), Memory>
     Ok(())
 }
 
+/// Adds the word of a row, after a space.
 fn write_row(row: &(Name, Rf), out: &mut ByteText) -> Result<(), Memory>
     ensures added { OnOk result (out.new ≡ out.old ++ spec.row_text row.now) }
     ensures kept { take (length out.old) out.new ≡ out.old }

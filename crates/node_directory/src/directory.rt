@@ -1,6 +1,7 @@
 ghost use Rattle.std.specs.Prelude.{◌≡◌, [], ◌<◌, ◌↔◌, IsTrue, IsSome, IfSome, IfOk, OnOk, IfErr, OnErr, None, slice_get, length};
 ghost use Rattle.std.specs.Option.{option_copied, option_map};
 ghost use Rattle.cluster_terms.specs.NodeRow.{row_of};
+ghost use Rattle.cluster_terms.specs.Replication.{rack_within};
 ghost use Rattle.node_directory.specs.Directory.{is_directory, node_named, place_in, registered, without, with_left};
 ghost use Rattle.node_directory.specs.Kept.{IsPlaceOf};
 
@@ -12,8 +13,8 @@ use std::marker::Model;
 
 /// The nodes that are registered, in order of registration, and so in order of their ids.
 ///
-/// No two nodes have the same name, nodes that left included. The next id is above all ids, and goes up alone: no
-/// id is used again.
+/// No two nodes have the same name, nodes that left included. The next id is above all ids, and only goes up: no id
+/// is used again.
 #[derive(Debug, Drop)]
 pub struct Directory {
     /// The rows by name, in order of id.
@@ -113,7 +114,7 @@ impl Directory {
         }
     }
 
-    /// Removes the row of a registered node. Its id is not used again.
+    /// Removes the row of a registered node. Its id is not used again. The cost is a move of each later row.
     pub fn unregister(&mut self, n: NodeId)
         requires { IsSome (row_of self.old.rows n) }
         ensures rows { self.new.rows ≡ without self.old.rows n }
@@ -123,7 +124,7 @@ impl Directory {
         let _removed = self.nodes.shift_remove_index(at);
     }
 
-    /// Marks a registered node: it has left the cluster. Its name stays taken.
+    /// Marks a registered node: it has left the cluster. Its name stays taken. The cost is a binary search.
     pub fn mark_left(&mut self, n: NodeId)
         requires { IsSome (row_of self.old.rows n) }
         ensures rows { self.new.rows ≡ with_left self.old.rows n }
@@ -133,19 +134,34 @@ impl Directory {
         self.nodes[at].left = true;
     }
 
-    /// The node with this name, nodes that left included. `None` comes exactly where no node has the name.
+    /// The node with this name, nodes that left included. `None` comes exactly where no node has the name. The cost is
+    /// one look-up by hash.
     pub fn find(&self, name: &Name) -> Option<NodeId>
         ensures { result ≡ node_named self.now.rows name.now }
     {
         self.nodes.get(name.as_str()).map(|row| row.id)
     }
 
-    /// The datacenter and the rack of a node. `None` comes exactly where it is not registered.
+    /// The datacenter and the rack of a node. `None` comes exactly where it is not registered. The cost is a binary
+    /// search.
     pub fn place_of(&self, n: NodeId) -> Option<(&Name, &Name)>
         ensures { option_map (λ place. (place.0.now, place.1.now)) result ≡ place_in self.now.rows n }
     {
         let row = self.row(self.place(n)?)?;
         Some((&row.dc, &row.rack))
+    }
+
+    /// The rack of a node that stands in a datacenter. `None` comes exactly where it is not registered, or stands in
+    /// another one. A binary search.
+    pub fn rack_in(&self, dc: &Name, n: NodeId) -> Option<&Name>
+        ensures { option_copied result ≡ rack_within dc.now (row_of self.now.rows n) }
+    {
+        let (home, rack) = self.place_of(n)?;
+        if home.as_str() == dc.as_str() {
+            Some(rack)
+        } else {
+            None
+        }
     }
 
     /// The id that the next node gets.
@@ -247,6 +263,20 @@ mod tests {
             ];
             let found = made(&rt, rt.alloc(), &rows, 4);
             assert_eq!(rt; found.is_some(), good, "{first} {second} {name}");
+        }
+    }
+
+    #[test]
+    fn racks_in_a_datacenter(rt: HostRuntime) {
+        let rows = [row(&rt, rt.alloc(), 2, "a")];
+        let nodes = made(&rt, rt.alloc(), &rows, 3).expect(&rt, "a directory");
+        for (dc, n, found) in [("dc1", 2, true), ("dc1", 1, false), ("r1", 2, false)] {
+            let dc = named(&rt, rt.alloc(), dc);
+            match nodes.rack_in(&dc, NodeId(n)) {
+                Some(rack) => assert_eq!(rt; rack.as_str(), "r1"),
+                None => assert!(rt; !found),
+            }
+            assert_eq!(rt; nodes.rack_in(&dc, NodeId(n)).is_some(), found);
         }
     }
 

@@ -50,16 +50,6 @@ pub fn quorum(reads: &NodeSet, writes: &NodeSet, replication: &Replication) -> Q
     }
 }
 
-/// Whether a node stands in a datacenter.
-fn is_within(dir: &Directory, dc: &Name, n: NodeId) -> bool
-    ensures { result ≡ is_some (rack_within dc.now (row_of dir.now.rows n)) }
-{
-    match dir.place_of(n) {
-        Some((of, _rack)) => of.as_str() == dc.as_str(),
-        None => false,
-    }
-}
-
 /// How many of the nodes that are written stand in a datacenter and are pending.
 fn count_local_pending(reads: &NodeSet, writes: &NodeSet, dir: &Directory, dc: &Name) -> usize
     ensures count { result ≡ length (filter (λ n. is_some (rack_within dc.now (row_of dir.now.rows n)) && not (has_node reads.now n)) writes.now) }
@@ -70,18 +60,25 @@ fn count_local_pending(reads: &NodeSet, writes: &NodeSet, dir: &Directory, dc: &
     writes
         .ids()
         .iter()
-        .filter(|n| is_within(dir, dc, **n) && !reads.has(**n))
+        .filter(|n| dir.rack_in(dc, **n).is_some() && !reads.has(**n))
         .count()
 }
 
 /// The row of a datacenter, where it is named.
-pub(crate) fn row_of_datacenter<'a>(factors: &'a Factors, dc: &Name) -> Option<&'a (Name, Rf)>
+fn row_of_datacenter<'a>(factors: &'a Factors, dc: &Name) -> Option<&'a (Name, Rf)>
     ensures { option_copied result ≡ datacenter_of factors.now dc.now }
 {
     factors
         .rows()
         .iter()
         .find(|row| row.0.as_str() == dc.as_str())
+}
+
+/// Whether a replication's factors name a datacenter.
+pub fn names_datacenter(factors: &Factors, dc: &Name) -> bool
+    ensures { result ≡ is_some (datacenter_of factors.now dc.now) }
+{
+    row_of_datacenter(factors, dc).is_some()
 }
 
 /// The factor of a datacenter that is named.

@@ -7,6 +7,6 @@ mod needs;
 mod tests;
 mod validity;
 
-pub use counting::{local_quorum, quorum};
+pub use counting::{local_quorum, names_datacenter, quorum};
 pub use needs::Quorum;
 pub use validity::counting_tells;

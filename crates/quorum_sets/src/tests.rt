@@ -1,8 +1,4 @@
-ghost use Rattle.std.specs.Prelude.{◌≡◌, is_some};
-ghost use Rattle.cluster_terms.specs.Quorum.{datacenter_of};
-
-use crate::counting::row_of_datacenter;
-use crate::{local_quorum, quorum};
+use crate::{local_quorum, names_datacenter, quorum};
 use cluster_terms::{Factors, Name, NodeId, NodeRow, Replication, Rf};
 use node_directory::Directory;
 use node_sets::NodeSet;
@@ -144,12 +140,6 @@ fn half_and_one_and_the_pending(rt: HostRuntime) -> Result<(), Fail> {
     Ok(())
 }
 
-fn is_named(factors: &Factors, dc: &Name) -> bool
-    ensures { result ≡ is_some (datacenter_of factors.now dc.now) }
-{
-    row_of_datacenter(factors, dc).is_some()
-}
-
 /// Asserts the local needs at a row.
 fn local_needs_at(rt: &impl Abort, alloc: Global, dc: &Name, row: Row) -> Result<(), Fail> {
     let (reads, writes, (read_need, write_need)) = row;
@@ -158,10 +148,20 @@ fn local_needs_at(rt: &impl Abort, alloc: Global, dc: &Name, row: Row) -> Result
     let dir = directory(alloc)?;
     let factors = factors(alloc)?;
     assert!(rt; writes.ids().len() <= 1024);
-    assert!(rt; is_named(&factors, dc));
+    assert!(rt; names_datacenter(&factors, dc));
     let needs = local_quorum(&reads, &writes, &dir, &factors, dc);
     assert_eq!(rt; needs.read_need, read_need);
     assert_eq!(rt; needs.write_need, write_need);
+    Ok(())
+}
+
+#[test]
+fn datacenters_are_named(rt: HostRuntime) -> Result<(), Fail> {
+    let factors = factors(rt.alloc())?;
+    for (text, named) in [("dc1", true), ("dc2", true), ("dc", false)] {
+        let dc = name(rt.alloc(), text)?;
+        assert_eq!(rt; names_datacenter(&factors, &dc), named);
+    }
     Ok(())
 }
 

@@ -4,6 +4,7 @@ use Rattle.cluster_terms.specs.Replication.{whole_group, datacenter_group}
 use Rattle.ring_reach.specs.declared.members.Members.{Members}
 use Rattle.ring_reach.specs.declared.members.Members.TheVariants.{All, Datacenter}
 
+-- all nodes, counted as one rack, or the nodes of a datacenter, with their racks
 abbrev pub group_of : Members → Group
 group_of (All rf) = whole_group rf
 group_of (Datacenter dir name rf) = datacenter_group dir.now.rows (name.now, rf)

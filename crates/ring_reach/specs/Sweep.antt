@@ -17,6 +17,7 @@ pub record Course : Type 0 where
   pub fixed : List Pair
   pub moved : List ℤ
 
+-- what a sweep looks at
 abbrev pub course_of : Sweep → Course
 course_of s = record { group = group_of s.members.now; fixed = s.fixed.now; moved = s.moved }
 
@@ -24,6 +25,7 @@ course_of s = record { group = group_of s.members.now; fixed = s.fixed.now; move
 abbrev pub node_at : List Pair → ℤ → Option ℕ
 node_at ps t = option_map (λ p. p.node) (find (λ p. int_eq t p.token) ps)
 
+-- once the node of a token is met, if it has one
 abbrev pub met_at : Group → Option ℕ → Tallied → Tallied
 met_at g None tally = tally
 met_at g (Some n) tally = met g n tally

@@ -1,7 +1,5 @@
 ghost use Rattle.std.specs.Prelude.{◌≡◌};
 ghost use Rattle.std.specs.Option.{option_copied};
-ghost use Rattle.cluster_terms.specs.NodeRow.{row_of};
-ghost use Rattle.cluster_terms.specs.Replication.{rack_within};
 
 use cluster_terms::{Name, NodeId, Rf};
 use node_directory::Directory;
@@ -34,19 +32,10 @@ impl<'a> Members<'a> {
     {
         match self {
             Members::All(_) => Some(&[]),
-            Members::Datacenter(dir, name, _) => rack_in(dir, name, node),
+            Members::Datacenter(dir, name, _) => {
+                let rack = dir.rack_in(name, node)?;
+                Some(rack.as_str().as_bytes())
+            }
         }
-    }
-}
-
-/// The name of the rack of a node that stands in a datacenter.
-fn rack_in<'a>(dir: &'a Directory, name: &Name, node: NodeId) -> Option<&'a [u8]>
-    ensures { option_copied result ≡ rack_within name.now (row_of dir.now.rows node) }
-{
-    let (dc, rack) = dir.place_of(node)?;
-    if dc.as_str() == name.as_str() {
-        Some(rack.as_str().as_bytes())
-    } else {
-        None
     }
 }

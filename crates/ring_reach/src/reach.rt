@@ -14,7 +14,7 @@ use node_directory::Directory;
 use std::alloc::Global;
 use token_ring::{RangeList, Ring};
 
-/// The tokens whose placement may see that pairs come or go.
+/// The tokens whose placement may see that pairs come or go (CEP-21's locked ranges, by a rule of this project).
 ///
 /// The ring is at any time between the fixed ring and the widest set of pairs. Where a group of the replication has
 /// different shapes in these two, the pairs of its nodes that move reach all tokens. Else such a pair reaches a token

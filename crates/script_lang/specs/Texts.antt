@@ -142,7 +142,7 @@ sets_text word epoch reads writes =
 abbrev pub quorum_text : List ℕ → ℕ → Sets → List ℕ
 quorum_text word epoch s = sets_text word epoch (read_need s, s.reads) (write_need s, s.writes)
 
--- a node: its id and its name, and where it stands
+-- a node: its id, its name, its datacenter and its rack
 abbrev pub named_text : NodeRow → List ℕ
 named_text row = decimal row.id ++ codes " " ++ row.name ++ codes " " ++ row.dc ++ codes " " ++ row.rack
 

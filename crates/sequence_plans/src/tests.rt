@@ -12,7 +12,7 @@ use cluster_terms::{
     TokenRange, TryCopy,
 };
 use placement_deltas::Plan;
-use sequence_rows::{join_row, leave_row};
+use sequence_rows::{join_row, move_row};
 use std::alloc::Global;
 use std::marker::Brand;
 use std::process::Abort;
@@ -141,15 +141,15 @@ fn join_at(alloc: Global, image: &Image, node: u32, token: Token) -> Result<SeqR
     Ok(join_row(alloc, image, node, &tokens)?)
 }
 
-/// The row of a leave.
-fn leave_of(alloc: Global, image: &Image, node: u32) -> Result<SeqRow, Fail>
+/// The row of a move to a token.
+fn move_to(alloc: Global, image: &Image, node: u32, token: Token) -> Result<SeqRow, Fail>
     requires { IsSound image.now }
     ensures prepared { IfOk result (λ row. row.phase ≡ phase.Prepared) }
     ensures sound { IfOk result (λ row. IsSound (with_movement image.now row)) }
 {
     let node = NodeId(node);
-    accepted(alloc, image, &Command::PrepareLeave { node })?;
-    Ok(leave_row(alloc, image, node)?)
+    accepted(alloc, image, &Command::PrepareMove { node, token })?;
+    Ok(move_row(alloc, image, node, token)?)
 }
 
 /// A movement more.
@@ -161,8 +161,8 @@ fn with_row(mut image: Image, row: SeqRow) -> Result<Image, Fail>
     Ok(image)
 }
 
-/// Nodes 1 to 4 at 0, 100, 200 and 300, of which node 4 is in dc2; node 5 of dc1, which joins at 150; node 6 of dc2;
-/// and three keyspaces, of which two have one replication.
+/// Nodes 1 to 4 at 0, 100, 200 and 300, of which node 4 is in dc2; node 5 of dc1, which joins at 150; and three
+/// keyspaces, of which two have one replication.
 fn small_image(alloc: Global) -> Result<Image, Fail>
     ensures { IfOk result IsSound }
 {
@@ -173,7 +173,6 @@ fn small_image(alloc: Global) -> Result<Image, Fail>
         ("c", "dc1"),
         ("d", "dc2"),
         ("e", "dc1"),
-        ("f", "dc2"),
     ] {
         image = with_node(alloc, image, name, dc)?;
     }
@@ -240,30 +239,16 @@ fn join_is_beside<A: Abort>(rt: &A, alloc: Global, plan: &Plan) -> Result<(), Fa
     Ok(())
 }
 
+/// Node 3 moves from 200 to 350: its ranges are those of both tokens, of which neither alone has them all.
 #[test]
-fn a_join_beside_another_one(rt: HostRuntime) -> Result<(), Fail> {
+fn a_move_beside_a_join(rt: HostRuntime) -> Result<(), Fail> {
     let image = small_image(rt.alloc())?;
-    let row = join_at(rt.alloc(), &image, 6, Token::new(350))?;
+    let row = move_to(rt.alloc(), &image, 3, Token::new(350))?;
     let plan = planned::<Brand>(rt.alloc(), &image, row, Blank::new(1))?;
-    assert_eq!(rt; plan.row.node, NodeId(6));
+    assert_eq!(rt; plan.row.node, NodeId(3));
     let cuts = plan.cuts.as_slice().iter().map(|token| token.value());
     assert!(rt; cuts.eq([0, 100, 150, 200, 300, 350]));
-    let own = [range(200, 350)];
-    let none: [TokenRange; 0] = [];
-    let ranges = [("simple 2", &own[..]), ("topology dc1:1", &none[..])];
-    assert!(rt; has_ranges(rt.alloc(), &plan.ranges, &ranges)?);
-    join_is_beside(&rt, rt.alloc(), &plan)
-}
-
-#[test]
-fn a_leave_beside_a_join(rt: HostRuntime) -> Result<(), Fail> {
-    let image = small_image(rt.alloc())?;
-    let row = leave_of(rt.alloc(), &image, 3)?;
-    let plan = planned::<Brand>(rt.alloc(), &image, row, Blank::new(1))?;
-    assert_eq!(rt; plan.row.out_pairs.as_slice().len(), 1);
-    let cuts = plan.cuts.as_slice().iter().map(|token| token.value());
-    assert!(rt; cuts.eq([0, 100, 150, 200, 300]));
-    let (own, own_dc1) = ([range(0, 200)], [range(100, 200)]);
+    let (own, own_dc1) = ([range(0, 350)], [range(100, 350)]);
     let ranges = [("simple 2", &own[..]), ("topology dc1:1", &own_dc1[..])];
     assert!(rt; has_ranges(rt.alloc(), &plan.ranges, &ranges)?);
     join_is_beside(&rt, rt.alloc(), &plan)

@@ -24,10 +24,9 @@ fn leave_with(alloc: Global, ring: &[Pair], node: NodeId) -> Result<SeqRow, Memo
     })
 }
 
-/// The row of a leave that is prepared: it takes the node's pairs out, and puts none
-/// in. The image stays sound with
-/// it, since it refuses the leave for its locked ranges at most. `Err` comes only where memory is wanting for the row's
-/// pairs.
+/// The row of a leave that is prepared: it takes the node's pairs out, and puts none in. The image stays sound with it,
+/// since it refuses the leave for its locked ranges at most. One pass over the ring. `Err` comes only where memory is
+/// wanting for the row's pairs, one for each token of the node.
 pub fn leave_row(alloc: Global, image: &Image, node: NodeId) -> Result<SeqRow, Memory>
     requires sound { IsSound image.now }
     requires early { early_refusal_of image.now (command.PrepareLeave node) ≡ None }

@@ -1,4 +1,4 @@
-//! The rows of movements that are prepared.
+//! The rows of movements that are prepared, one for each kind (CEP-21's multi-step operations).
 #![tactic(auto)]
 
 pub mod join;

@@ -24,10 +24,9 @@ fn move_with(alloc: Global, ring: &[Pair], node: NodeId, token: Token) -> Result
     })
 }
 
-/// The row of a move that is prepared: it takes the node's one pair out, and puts
-/// its new token in. The image stays sound with
-/// it, since it refuses the move for its locked ranges at most. `Err` comes only where memory is wanting for the row's
-/// pairs.
+/// The row of a move that is prepared: it takes the node's one pair out, and puts its new token in. The image stays
+/// sound with it, since it refuses the move for its locked ranges at most. One pass over the ring. `Err` comes only where
+/// memory is wanting for the row's two pairs.
 pub fn move_row(alloc: Global, image: &Image, node: NodeId, token: Token) -> Result<SeqRow, Memory>
     requires sound { IsSound image.now }
     requires early { early_refusal_of image.now (command.PrepareMove node token) ≡ None }

@@ -24,10 +24,10 @@ fn replace_with(alloc: Global, ring: &[Pair], node: NodeId, gone: NodeId) -> Res
     })
 }
 
-/// The row of a replace that is prepared: it takes the pairs of the node that is gone
-/// out, and puts the same tokens in with the new node. The image stays sound with
-/// it, since it refuses the replace for its locked ranges at most. `Err` comes only where memory is wanting for the row's
-/// pairs.
+/// The row of a replace that is prepared: it takes the pairs of the node that is gone out, and puts the same tokens in
+/// with the new node. The image stays sound with it, since it refuses the replace for its locked ranges at most. One pass
+/// over the ring. `Err` comes only where memory is wanting for the row's pairs, two for each token of the node that is
+/// gone.
 pub fn replace_row(
     alloc: Global,
     image: &Image,

@@ -52,14 +52,19 @@ module _ (rf : ℕ) (some : 1 ≤ rf) where
 
 -- the walk from the first token on, round the ring, takes the placement
 pub placed_by_walk : (ps : List Pair) (x : ℤ) (i : ℕ) → IsRing ps → IsFirstAt ps x i → (rf : ℕ) → 1 ≤ rf
-    → place (whole_group rf ∷ []) x ps ≡ ascending nat_cmp (taken_after rf (taken_after rf [] (nodes_of (drop i ps))) (nodes_of (take i ps)))
+    → place (whole_group rf ∷ []) x ps ≡ ascending nat_cmp (taken_after rf [] (nodes_of (drop i ps ++ take i ps)))
 placed_by_walk ps x i ring first rf some =
     let round = nodes_of (walk_from i ps) in
-    let parts : taken_after rf [] round ≡ taken_after rf (taken_after rf [] (nodes_of (drop i ps))) (nodes_of (take i ps)) =
-    ap (taken_after rf []) (nodes_of-append (drop i ps) (take i ps)) ∙ taken_after-append rf [] (nodes_of (drop i ps)) (nodes_of (take i ps)) in
     let within : (q : ℕ) → has round q ≡ true → has (nodes_of ps) q ≡ true =
     λ q h. sym (has-permuted (walk_from i ps) ps (walk_permuted ps x i ring first) q) ∙ h in
     placed_by x ps (whole_group rf ∷ []) (taken_after rf [] round)
     (λ v. has-walked rf round v ∙ sym (found rf some (nodes_of ps) [] round v (λ q h. absurd (false≢true h)) within)
     ∙ sym (replica_on_walk ps x i ring first (whole_group rf) v) ∙ sym (or-false _))
-    ∙ ap (ascending nat_cmp) parts
+
+-- the same where the pairs from the first token on are walked along, and then those in front of them
+pub placed_in_parts : (ps : List Pair) (x : ℤ) (i : ℕ) → IsRing ps → IsFirstAt ps x i → (rf : ℕ) → 1 ≤ rf
+    → place (whole_group rf ∷ []) x ps ≡ ascending nat_cmp (taken_after rf (taken_after rf [] (nodes_of (drop i ps))) (nodes_of (take i ps)))
+placed_in_parts ps x i ring first rf some =
+    placed_by_walk ps x i ring first rf some
+    ∙ ap (ascending nat_cmp)
+    (ap (taken_after rf []) (nodes_of-append (drop i ps) (take i ps)) ∙ taken_after-append rf [] (nodes_of (drop i ps)) (nodes_of (take i ps)))

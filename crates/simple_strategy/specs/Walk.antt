@@ -1,4 +1,4 @@
--- What a walk takes.
+-- What a walk takes (SimpleStrategy).
 use Rattle.std.specs.Prelude.{ℕ, not, ◌&&◌, if◌then◌else◌, List, [], ◌∷◌, ◌++◌, length, nat_eq, nat_lt}
 use Rattle.std.specs.Set.{is_member}
 

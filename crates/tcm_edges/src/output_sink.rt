@@ -34,8 +34,8 @@ impl<W> OutputSink<W> {
     }
 }
 
-// One write and a flush: the length that was taken, or none where one of them failed or nothing was
-// taken.
+/// One write and a flush: the length that was taken, or `None` where one of them failed or nothing was
+/// taken. Then a prefix of the bytes may be written.
 fn write_out<W: Write>(writer: &mut W, bytes: &[u8]) -> Option<usize>
     ensures some { IfSome result (λ n. (1 ≤ n) × (n ≤ length bytes.now)) }
     ensures bytes { IfSome result (λ n.
@@ -59,7 +59,8 @@ impl<W: Write> Sink for OutputSink<W> {
 
     ghost faults = { λ sink. sink.failures };
 
-    /// Each error of the writer, and a write that takes nothing, is `Failed`.
+    /// Each error of the writer, and a write that takes nothing, is `Failed`. Where the flush fails, a prefix of the
+    /// piece may be written.
     fn write(&mut self, bytes: &[u8]) -> Result<usize, WriteFault>
         requires { 0 < length bytes.now }
         ensures bound { TakesSome result bytes.now }

@@ -15,8 +15,8 @@ pub trait Sink {
     ghost faults: { Self → ℕ };
 
     /// Writes a prefix of a piece, which is not empty, and answers its length, which is at least 1.
-    /// `Failed` comes where the outside failed or took nothing. At an error nothing is written, and
-    /// after `Memory` the sink is as before.
+    /// `Failed` comes where the outside failed or took nothing. At an error the bytes that the sink tells
+    /// are as before, and after `Memory` its count of failures is, too.
     fn write(&mut self, bytes: &[u8]) -> Result<usize, WriteFault>
         requires { 0 < length bytes.now }
         ensures bound { TakesSome result bytes.now }

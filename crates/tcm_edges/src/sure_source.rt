@@ -15,7 +15,7 @@ use std::marker::Model;
 pub struct SureSource {
     text: ByteText,
     at: usize,
-    most: usize,
+    piece: usize,
 }
 
 impl Model for SureSource {
@@ -24,9 +24,9 @@ impl Model for SureSource {
 
     ghost Value = { Feed };
 
-    ghost view = { λ source. record { bytes = drop source.at source.text; piece = source.most } };
+    ghost view = { λ source. record { bytes = drop source.at source.text; piece = source.piece } };
 
-    ghost invariant = { λ source. (source.at ≤ length source.text) × (1 ≤ source.most) };
+    ghost invariant = { λ source. (source.at ≤ length source.text) × (1 ≤ source.piece) };
 }
 
 impl SureSource {
@@ -38,11 +38,11 @@ impl SureSource {
         SureSource {
             text: bytes,
             at: 0,
-            most: piece,
+            piece,
         }
     }
 
-    // Copies the next bytes into the front of a buffer, and answers how many.
+    /// Copies the next bytes into the front of a buffer, and answers how many.
     fn give(&mut self, buf: &mut [u8]) -> usize
         ensures count { result ≡ given_len self.old (length buf.old) }
         ensures given { buf.new ≡ take result self.old.bytes ++ drop result buf.old }
@@ -50,7 +50,7 @@ impl SureSource {
         ensures some { 1 ≤ self.old.piece }
     {
         let left = &self.text.as_slice()[self.at..];
-        let n = self.most.min(buf.len()).min(left.len());
+        let n = self.piece.min(buf.len()).min(left.len());
         buf[..n].copy_from_slice(&left[..n]);
         self.at += n;
         n

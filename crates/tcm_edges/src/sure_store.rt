@@ -12,7 +12,7 @@ use cluster_terms::Memory;
 use std::alloc::Global;
 use std::marker::Model;
 
-/// Files in memory, whose calls fail by want of memory alone.
+/// Files in memory, whose calls fail by want of memory alone. A file is found by a look at each name before its own.
 #[derive(Debug, Drop)]
 pub struct SureStore {
     stored: Vec<StoredFile>,
@@ -55,7 +55,7 @@ impl SureStore {
         }
     }
 
-    /// Makes bytes the whole of a file, which may be absent before.
+    /// Makes bytes the whole of a file, which may be absent before. Want of memory changes nothing.
     pub fn put(&mut self, name: &str, bytes: &[u8]) -> Result<(), Memory>
         ensures ok { OnOk result (self.new ≡ map.insert self.old name.now bytes.now) }
         ensures err { OnErr result (self.new ≡ self.old) }
@@ -75,7 +75,7 @@ impl SureStore {
         Ok(())
     }
 
-    // Adds bytes at the end of a file, which is made where it was absent.
+    /// Adds bytes at the end of a file, which is made where it was absent. Want of memory changes nothing.
     fn extend(&mut self, name: &str, bytes: &[u8]) -> Result<(), Memory>
         ensures ok { OnOk result (self.new
             ≡ map.insert self.old name.now (content (file_of self.old name.now) ++ bytes.now)) }

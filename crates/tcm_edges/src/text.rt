@@ -3,15 +3,11 @@ ghost use Rattle.std.specs.Prelude.{◌≡◌, IfOk};
 use cluster_terms::{ByteText, Memory};
 use std::alloc::Global;
 
-// Bytes as a text of their own.
+/// Bytes as a text of their own.
 pub(crate) fn text_of(alloc: Global, bytes: &[u8]) -> Result<ByteText, Memory>
     ensures { IfOk result (λ text. text ≡ bytes.now) }
 {
     let mut text = ByteText::empty(alloc);
-    for byte in bytes {
-        if text.push(*byte).is_err() {
-            return Err(Memory);
-        }
-    }
+    text.extend(bytes)?;
     Ok(text)
 }

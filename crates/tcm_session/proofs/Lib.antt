@@ -1,10 +1,10 @@
 pub mod AnswersLemmas
 pub mod CauseLemmas
 pub mod FeedLemmas
-pub mod HistoryLemmas
 pub mod LinesLemmas
 pub mod LocalLemmas
 pub mod OutcomeLemmas
+pub mod PlaceLemmas
 pub mod PrintedLemmas
 pub mod ReadLemmas
 pub mod ShownAnswers

@@ -1,5 +1,5 @@
 -- The local quorums of a datacenter: what is cut down to it, and the answer to a query of them.
-use Rattle.std.proofs.Common.{◌≡◌, ℕ, true, false, ℤ, codes, List, [], ◌∷◌, filter, Option, Some, None, IfSome, IsSome, is_some, option_map, refl, sym, ap, ◌∙◌, subst, true≢false}
+use Rattle.std.proofs.Common.{◌≡◌, ℕ, ℤ, codes, List, Option, Some, None, IfSome, IsSome, is_some, option_map, sym, ap, subst, true≢false}
 use Rattle.std.proofs.lemmas.List.Kept.{IsStrictlySortedBy-filter}
 use Rattle.std.proofs.lemmas.Map.Keys.{sorted_from_strictly_increasing}
 use Rattle.std.proofs.lemmas.Option.{none-some}
@@ -17,10 +17,10 @@ use Rattle.transformations.specs.Meeting.{datacenters_of, local_sets_at}
 use Rattle.transformations.specs.Rings.{reads_at, writes_at}
 use Rattle.transformations.specs.declared.image.Image.{Image}
 use Rattle.transformations.specs.declared.keyspace.KeyspaceRow.{KeyspaceRow}
-use Rattle.cluster_metadata.specs.Served.{served, served_by}
+use Rattle.cluster_metadata.specs.Served.{keyspace_of, served, served_by}
 use Rattle.quorum_sets.proofs.PendingLemmas.{found_name}
 use Rattle.script_lang.specs.Texts.{quorum_text, sets_text}
-use Rattle.tcm_session.specs.Machine.{keyspace_named, local_quorums, local_quorums_in}
+use Rattle.tcm_session.specs.Machine.{local_quorums, local_quorums_in}
 
 -- ids that ascend do so cut down
 pub cut_same : (rows : List NodeRow) (dc ids : List ℕ) → IsStrictlyIncreasing ids → ascending nat_cmp (within rows dc ids) ≡ within rows dc ids
@@ -44,10 +44,10 @@ module _ (P : List ℕ → Type 0) (rows : List NodeRow) (factors : List (List �
 
 -- the answer to a query of them
 module _ (P : List ℕ → Type 0) (image : Image) (name dc : List ℕ) (t : ℤ) (r : Replication) (reads writes : List ℕ) where
-  pub local_answered : Some r ≡ option_map (λ (k : KeyspaceRow). k.replication) (keyspace_named image name) → Some (reads, writes) ≡ served image name t → IsSome (datacenter_of (datacenters_of r) dc)
+  pub local_answered : Some r ≡ option_map (λ (k : KeyspaceRow). k.replication) (keyspace_of image name) → Some (reads, writes) ≡ served image name t → IsSome (datacenter_of (datacenters_of r) dc)
       → IfSome (datacenter_of (datacenters_of r) dc) (λ f. P (quorum_text (codes "LOCAL") image.epoch (local_sets image.nodes f reads writes)))
-      → P (local_quorums image dc t (keyspace_named image name))
-  local_answered found sets some shown = by (keyspace_named image name) found sets
+      → P (local_quorums image dc t (keyspace_of image name))
+  local_answered found sets some shown = by (keyspace_of image name) found sets
     where
       in_some : (k : KeyspaceRow) (o : Option (List ℕ × ℕ)) → IsSome o → IfSome o (λ f. P (quorum_text (codes "LOCAL") image.epoch (local_sets_at image k.replication f t))) → P (local_quorums_in image t k.replication o)
       in_some k None some shown = absurd (true≢false (sym some))

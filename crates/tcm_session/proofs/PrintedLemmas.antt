@@ -6,4 +6,4 @@ use Rattle.tcm_session.specs.Shown.{PrintsMeeting, answered_lines}
 
 pub prints_meeting : (words : List (List ℕ)) (left written written' : Option (List ℕ)) → BeginsOutcome (outcome words) left written written' → PrintsMeeting words left written written'
 prints_meeting words left written written' h =
-    record { input = h.input; told = h.told; printed = h.printed; meet = shown_meet (answered_lines words h.input) }
+    record { begins = h; meet = shown_meet (answered_lines words h.input) }

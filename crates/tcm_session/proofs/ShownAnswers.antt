@@ -1,28 +1,31 @@
 -- What an answer shows: its text, and where its sets come from.
-use Rattle.std.proofs.Common.{◌≡◌, ℕ, ◌≤◌, Bool, true, false, if◌then◌else◌, ℤ, List, take, length, Option, Some, None, option_map, option_and_then, nat_le, codes, refl, sym, ap, ◌∙◌, subst, arith, length-take-le}
+use Rattle.std.proofs.Common.{◌≡◌, ℕ, ◌≤◌, Bool, true, false, if◌then◌else◌, ℤ, List, ◌++◌, get_or, take, length, Option, Some, None, option_map, option_and_then, nat_le, codes, decimal, refl, sym, ap, ◌∙◌, subst, arith, length-take-le}
 use Rattle.std.specs.Option.{IfSome}
 use Rattle.std.proofs.lemmas.Bool.Decides.{nat_tests}
 use Rattle.std.proofs.lemmas.Option.{none-some}
 use Rattle.cluster_terms.specs.Arc.{IsToken}
 use Rattle.cluster_terms.specs.Quorum.{Sets, datacenter_of}
 use Rattle.transformations.proofs.HistoryLemmas.{epoch_after}
-use Rattle.transformations.specs.History.{state_after}
+use Rattle.transformations.specs.History.{commit_refusal, state_after}
 use Rattle.transformations.specs.Meeting.{datacenters_of, local_sets_at, sets_at}
 use Rattle.transformations.specs.declared.command.Command.{Command}
 use Rattle.transformations.specs.declared.image.Image.{Image}
 use Rattle.transformations.specs.declared.keyspace.KeyspaceRow.{KeyspaceRow}
+use Rattle.transformations.specs.declared.refusal.Refusal.{Refusal}
+use Rattle.cluster_metadata.specs.Served.{keyspace_of}
 use Rattle.script_lang.proofs.SaidLemmas.{IsSaid}
 use Rattle.script_lang.specs.Grammar.{line_of}
-use Rattle.tcm_session.specs.Machine.{keyspace_named, local_answer, local_quorums, local_quorums_in, quorum_answer, quorums, reply, reply_to}
-use Rattle.tcm_session.specs.Shown.{Shown, sets_in, shown_at, shown_by, shown_text}
-use Rattle.script_lang.specs.Texts.{quorum_text}
+use Rattle.tcm_session.specs.Machine.{decided, local_quorums, local_quorums_in, placements, query_answer, quorums, reply, reply_to}
+use Rattle.tcm_session.specs.declared.query.Query.TheVariants as query
+use Rattle.tcm_session.specs.Shown.{IsOfNoQuorum, Shown, sets_in, shown_at, shown_by, shown_text}
+use Rattle.script_lang.specs.Texts.{no_text, nodes_text, place_text, quorum_text, refusal_text}
 use Rattle.script_lang.specs.declared.script_line.ScriptLine.{ScriptLine}
 use Rattle.script_lang.specs.declared.script_line.ScriptLine.TheVariants.{Commit, Place, Nodes, Quorum, Local}
 use Rattle.script_lang.specs.declared.script_line.Target.TheVariants.{Epoch}
 
 -- the sets that are shown to a query: those of the keyspace that is found
 abbrev pub found_sets : Image → List ℕ → ℤ → Option (List ℕ) → Option Sets
-found_sets image name t dc = option_and_then (sets_in image t dc) (keyspace_named image name)
+found_sets image name t dc = option_and_then (sets_in image t dc) (keyspace_of image name)
 
 -- what a history shows: at an epoch that has come, to a token, the sets of its image
 pub record IsShownIn (h : List Command) (s : Shown) : Type 0 where
@@ -67,16 +70,16 @@ epoch_at h e within = epoch_after (take e h) ∙ length-take-le e h within
 
 -- the text at an image
 quorum_shown : (image : Image) (name : List ℕ) (t : ℤ) (sets : Sets) → found_sets image name t None ≡ Some sets
-    → quorums image t (keyspace_named image name) ≡ quorum_text (codes "QUORUM") image.epoch sets
-quorum_shown image name t sets found = by (keyspace_named image name) found
+    → quorums image t (keyspace_of image name) ≡ quorum_text (codes "QUORUM") image.epoch sets
+quorum_shown image name t sets found = by (keyspace_of image name) found
   where
     by : (o : Option KeyspaceRow) → option_and_then (sets_in image t None) o ≡ Some sets → quorums image t o ≡ quorum_text (codes "QUORUM") image.epoch sets
     by None e = absurd (none-some sets e)
     by (Some k) e = let same : sets_at image k.replication t ≡ sets = cc in ap (quorum_text (codes "QUORUM") image.epoch) same
 
 local_shown : (image : Image) (name dc : List ℕ) (t : ℤ) (sets : Sets) → found_sets image name t (Some dc) ≡ Some sets
-    → local_quorums image dc t (keyspace_named image name) ≡ quorum_text (codes "LOCAL") image.epoch sets
-local_shown image name dc t sets found = by (keyspace_named image name) found
+    → local_quorums image dc t (keyspace_of image name) ≡ quorum_text (codes "LOCAL") image.epoch sets
+local_shown image name dc t sets found = by (keyspace_of image name) found
   where
     within : (k : KeyspaceRow) (o : Option (List ℕ × ℕ)) → option_map (λ f. local_sets_at image k.replication f t) o ≡ Some sets
         → local_quorums_in image t k.replication o ≡ quorum_text (codes "LOCAL") image.epoch sets
@@ -91,18 +94,18 @@ local_shown image name dc t sets found = by (keyspace_named image name) found
 answered : (h : List Command) (e : ℕ) (text none : List ℕ) → e ≤ length h → (if nat_le e (length h) then text else none) ≡ text
 answered h e text none within = let short : nat_le e (length h) ≡ true = grind (arith, nat_tests) in ap (λ b. if b then text else none) short
 
-quorum_texts : (h : List Command) (e : ℕ) (name : List ℕ) (t : ℤ) (s : Shown) → shown_at h e name None t ≡ Some s → quorum_answer h e name t ≡ shown_text s
+quorum_texts : (h : List Command) (e : ℕ) (name : List ℕ) (t : ℤ) (s : Shown) → shown_at h e name None t ≡ Some s → query_answer h e (query.Quorum name t) ≡ shown_text s
 quorum_texts h e name t s shows =
     let p = parts h e name None t s shows in
-    answered h e (quorums (state_after h e) t (keyspace_named (state_after h e) name)) _ p.within
+    answered h e (quorums (state_after h e) t (keyspace_of (state_after h e) name)) _ p.within
     ∙ quorum_shown (state_after h e) name t p.sets p.found
     ∙ ap (λ n. quorum_text (codes "QUORUM") n p.sets) (epoch_at h e p.within)
     ∙ ap shown_text (sym p.is)
 
-local_texts : (h : List Command) (e : ℕ) (name dc : List ℕ) (t : ℤ) (s : Shown) → shown_at h e name (Some dc) t ≡ Some s → local_answer h e name dc t ≡ shown_text s
+local_texts : (h : List Command) (e : ℕ) (name dc : List ℕ) (t : ℤ) (s : Shown) → shown_at h e name (Some dc) t ≡ Some s → query_answer h e (query.Local name dc t) ≡ shown_text s
 local_texts h e name dc t s shows =
     let p = parts h e name (Some dc) t s shows in
-    answered h e (local_quorums (state_after h e) dc t (keyspace_named (state_after h e) name)) _ p.within
+    answered h e (local_quorums (state_after h e) dc t (keyspace_of (state_after h e) name)) _ p.within
     ∙ local_shown (state_after h e) name dc t p.sets p.found
     ∙ ap (λ n. quorum_text (codes "LOCAL") n p.sets) (epoch_at h e p.within)
     ∙ ap shown_text (sym p.is)
@@ -118,3 +121,59 @@ texts_said h (Some (Local (Epoch e) name dc t)) s shows = local_texts h e name d
 pub texts : (h : List Command) (bytes : List ℕ) (s : Shown) → shown_by h (line_of bytes) ≡ Some s → (reply h bytes).text ≡ shown_text s
 unfolding reply
 texts h bytes s shows = texts_said h (line_of bytes) s shows
+
+-- ---- answers that show nothing
+
+no_answer : (reason : List ℕ) → IsOfNoQuorum (no_text reason)
+no_answer reason = ((λ e. omega (arith, ap (λ l. get_or l 0 0) e)), (λ e. omega (arith, ap (λ l. get_or l 0 0) e)))
+
+-- an answer at an epoch that may not have come
+either : (b : Bool) (text reason : List ℕ) → IsOfNoQuorum text → IsOfNoQuorum (if b then text else no_text reason)
+either true text reason is = is
+either false text reason is = no_answer reason
+
+place_others : (image : Image) (o : Option KeyspaceRow) → IsOfNoQuorum (placements image o)
+unfolding place_text
+place_others image None = no_answer (codes "KEYSPACE")
+place_others image (Some k) = ((λ e. omega (arith, ap (λ l. get_or l 0 0) e)), (λ e. omega (arith, ap (λ l. get_or l 0 0) e)))
+
+nodes_others : (image : Image) → IsOfNoQuorum (nodes_text image)
+unfolding nodes_text
+nodes_others image = ((λ e. omega (arith, ap (λ l. get_or l 0 0) e)), (λ e. omega (arith, ap (λ l. get_or l 0 0) e)))
+
+commit_others : (h : List Command) (c : Command) (o : Option Refusal) → IsOfNoQuorum (decided h c o).text
+commit_others h c (Some r) = no_answer (refusal_text r)
+commit_others h c None = ((λ e. omega (arith, ap (λ l. get_or l 0 0) e)), (λ e. omega (arith, ap (λ l. get_or l 0 0) e)))
+
+-- a query of quorums that is refused
+module _ (h : List Command) (e : ℕ) (name : List ℕ) (t : ℤ) (show : Sets → Shown) where
+  quorum_others : (b : Bool) (o : Option KeyspaceRow) (reason : List ℕ)
+      → (if b then option_map show (option_and_then (sets_in (state_after h e) t None) o) else None) ≡ None → IsOfNoQuorum (if b then quorums (state_after h e) t o else no_text reason)
+  quorum_others false o reason none = no_answer reason
+  quorum_others true None reason none = no_answer (codes "KEYSPACE")
+  quorum_others true (Some k) reason none = absurd (none-some _ (sym none))
+
+  local_others : (dc : List ℕ) (b : Bool) (o : Option KeyspaceRow) (reason : List ℕ)
+      → (if b then option_map show (option_and_then (sets_in (state_after h e) t (Some dc)) o) else None) ≡ None → IsOfNoQuorum (if b then local_quorums (state_after h e) dc t o else no_text reason)
+  local_others dc false o reason none = no_answer reason
+  local_others dc true None reason none = no_answer (codes "KEYSPACE")
+  local_others dc true (Some k) reason none = by (datacenter_of (datacenters_of k.replication) dc) none
+    where
+      by : (f : Option (List ℕ × ℕ)) → option_map show (option_map (λ f. local_sets_at (state_after h e) k.replication f t) f) ≡ None
+          → IsOfNoQuorum (local_quorums_in (state_after h e) t k.replication f)
+      by None none = no_answer (codes "DC")
+      by (Some f) none = absurd (none-some _ (sym none))
+
+others_said : (h : List Command) (said : Option ScriptLine) → shown_by h said ≡ None → IsOfNoQuorum (reply_to h said).text
+others_said h None none = no_answer (codes "BAD-LINE")
+others_said h (Some (Commit id c)) none = commit_others h c (commit_refusal h c)
+others_said h (Some (Place (Epoch e) name)) none = either (nat_le e (length h)) _ (codes "EPOCH " ++ decimal (length h)) (place_others (state_after h e) (keyspace_of (state_after h e) name))
+others_said h (Some (Nodes (Epoch e))) none = either (nat_le e (length h)) _ (codes "EPOCH " ++ decimal (length h)) (nodes_others (state_after h e))
+others_said h (Some (Quorum (Epoch e) name t)) none =
+    quorum_others h e name t (λ (s : Sets). record { datacenter = None; keyspace = name; token = t; epoch = e; sets = s }) (nat_le e (length h)) (keyspace_of (state_after h e) name) (codes "EPOCH " ++ decimal (length h)) none
+others_said h (Some (Local (Epoch e) name dc t)) none =
+    local_others h e name t (λ (s : Sets). record { datacenter = Some dc; keyspace = name; token = t; epoch = e; sets = s }) dc (nat_le e (length h)) (keyspace_of (state_after h e) name) (codes "EPOCH " ++ decimal (length h)) none
+
+pub others : (h : List Command) (bytes : List ℕ) → shown_by h (line_of bytes) ≡ None → IsOfNoQuorum (reply h bytes).text
+unfolding reply
+others h bytes none = others_said h (line_of bytes) none

@@ -12,15 +12,16 @@ use Rattle.transformations.proofs.HistoryLemmas.{history_empty, history_push}
 use Rattle.transformations.proofs.HistoryMeetings.{meet_at_epoch, meet_at_next}
 use Rattle.transformations.proofs.ListLemmas.{all_append, all_found}
 use Rattle.transformations.specs.History.{IsHistory, commit_refusal, empty_image, image_after, is_command, state_after}
-use Rattle.transformations.specs.Meeting.{HasReplication, MeetAt, QuorumsMeet, datacenters_of, is_movement, local_sets_at, sets_at}
+use Rattle.transformations.specs.Meeting.{HasReplication, MeetAt, QuorumsMeet, datacenters_of, makes_movement_epoch, local_sets_at, sets_at}
 use Rattle.transformations.specs.declared.command.Command.{Command}
 use Rattle.transformations.specs.declared.image.Image.{Image}
 use Rattle.transformations.specs.declared.keyspace.KeyspaceRow.{KeyspaceRow}
 use Rattle.transformations.specs.declared.refusal.Refusal.{Refusal}
+use Rattle.cluster_metadata.specs.Served.{keyspace_of}
 use Rattle.script_lang.proofs.SaidLemmas.{IsSaid, said_by, tokens_by}
 use Rattle.tcm_session.proofs.ShownAnswers.{IsShownIn, found_sets, is_shown}
 use Rattle.script_lang.specs.Grammar.{HasTokens, line_of}
-use Rattle.tcm_session.specs.Machine.{commit_reply, decided, history_after, keyspace_named, reply, reply_to}
+use Rattle.tcm_session.specs.Machine.{commit_reply, decided, history_after, reply, reply_to}
 use Rattle.tcm_session.specs.Shown.{AreAdjacent, AskAlike, Shown, ShownMeet, and_shown, sets_in, shown, shown_by}
 use Rattle.script_lang.specs.declared.script_line.ScriptLine.{ScriptLine}
 use Rattle.script_lang.specs.declared.script_line.ScriptLine.TheVariants.{Commit, Place, Nodes, Quorum, Local}
@@ -136,9 +137,9 @@ keyspace_sets one other k t meet (Some dc) a b e f = by (datacenter_of (datacent
 image_sets : (one other : Image) (name : List ℕ) (t : ℤ) (dc : Option (List ℕ)) (a b : Sets) → QuorumsMeet one other → other.keyspaces ≡ one.keyspaces → IsToken t
     → found_sets one name t dc ≡ Some a → found_sets other name t dc ≡ Some b → Meet a b
 image_sets one other name t dc a b meet same token e f =
-    by (keyspace_named one name) refl e (ap (λ ks. option_and_then (sets_in other t dc) (find (λ (row : KeyspaceRow). bytes_eq row.name name) ks)) (sym same) ∙ f)
+    by (keyspace_of one name) refl e (ap (λ ks. option_and_then (sets_in other t dc) (find (λ (row : KeyspaceRow). bytes_eq row.name name) ks)) (sym same) ∙ f)
   where
-    by : (o : Option KeyspaceRow) → keyspace_named one name ≡ o → option_and_then (sets_in one t dc) o ≡ Some a → option_and_then (sets_in other t dc) o ≡ Some b → Meet a b
+    by : (o : Option KeyspaceRow) → keyspace_of one name ≡ o → option_and_then (sets_in one t dc) o ≡ Some a → option_and_then (sets_in other t dc) o ≡ Some b → Meet a b
     by None found e f = absurd (none-some a e)
     by (Some k) found e f =
         keyspace_sets one other k t (all_found (λ (k : KeyspaceRow). MeetAt one other k.replication t) (λ row. bytes_eq row.name name) one.keyspaces k found (meet t token)) dc a b e f
@@ -165,10 +166,10 @@ meet_shown h p q is a (inl same) =
     (ap (λ e. found_sets (state_after h e) p.keyspace p.token p.datacenter) same ∙ a.second)
 meet_shown h p q is a (inr next) = by (slice_get h p.epoch) refl next.1
   where
-    by : (o : Option Command) → slice_get h p.epoch ≡ o → option_map is_movement o ≡ Some true → Meet p.sets q.sets
+    by : (o : Option Command) → slice_get h p.epoch ≡ o → option_map makes_movement_epoch o ≡ Some true → Meet p.sets q.sets
     by None at movement = absurd (none-some true movement)
     by (Some c) at movement =
-        let movement_true : is_movement c ≡ true = cc in
+        let movement_true : makes_movement_epoch c ≡ true = cc in
         let meets = meet_at_next h p.epoch c is.history is.replications at movement_true in
         image_sets (state_after h p.epoch) (state_after h (p.epoch + 1)) p.keyspace p.token p.datacenter p.sets q.sets meets.quorums meets.keyspaces a.token a.first
         (ap (λ e. found_sets (state_after h e) p.keyspace p.token p.datacenter) (sym next.0) ∙ a.second)

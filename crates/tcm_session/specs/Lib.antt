@@ -4,6 +4,6 @@ pub mod Lines
 pub mod Machine
 pub mod Outcome
 pub mod Placers
+pub mod Rings
 pub mod Runs
-pub mod Serving
 pub mod Shown

@@ -20,13 +20,16 @@ abbrev pub is_commit : List (List ℕ) → Bool
 is_commit (word ∷ []) = bytes_eq word (codes "commit")
 is_commit _ = false
 
+-- what is printed for other words
 abbrev pub usage_text : List ℕ
 usage_text = line (codes "usage: tcm commit [LOG] | replay FILE.. | snapshot LOG E | gen START N")
 
+-- what is printed for an input that is too large, with the limit
 abbrev pub too_large_text : List ℕ
 too_large_text = line (codes "TOO-LARGE 536870912")
 
--- a script from an empty history: the answers to its lines; of one that is too long to those lines that end within the limit
+-- a script from an empty history: the answers to its lines; of one that is too long to those lines that end within the
+-- limit
 unfoldable pub commit_outcome : List ℕ → Outcome
 commit_outcome input =
     if nat_le (length input) input_limit
@@ -62,13 +65,13 @@ pub record ReadsJust (count : ℕ) (left left' : Option (List ℕ)) : Type 0 whe
   pub consumed : Consumes left left' bytes
   pub size : length bytes ≡ count
 
--- the lines that end among the bytes that were read are answered
+-- the lines that end among the bytes that were read are answered, and nothing else is printed
 pub record AnswersWhatIsRead (left left' written written' : Option (List ℕ)) : Type 0 where
   pub bytes : List ℕ
   pub consumed : Consumes left left' bytes
   pub printed : Appends written written' (answers [] (whole_lines bytes))
 
--- statuses with which a run came to its end, and those of want of memory, of a fault of the source and of the sink
+-- the statuses of a run that came to its end: not that of want of memory, of a fault of the source or of one of the sink
 abbrev pub IsFinal : ℕ → Type 0
 IsFinal status = (status ≢ 1) × (status ≢ 4) × (status ≢ 5)
 

@@ -1,3 +1,5 @@
+//! Why a run ends before its end.
+
 ghost use Rattle.std.specs.Prelude.{◌≡◌};
 ghost use Rattle.tcm_session.specs.declared.fault.RunFault.TheVariants as run;
 ghost use Rattle.tcm_edges.specs.declared.fault.WriteFault.TheVariants as write;

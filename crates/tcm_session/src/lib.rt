@@ -2,18 +2,11 @@
 #![tactic(auto)]
 
 mod fault;
-#[cfg(test)]
-mod fault_tests;
-#[cfg(test)]
-mod limit_tests;
 mod lines;
-#[cfg(test)]
-mod movement_tests;
 mod place_text;
 mod placement;
 mod program;
-#[cfg(test)]
-mod quorum_tests;
+mod query;
 mod quorum_text;
 mod reading;
 mod replay;

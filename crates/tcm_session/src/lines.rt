@@ -1,3 +1,5 @@
+//! How pieces of a script are cut into lines.
+
 ghost use Rattle.std.specs.Prelude.{◌≡◌, ◌∷◌, ◌++◌, IfNone, IfSome};
 ghost use Rattle.tcm_session.specs.Lines.{HasNoFeed};
 

@@ -1,36 +1,56 @@
-//! The answer to a query of placements.
+//! The answers to queries of placements.
 
 ghost use Rattle.std.specs.Prelude.{◌≡◌, ◌++◌, flat_map, length, take, OnOk};
+ghost use Rattle.cluster_metadata.specs.Served.{keyspace_of};
 ghost use Rattle.script_lang.specs.Texts.{place_text as place_words, row_text as row_words};
+ghost use Rattle.tcm_session.specs.Machine.{placements};
 ghost use Rattle.tcm_session.specs.Placers.{IsPlacing};
-ghost use Rattle.transformations.specs.Valid.{IsValid};
 
 use crate::placement::Placers;
-use crate::rings::{directory_of, rings_of};
-use cluster_terms::{ByteText, Memory, Replication, TokenRange, rows_between};
-use script_lang::{place_head_text, placed_text};
+use crate::rings::rings_of;
+use cluster_metadata::Metadata;
+use cluster_terms::{ByteText, Memory, Name, Replication, TokenRange, rows_between};
+use script_lang::{no_text, place_head_text, placed_text};
 use std::alloc::Global;
-use transformations::{Image, KeyspaceRow, cuts};
+use transformations::{Image, cuts};
 
-/// Adds the placements of a keyspace: a head with the number of rows, and the rows between the cuts.
-#[tactic(auto, using(crate::proofs::HistoryLemmas::serving), unfolding(script_lang::specs::Texts::place_text))]
+/// Adds the placements of a keyspace. After want of memory the output begins with what it held.
+///
+/// The three rings of the image are copied and sorted once, and each row walks each of them.
 pub fn place_text(
     alloc: Global,
-    image: &Image,
-    keyspace: &KeyspaceRow,
+    metadata: &Metadata,
+    keyspace: &Name,
     out: &mut ByteText,
 ) -> Result<(), Memory>
-    requires { IsValid image.now }
-    ensures added { OnOk result (out.new ≡ out.old ++ place_words image.now keyspace.now) }
+    ensures added { OnOk result (out.new ≡ out.old ++ placements metadata.now (keyspace_of metadata.now keyspace.now)) }
     ensures kept { take (length out.old) out.new ≡ out.old }
 {
+    match metadata.replication(keyspace) {
+        None => no_text(b"KEYSPACE", out),
+        Some(replication) => placements_text(alloc, metadata, keyspace, replication, out),
+    }
+}
+
+/// Adds the placements of a keyspace that has this replication: a head with the number of rows, and the rows between the
+/// cuts.
+#[tactic(auto, unfolding(script_lang::specs::Texts::place_text))]
+fn placements_text(
+    alloc: Global,
+    metadata: &Metadata,
+    keyspace: &Name,
+    replication: &Replication,
+    out: &mut ByteText,
+) -> Result<(), Memory>
+    ensures added { OnOk result (out.new ≡ out.old ++ place_words metadata.now (record { name = keyspace.now; replication = replication.now })) }
+    ensures kept { take (length out.old) out.new ≡ out.old }
+{
+    let image = metadata.as_image();
     let cuts = cuts(alloc, image)?;
     let rows = rows_between(alloc, cuts.as_slice())?;
     let rings = rings_of(alloc, image)?;
-    let dir = directory_of(alloc, image)?;
-    let replication = &keyspace.replication;
-    let placers = Placers::new(alloc, image, &rings, &dir, replication)?;
-    place_head_text(image.epoch, &keyspace.name, rows.as_slice().len(), out)?;
+    let placers = Placers::new(alloc, image, &rings, metadata.directory(), replication)?;
+    place_head_text(metadata.epoch(), keyspace, rows.as_slice().len(), out)?;
     rows_text(alloc, image, replication, &placers, rows.as_slice(), out)
 }
 

@@ -5,7 +5,7 @@ ghost use Rattle.cluster_terms.specs.Group.{place as placed};
 ghost use Rattle.cluster_terms.specs.Replication.{groups_of, whole_group};
 ghost use Rattle.transformations.specs.Rings.{reads_at as reads_of, writes_at as writes_of};
 ghost use Rattle.tcm_session.specs.Placers.{IsPlacing, placed_by};
-ghost use Rattle.tcm_session.specs.Serving.{AreRings};
+ghost use Rattle.tcm_session.specs.Rings.{AreRings};
 
 use crate::rings::Rings;
 use cluster_terms::{Memory, Replication, Rf, Steps, Token};
@@ -46,13 +46,14 @@ impl<'a> Placer<'a> {
         }
     }
 
-    /// The replicas at a token.
+    /// The replicas at a token. The walk isn't counted.
     fn place(&self, alloc: Global, at: Token) -> Result<NodeSet, Memory>
         ensures { IfOk result (λ nodes. nodes ≡ placed_by self.now at) }
     {
         self.walked::<Brand>(alloc, at, Blank::new(1))
     }
 
+    /// The same on a counter of steps of its own.
     fn walked<L: Ledger>(&self, alloc: Global, at: Token, blank: Blank) -> Result<NodeSet, Memory>
         requires name { blank.name ≡ L.name }
         requires parts { blank.parts ≡ L.parts }

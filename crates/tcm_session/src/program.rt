@@ -1,3 +1,5 @@
+//! What the words after the program's name ask for.
+
 ghost use Rattle.std.specs.Prelude.{◌≡◌, ◌≢◌, ◌⊎◌, ℕ, ◌+◌, ◌<◌, ◌-◌, ◌^◌, ◌≤◌, [], Some, false, map, string_bytes, length, IfOk, OnOk, IsErrOf};
 ghost use Rattle.std.specs.Io.KnownBytes.{Appends, IsAtEnd};
 ghost use Rattle.tcm_edges.specs.Causes.{HasWriteCause, Rose};
@@ -15,8 +17,10 @@ use crate::session::Session;
 use std::alloc::Global;
 use tcm_edges::{Sink, Source, Store, SureSink, SureSource, SureStore, write_all};
 
+/// The answer to words that are not understood.
 const USAGE: &str = "usage: tcm commit [LOG] | replay FILE.. | snapshot LOG E | gen START N\n";
 
+/// What is written for an input that is too large, with the limit of its bytes.
 const TOO_LARGE: &str = "TOO-LARGE 536870912\n";
 
 /// The status that a run ends with: 0 where the input was read to its end, 1 for want of memory, 2 for words
@@ -24,6 +28,7 @@ const TOO_LARGE: &str = "TOO-LARGE 536870912\n";
 #[derive(Clone, Copy, Debug, PartialEq, Eq)]
 pub struct Status(pub u8);
 
+/// Whether the words are the one word `commit`.
 fn is_commit(words: &[String]) -> bool
     ensures { result ≡ is_commit_word (map string_bytes words.now) }
 {
@@ -33,6 +38,7 @@ fn is_commit(words: &[String]) -> bool
     }
 }
 
+/// The status of a run that a fault ends.
 fn fault_status(fault: RunFault) -> Status
     ensures { result.0 ≡ status_of_fault fault }
 {
@@ -174,7 +180,6 @@ fn answer_words<S: Source, K: Sink>(
 /// rose; 8 exactly where byte 536,870,913 was read, after the answers to the lines that end before it.
 /// A run ends at the first of these. Where the text that belongs to a status can't be written, it is 5,
 /// or 1 where the sink wants memory.
-#[tactic(auto, using(crate::proofs::PrintedLemmas::prints_meeting))]
 pub fn run<S: Source, K: Sink, D: Store>(
     alloc: Global,
     words: &[String],

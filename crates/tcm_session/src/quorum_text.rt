@@ -1,23 +1,22 @@
 //! The answers to queries of quorums.
 
-ghost use Rattle.std.specs.Prelude.{◌≡◌, ◌≤◌, ◌++◌, codes, length, is_some, IfOk, IfSome, IsSome, OnOk};
-ghost use Rattle.std.specs.Option.{option_copied};
-ghost use Rattle.cluster_terms.specs.NodeRow.{row_of};
+ghost use Rattle.std.specs.Prelude.{◌≡◌, ◌≤◌, ◌++◌, codes, length, take, is_some, IfOk, IfSome, IsSome, OnOk};
 ghost use Rattle.cluster_terms.specs.Quorum.{datacenter_of, local_sets, within};
-ghost use Rattle.cluster_terms.specs.Replication.{rack_within};
 ghost use Rattle.transformations.specs.Meeting.{datacenters_of};
 ghost use Rattle.script_lang.specs.Texts.{quorum_text as quorum_words};
-ghost use Rattle.tcm_session.specs.Machine.{keyspace_named, local_quorums, quorums};
+ghost use Rattle.cluster_metadata.specs.Served.{keyspace_of};
+ghost use Rattle.tcm_session.specs.Machine.{local_quorums, quorums};
 
 use cluster_metadata::Metadata;
-use cluster_terms::{ByteText, Factors, Memory, Name, NodeId, Replication, Rf, Token};
+use cluster_terms::{ByteText, Factors, Memory, Name, NodeId, Replication, Token};
 use node_directory::Directory;
 use node_sets::NodeSet;
-use quorum_sets::{local_quorum, quorum};
+use quorum_sets::{local_quorum, names_datacenter, quorum};
 use script_lang::{no_text, sets_text};
 use std::alloc::Global;
 
-/// Adds what QUORUM reads and writes of a keyspace at a token, and how many of these it needs.
+/// Adds what QUORUM reads and writes of a keyspace at a token, and how many of these it needs. After want of memory the
+/// output begins with what it held.
 pub fn quorum_text(
     alloc: Global,
     metadata: &Metadata,
@@ -25,7 +24,8 @@ pub fn quorum_text(
     t: Token,
     out: &mut ByteText,
 ) -> Result<(), Memory>
-    ensures { OnOk result (out.new ≡ out.old ++ quorums metadata.now t (keyspace_named metadata.now keyspace.now)) }
+    ensures added { OnOk result (out.new ≡ out.old ++ quorums metadata.now t (keyspace_of metadata.now keyspace.now)) }
+    ensures kept { take (length out.old) out.new ≡ out.old }
 {
     let Some(replication) = metadata.replication(keyspace) else {
         return no_text(b"KEYSPACE", out);
@@ -43,38 +43,8 @@ fn factors_naming<'a>(replication: &'a Replication, dc: &Name) -> Option<&'a Fac
     ensures factors { IfSome result (λ factors. factors.now ≡ datacenters_of replication.now) }
 {
     match replication {
-        Replication::Topology(factors) if names(factors, dc) => Some(factors),
+        Replication::Topology(factors) if names_datacenter(factors, dc) => Some(factors),
         _ => None,
-    }
-}
-
-/// The row of a datacenter among some factors, if they name it.
-fn row_naming<'a>(factors: &'a Factors, dc: &Name) -> Option<&'a (Name, Rf)>
-    ensures { option_copied result ≡ datacenter_of factors.now dc.now }
-{
-    factors
-        .rows()
-        .iter()
-        .find(|row| row.0.as_str() == dc.as_str())
-}
-
-/// Whether some factors name a datacenter.
-fn names(factors: &Factors, dc: &Name) -> bool
-    ensures { result ≡ is_some (datacenter_of factors.now dc.now) }
-{
-    match row_naming(factors, dc) {
-        Some(_row) => true,
-        None => false,
-    }
-}
-
-/// Whether a node stands in a datacenter.
-fn is_within(dir: &Directory, dc: &Name, n: NodeId) -> bool
-    ensures { result ≡ is_some (rack_within dc.now (row_of dir.now.rows n)) }
-{
-    match dir.place_of(n) {
-        Some((of, _rack)) => of.as_str() == dc.as_str(),
-        None => false,
     }
 }
 
@@ -89,7 +59,7 @@ fn ids_within(
 {
     let nodes = ids
         .iter()
-        .filter(|n| is_within(dir, dc, **n))
+        .filter(|n| dir.rack_in(dc, **n).is_some())
         .map(|n| *n)
         .collect(alloc)?;
     Ok(nodes)
@@ -115,7 +85,8 @@ fn local_sets_text(
 ) -> Result<(), Memory>
     requires named { IsSome (datacenter_of factors.now dc.now) }
     requires few { length sets.now.1 ≤ 1024 }
-    ensures { IfSome (datacenter_of factors.now dc.now) (λ f. OnOk result (out.new ≡ out.old ++ quorum_words (codes "LOCAL") metadata.now.epoch (local_sets metadata.now.nodes f sets.now.0 sets.now.1))) }
+    ensures added { IfSome (datacenter_of factors.now dc.now) (λ f. OnOk result (out.new ≡ out.old ++ quorum_words (codes "LOCAL") metadata.now.epoch (local_sets metadata.now.nodes f sets.now.0 sets.now.1))) }
+    ensures kept { take (length out.old) out.new ≡ out.old }
 {
     let dir = metadata.directory();
     let needs = local_quorum(&sets.0, &sets.1, dir, factors, dc);
@@ -124,7 +95,8 @@ fn local_sets_text(
     sets_text("LOCAL", metadata.epoch(), &reads, &writes, &needs, out)
 }
 
-/// Adds what LOCAL_QUORUM of a datacenter reads and writes of a keyspace at a token, and how many of these it needs.
+/// Adds what LOCAL_QUORUM of a datacenter reads and writes of a keyspace at a token, and how many of these it needs. After
+/// want of memory the output begins with what it held.
 pub fn local_text(
     alloc: Global,
     metadata: &Metadata,
@@ -133,7 +105,8 @@ pub fn local_text(
     t: Token,
     out: &mut ByteText,
 ) -> Result<(), Memory>
-    ensures { OnOk result (out.new ≡ out.old ++ local_quorums metadata.now dc.now t (keyspace_named metadata.now keyspace.now)) }
+    ensures added { OnOk result (out.new ≡ out.old ++ local_quorums metadata.now dc.now t (keyspace_of metadata.now keyspace.now)) }
+    ensures kept { take (length out.old) out.new ≡ out.old }
 {
     let Some(replication) = metadata.replication(keyspace) else {
         return no_text(b"KEYSPACE", out);

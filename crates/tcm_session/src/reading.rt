@@ -1,3 +1,5 @@
+//! The reading of a script, a piece at a time.
+
 ghost use Rattle.std.specs.Prelude.{◌≡◌, ℕ, ◌+◌, ◌<◌, ◌-◌, ◌^◌, ◌≤◌, [], length, vec_len, IfOk, IfErr, OnOk, OnErr, IsErrOf};
 ghost use Rattle.std.specs.Io.KnownBytes.{Keeps};
 ghost use Rattle.tcm_session.specs.Lines.{HasNoFeed};

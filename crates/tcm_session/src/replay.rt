@@ -22,6 +22,7 @@ pub fn admitted(metadata: &Metadata, command: &Command) -> Result<Permit, AdmitF
     counted::<Brand>(metadata, command, Blank::new(1))
 }
 
+/// The same on a counter of steps of its own.
 fn counted<L: Ledger>(
     metadata: &Metadata,
     command: &Command,
@@ -68,7 +69,7 @@ fn take_all(metadata: &mut Metadata, commands: &[Command]) -> Result<(), Memory>
     Ok(())
 }
 
-/// The metadata after the commands of a history.
+/// The metadata after the commands of a history. Each of them is admitted and enacted again, at the cost of its commit.
 pub fn replay(alloc: Global, commands: &[Command]) -> Result<Metadata, Memory>
     requires { IsHistory commands.now }
     ensures { IfOk result (λ metadata. metadata ≡ image_after empty_image commands.now) }

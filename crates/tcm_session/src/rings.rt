@@ -1,12 +1,10 @@
-//! The rings and the directory of an image.
+//! The rings of an image.
 
-ghost use Rattle.std.specs.Prelude.{◌≡◌, IfOk, IsTrue};
-ghost use Rattle.std.specs.List.Sorted.{IsPermutation};
-ghost use Rattle.token_ring.specs.Ring.{are_distinct, tokens_of};
-ghost use Rattle.tcm_session.specs.Serving.{AreRings, IsServing};
+ghost use Rattle.std.specs.Prelude.{IfOk};
+ghost use Rattle.tcm_session.specs.Rings.{AreRings};
+ghost use Rattle.transformations.specs.Valid.{IsValid};
 
-use cluster_terms::{Memory, Pair};
-use node_directory::Directory;
+use cluster_terms::Memory;
 use std::alloc::Global;
 use token_ring::Ring;
 use transformations::{Image, RingKind, ring_with};
@@ -14,43 +12,25 @@ use transformations::{Image, RingKind, ring_with};
 /// The rings that reads and writes are placed on.
 #[derive(Drop)]
 pub struct Rings {
+    /// The ring before the movements.
     pub low: Ring,
+    /// The ring that reads see.
     pub read: Ring,
+    /// The ring that writes see.
     pub high: Ring,
 }
 
-/// The ring of some pairs, in any order, in which no token comes twice.
-fn ring_of(alloc: Global, pairs: &[Pair]) -> Result<Ring, Memory>
-    requires { IsTrue (are_distinct (tokens_of pairs.now)) }
-    ensures { IfOk result (λ ring. IsPermutation pairs.now ring) }
-{
-    match Ring::from_pairs(alloc, pairs)? {
-        Some(ring) => Ok(ring),
-        None => unreachable!(),
-    }
-}
-
-/// The rings of an image.
+/// The rings of an image. For p pairs of tokens and nodes each of them is copied and sorted, in p log p steps.
+#[tactic(auto, using(cluster_metadata::proofs::RingLemmas::low_tokens, cluster_metadata::proofs::RingLemmas::read_tokens, cluster_metadata::proofs::RingLemmas::high_tokens))]
 pub fn rings_of(alloc: Global, image: &Image) -> Result<Rings, Memory>
-    requires { IsServing image.now }
+    requires { IsValid image.now }
     ensures { IfOk result (λ rings. AreRings image.now rings) }
 {
     let read = ring_with(alloc, image, RingKind::Read)?;
     let high = ring_with(alloc, image, RingKind::High)?;
     Ok(Rings {
-        low: ring_of(alloc, image.tokens.as_slice())?,
-        read: ring_of(alloc, read.as_slice())?,
-        high: ring_of(alloc, high.as_slice())?,
+        low: Ring::from_distinct(alloc, image.tokens.as_slice())?,
+        read: Ring::from_distinct(alloc, read.as_slice())?,
+        high: Ring::from_distinct(alloc, high.as_slice())?,
     })
-}
-
-/// The directory of an image's nodes.
-pub fn directory_of(alloc: Global, image: &Image) -> Result<Directory, Memory>
-    requires { IsServing image.now }
-    ensures { IfOk result (λ dir. dir.rows ≡ image.now.nodes) }
-{
-    match Directory::from_rows(alloc, image.nodes.as_slice(), image.next)? {
-        Some(dir) => Ok(dir),
-        None => unreachable!(),
-    }
 }

@@ -1,23 +1,20 @@
-ghost use Rattle.std.specs.Prelude.{◌≡◌, ◌+◌, ◌≤◌, ◌∷◌, ◌++◌, [], find, length, option_copied, None, OnOk, OnErr, IfOk, IfSome, IsTrue, MatchResult};
-ghost use Rattle.std.specs.Str.{bytes_eq};
+//! The session: the history of accepted commands, and the reply to each line.
+
+ghost use Rattle.std.specs.Prelude.{◌≡◌, ◌+◌, ◌≤◌, ◌∷◌, ◌++◌, [], length, take, None, OnOk, OnErr, IfOk, IfSome, IsTrue, MatchResult};
 ghost use Rattle.script_lang.specs.Grammar.{HasTokens};
 ghost use Rattle.script_lang.specs.Texts.{ok_text as accepted_text};
 ghost use Rattle.transformations.specs.History.{commit_refusal, empty_image, image_after, is_command, state_after};
-ghost use Rattle.transformations.specs.Valid.{IsValid};
 ghost use Rattle.cluster_metadata.specs.Permission.{ShowsRefusal};
-ghost use Rattle.tcm_session.specs.Machine.{commit_reply, keyspace_named, local_answer, nodes_answer, place_answer, placements, quorum_answer, reply, reply_to};
+ghost use Rattle.tcm_session.specs.Machine.{commit_reply, query_answer, reply, reply_to};
 
-use crate::place_text::place_text;
-use crate::quorum_text::{local_text, quorum_text};
+use crate::query::{Query, answer_from};
 use crate::replay::{admitted, replay};
 use cluster_metadata::{AdmitFault, Metadata, Permit};
-use cluster_terms::{ByteText, Memory, Name, Token};
-use script_lang::{
-    ScriptLine, Target, no_epoch_text, no_text, nodes_text, ok_text, parse_line, refused_text,
-};
+use cluster_terms::{ByteText, Memory};
+use script_lang::{ScriptLine, Target, no_epoch_text, no_text, ok_text, parse_line, refused_text};
 use std::alloc::Global;
 use std::marker::Model;
-use transformations::{Command, Image, KeyspaceRow, Refusal};
+use transformations::{Command, Refusal};
 
 /// The most epochs that are committed.
 const MOST_EPOCHS: usize = 65_536;
@@ -43,33 +40,11 @@ impl Model for Session {
     ghost invariant = { λ session. (session.metadata ≡ image_after empty_image session.commands.items) × IsHistory session.commands.items };
 }
 
-/// The keyspace of a name.
-fn find_keyspace<'a>(rows: &'a [KeyspaceRow], name: &Name) -> Option<&'a KeyspaceRow>
-    ensures { option_copied result ≡ find (λ row. bytes_eq row.name name.now) rows.now }
-{
-    rows.iter().find(|row| row.name.as_str() == name.as_str())
-}
-
-/// Adds the placements of the keyspace of a name.
-fn placements_text(
-    alloc: Global,
-    image: &Image,
-    keyspace: &Name,
-    out: &mut ByteText,
-) -> Result<(), Memory>
-    requires { IsValid image.now }
-    ensures { OnOk result (out.new ≡ out.old ++ placements image.now (keyspace_named image.now keyspace.now)) }
-{
-    match find_keyspace(image.keyspaces.as_slice(), keyspace) {
-        None => no_text(b"KEYSPACE", out),
-        Some(row) => place_text(alloc, image, row, out),
-    }
-}
-
 /// Adds the answer to a commit that is accepted, and the command to those before it. Want of memory leaves these as
 /// they were.
 fn note(commands: &mut Vec<Command>, command: Command, out: &mut ByteText) -> Result<(), Memory>
     ensures text { OnOk result (out.new ≡ out.old ++ accepted_text (length commands.old.items + 1)) }
+    ensures kept { take (length out.old) out.new ≡ out.old }
     ensures commands { MatchResult result (λ _. commands.new.items ≡ commands.old.items ++ command ∷ []) (λ _. commands.new.items ≡ commands.old.items) }
 {
     ok_text(commands.len() as u64 + 1, out)?;
@@ -99,9 +74,11 @@ impl Session {
         metadata.close();
     }
 
-    /// Answers a line: appends the answer's text to `out`. Want of memory leaves the history as it was.
+    /// Answers a line: adds the answer's text. Want of memory leaves the history as it was, and the output begins with what
+    /// it held.
     pub fn step(&mut self, line: &[u8], out: &mut ByteText) -> Result<(), Memory>
         ensures text { OnOk result (out.new ≡ out.old ++ (reply self.old line.now).text) }
+        ensures kept { take (length out.old) out.new ≡ out.old }
         ensures history { OnOk result (self.new ≡ (reply self.old line.now).history) }
         ensures err { OnErr result (self.new ≡ self.old) }
     {
@@ -113,6 +90,7 @@ impl Session {
     fn answer(&mut self, said: Option<ScriptLine>, out: &mut ByteText) -> Result<(), Memory>
         requires { IfSome said (λ line. HasTokens line) }
         ensures text { OnOk result (out.new ≡ out.old ++ (reply_to self.old said).text) }
+        ensures kept { take (length out.old) out.new ≡ out.old }
         ensures history { OnOk result (self.new ≡ (reply_to self.old said).history) }
         ensures err { OnErr result (self.new ≡ self.old) }
     {
@@ -120,14 +98,14 @@ impl Session {
             None => no_text(b"BAD-LINE", out),
             Some(ScriptLine::Commit(_id, command)) => self.commit(command, out),
             Some(ScriptLine::Place(Target::Epoch(epoch), keyspace)) => {
-                self.place(epoch, &keyspace, out)
+                self.query(epoch, Query::Place(keyspace), out)
             }
-            Some(ScriptLine::Nodes(Target::Epoch(epoch))) => self.nodes(epoch, out),
+            Some(ScriptLine::Nodes(Target::Epoch(epoch))) => self.query(epoch, Query::Nodes, out),
             Some(ScriptLine::Quorum(Target::Epoch(epoch), keyspace, t)) => {
-                self.quorum(epoch, &keyspace, t, out)
+                self.query(epoch, Query::Quorum(keyspace, t), out)
             }
             Some(ScriptLine::Local(Target::Epoch(epoch), keyspace, dc, t)) => {
-                self.local(epoch, &keyspace, &dc, t, out)
+                self.query(epoch, Query::Local(keyspace, dc, t), out)
             }
         }
     }
@@ -136,6 +114,7 @@ impl Session {
     fn commit(&mut self, command: Command, out: &mut ByteText) -> Result<(), Memory>
         requires { IsTrue (is_command command) }
         ensures text { OnOk result (out.new ≡ out.old ++ (commit_reply self.old command).text) }
+        ensures kept { take (length out.old) out.new ≡ out.old }
         ensures history { OnOk result (self.new ≡ (commit_reply self.old command).history) }
         ensures err { OnErr result (self.new ≡ self.old) }
     {
@@ -164,6 +143,7 @@ impl Session {
         requires accepted { commit_refusal self.old command ≡ None }
         requires permit { permit ≡ record { image = image_after empty_image self.old; command = command } }
         ensures text { OnOk result (out.new ≡ out.old ++ accepted_text (length self.old + 1)) }
+        ensures kept { take (length out.old) out.new ≡ out.old }
         ensures history { MatchResult result (λ _. self.new ≡ self.old ++ command ∷ []) (λ _. self.new ≡ self.old) }
     {
         match note(&mut self.commands, command, out) {
@@ -178,83 +158,21 @@ impl Session {
         }
     }
 
-    /// Answers a query of the placements of a keyspace in the image of an epoch.
-    fn place(&self, epoch: u64, keyspace: &Name, out: &mut ByteText) -> Result<(), Memory>
-        ensures { OnOk result (out.new ≡ out.old ++ place_answer self.now epoch keyspace.now) }
+    /// Answers a query from the metadata of an epoch. That of the last epoch is kept; that of an earlier one is made anew,
+    /// which costs what its commits did.
+    fn query(&self, epoch: u64, query: Query, out: &mut ByteText) -> Result<(), Memory>
+        ensures text { OnOk result (out.new ≡ out.old ++ query_answer self.now epoch query) }
+        ensures kept { take (length out.old) out.new ≡ out.old }
     {
         let last = self.commands.len() as u64;
         if epoch > last {
             return no_epoch_text(last, out);
         }
         if epoch == last {
-            return placements_text(self.alloc, self.metadata.as_image(), keyspace, out);
+            return answer_from(self.alloc, &self.metadata, &query, out);
         }
         let metadata = self.metadata_at(epoch as usize)?;
-        let answered = placements_text(self.alloc, metadata.as_image(), keyspace, out);
-        metadata.close();
-        answered
-    }
-
-    /// Answers a query of the nodes in the image of an epoch.
-    fn nodes(&self, epoch: u64, out: &mut ByteText) -> Result<(), Memory>
-        ensures { OnOk result (out.new ≡ out.old ++ nodes_answer self.now epoch) }
-    {
-        let last = self.commands.len() as u64;
-        if epoch > last {
-            return no_epoch_text(last, out);
-        }
-        if epoch == last {
-            return nodes_text(self.alloc, self.metadata.as_image(), out);
-        }
-        let metadata = self.metadata_at(epoch as usize)?;
-        let answered = nodes_text(self.alloc, metadata.as_image(), out);
-        metadata.close();
-        answered
-    }
-
-    /// Answers a query of the quorums of a keyspace at a token, in the image of an epoch.
-    fn quorum(
-        &self,
-        epoch: u64,
-        keyspace: &Name,
-        t: Token,
-        out: &mut ByteText,
-    ) -> Result<(), Memory>
-        ensures { OnOk result (out.new ≡ out.old ++ quorum_answer self.now epoch keyspace.now t) }
-    {
-        let last = self.commands.len() as u64;
-        if epoch > last {
-            return no_epoch_text(last, out);
-        }
-        if epoch == last {
-            return quorum_text(self.alloc, &self.metadata, keyspace, t, out);
-        }
-        let metadata = self.metadata_at(epoch as usize)?;
-        let answered = quorum_text(self.alloc, &metadata, keyspace, t, out);
-        metadata.close();
-        answered
-    }
-
-    /// The same of the local quorums of a datacenter.
-    fn local(
-        &self,
-        epoch: u64,
-        keyspace: &Name,
-        dc: &Name,
-        t: Token,
-        out: &mut ByteText,
-    ) -> Result<(), Memory>
-        ensures { OnOk result (out.new ≡ out.old ++ local_answer self.now epoch keyspace.now dc.now t) }
-    {
-        let last = self.commands.len() as u64;
-        if epoch > last {
-            return no_epoch_text(last, out);
-        }
-        if epoch == last {
-            return local_text(self.alloc, &self.metadata, keyspace, dc, t, out);
-        }
-        let metadata = self.metadata_at(epoch as usize)?;
-        let answered = local_text(self.alloc, &metadata, keyspace, dc, t, out);
+        let answered = answer_from(self.alloc, &metadata, &query, out);
         metadata.close();
         answered
     }

@@ -1,41 +1,15 @@
 -- The tokens at which ranges begin and end, in ascending order.
-use Rattle.std.proofs.Common.{◌≡◌, true, ℤ, List, [], ◌∷◌, ◌++◌, Option, Some, None, refl, ap, ◌∙◌, arith}
-use Rattle.std.specs.List.{dedup, Contains}
-use Rattle.std.specs.List.Sorted.{IsPermutation, IsSorted, IsStrictlySortedBy}
-use Rattle.std.specs.Ordering.{int_cmp, int_eq, eq_by_cmp}
+use Rattle.std.proofs.Common.{◌≡◌, true, ℤ, List, [], ◌∷◌, ◌++◌, Option, Some, None, refl, ap, ◌∙◌}
+use Rattle.std.specs.Ordering.{int_eq}
 use Rattle.std.specs.Set.{is_member}
 use Rattle.std.proofs.lemmas.Bool.{and_from, and_parts, or_left, or_right}
-use Rattle.std.proofs.lemmas.Bool.Decides.{Decides-int_eq, Decides-like, same_from_decides}
-use Rattle.std.proofs.lemmas.Cmp.{int_cmp_total, int_eq_equiv}
-use Rattle.std.proofs.lemmas.Int.{ints}
+use Rattle.std.proofs.lemmas.Bool.Decides.{Decides-int_eq}
 use Rattle.std.proofs.lemmas.List.Folds.{list_any-append}
-use Rattle.std.proofs.lemmas.List.Kept.{IsStrictlySortedBy-dedup, Contains-dedup, Contains-from_dedup}
-use Rattle.std.proofs.lemmas.List.Sorted.{Contains-permutation, IsPermutation-sym}
-use Rattle.std.proofs.lemmas.Map.Made.{is_member-Decides}
 use Rattle.cluster_terms.specs.declared.row.TokenRange.{TokenRange}
 use Rattle.cluster_terms.specs.declared.token.RightEnd.{RightEnd}
 use Rattle.cluster_terms.specs.declared.token.RightEnd.TheVariants.{At, Max}
 use Rattle.token_ring.specs.Bounds.{left_bound, right_bound, bounds_of}
 use Rattle.token_ring.specs.Ranges.{is_cut_left, is_cut_right, AreCutOut}
-
--- tokens sorted and then rid of repeats ascend, and are the same tokens
-pub sorted_once : (tokens sorted once : List ℤ) → IsPermutation tokens sorted → IsSorted int_cmp sorted → once ≡ dedup int_eq sorted
-    → IsStrictlySortedBy int_cmp once × ((t : ℤ) → is_member int_eq once t ≡ is_member int_eq tokens t)
-sorted_once tokens sorted once moved up is = (ascends, members)
-  where
-    ties : (x y : ℤ) → int_eq x y ≡ eq_by_cmp int_cmp x y
-    ties x y = grind (arith, ints)
-
-    ascends : IsStrictlySortedBy int_cmp once
-    ascends = rw is (IsStrictlySortedBy-dedup int_cmp_total ties sorted up)
-
-    members : (t : ℤ) → is_member int_eq once t ≡ is_member int_eq tokens t
-    members t =
-        let back : Contains once t → Contains tokens t = λ h. Contains-permutation sorted tokens t (IsPermutation-sym tokens sorted moved) (Contains-from_dedup int_eq sorted t (rw is at h)) in
-        let forth : Contains tokens t → Contains once t = λ h. rw is (Contains-dedup int_eq_equiv (λ x y same. (Decides-int_eq x y).0 same) sorted t (Contains-permutation tokens sorted t moved h)) in
-        same_from_decides (is_member int_eq once t) (is_member int_eq tokens t) (Decides-like (is_member int_eq once t) back forth (is_member-Decides Decides-int_eq once t)) (is_member-Decides Decides-int_eq tokens t)
-
--- ---- the bounds of ranges cut them out
 
 member_more : (x : ℤ) (xs : List ℤ) (t : ℤ) → is_member int_eq xs t ≡ true → is_member int_eq (x ∷ xs) t ≡ true
 member_more x xs t h = or_right (int_eq t x) (is_member int_eq xs t) h

@@ -6,3 +6,4 @@ pub mod OrderLemmas
 pub mod PlaceLemmas
 pub mod RangeLemmas
 pub mod RingLemmas
+pub mod SameTokens

@@ -1,13 +1,12 @@
-ghost use Rattle.std.specs.Prelude.{◌≡◌, ℤ, ◌++◌, IfOk, OnOk};
+ghost use Rattle.std.specs.Prelude.{◌≡◌, ◌++◌, IfOk, OnOk};
 ghost use Rattle.std.specs.List.{AllByRecursion};
 ghost use Rattle.std.specs.List.Sorted.{IsStrictlySortedBy};
-ghost use Rattle.std.specs.Ordering.{int_cmp, int_eq};
-ghost use Rattle.std.specs.Set.{is_member};
+ghost use Rattle.std.specs.Ordering.{int_cmp};
 ghost use Rattle.cluster_terms.specs.Arc.{IsToken};
 ghost use Rattle.token_ring.specs.Bounds.{bounds_of};
 ghost use Rattle.token_ring.specs.Ranges.{AreCutOut};
 
-use cluster_terms::{Memory, RightEnd, Token, TokenRange, tokens_in_range};
+use cluster_terms::{Memory, RightEnd, Token, TokenRange, put_in_order, tokens_in_range};
 use std::alloc::Global;
 
 /// Adds the tokens at which ranges begin and end.
@@ -23,15 +22,6 @@ fn push_bounds(bounds: &mut Vec<Token>, ranges: &[TokenRange]) -> Result<(), Mem
         }
     }
     Ok(())
-}
-
-/// Puts tokens into ascending order, each once.
-fn put_in_order(tokens: &mut Vec<Token>)
-    ensures ascending { IsStrictlySortedBy int_cmp tokens.new.items }
-    ensures same { (t : ℤ) → is_member int_eq tokens.new.items t ≡ is_member int_eq tokens.old.items t }
-{
-    tokens.sort_unstable();
-    tokens.dedup();
 }
 
 /// The tokens at which the ranges of two lists begin and end, in ascending order, each once.

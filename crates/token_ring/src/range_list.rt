@@ -1,8 +1,11 @@
-ghost use Rattle.std.specs.Prelude.{◌≡◌, int_lt, true, false, ◌||◌, [], ◌∷◌, ◌++◌, ◌≤◌, length, map, IfOk, MatchResult};
+ghost use Rattle.std.specs.Prelude.{◌≡◌, ℤ, List, int_lt, true, false, ◌||◌, [], ◌∷◌, ◌++◌, ◌≤◌, length, map, IfOk, MatchResult};
 ghost use Rattle.std.specs.List.{AllByRecursion};
 ghost use Rattle.std.specs.List.Sorted.{IsPartitionPoint, IsStrictlySortedBy};
 ghost use Rattle.std.specs.Ordering.{int_cmp};
+ghost use Rattle.cluster_terms.specs.Arc.{IsToken};
 ghost use Rattle.cluster_terms.specs.Row.{last_token as last_in, is_past as is_past_end, rows_between as rows_of};
+ghost use Rattle.cluster_terms.specs.declared.row.TokenRange.{TokenRange as AnyRange};
+ghost use Rattle.token_ring.specs.Bounds.{bounds_of};
 ghost use Rattle.token_ring.specs.Ranges.{have_token, HaveTokens, ends_before, IsRange, IsRangeList, AreCutOut, have_chosen};
 
 use crate::bounds::bounds_of_both;
@@ -78,7 +81,7 @@ impl RangeList {
         }
     }
 
-    /// Whether a range has a token. The cost is a binary search, about log m for m ranges.
+    /// Whether a range has a token. The cost is a binary search.
     pub fn contains(&self, t: Token) -> bool
         ensures { result ≡ have_token self.now t }
     {
@@ -130,3 +133,11 @@ impl TryCopy for RangeList {
         Ok(RangeList { ranges })
     }
 }
+
+/// What the definitions say of ranges: each set of tokens has one list of ranges.
+#[tactic(auto, using(crate::proofs::SameTokens::same_list))]
+pub fn each_set_has_one_list()
+    ensures { (one other : List AnyRange) → IsRangeList one → IsRangeList other
+        → AllByRecursion IsToken (bounds_of one) → AllByRecursion IsToken (bounds_of other)
+        → ((t : ℤ) → IsToken t → have_token one t ≡ have_token other t) → one ≡ other }
+{}

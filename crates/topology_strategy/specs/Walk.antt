@@ -1,4 +1,4 @@
--- What a walk takes in one group.
+-- What a walk takes in one group (NetworkTopologyStrategy).
 use Rattle.std.specs.Prelude.{ℕ, ◌-◌, if◌then◌else◌, List, [], ◌∷◌, ◌++◌, length, nat_eq, nat_lt, Option, Some, None, flat_map}
 use Rattle.std.specs.List.{zip}
 use Rattle.std.specs.Set.{is_member}
@@ -37,6 +37,6 @@ found_after g wanted (n ∷ ns) found = found_after g wanted ns (found_with want
 abbrev pub taken_along : List ℕ → Group → Shape → List ℕ
 taken_along ns g shape = (found_after g shape.wanted ns (record { taken = []; racks = []; repeats = shape.spare })).taken
 
--- and in some datacenters of these shapes
+-- and in some datacenters of these shapes, each by itself
 abbrev pub taken_in_all : List ℕ → List NodeRow → List (List ℕ × ℕ) → List Shape → List ℕ
 taken_in_all ns nodes factors shapes = flat_map (λ p. taken_along ns (datacenter_group nodes p.0) p.1) (zip factors shapes)

@@ -29,30 +29,18 @@ impl<'a> Datacenter<'a> {
     pub fn rack_of(&self, node: NodeId) -> Option<&'a Name>
         ensures { option_copied result ≡ (group_of self.now).rack_of node }
     {
-        let (dc, rack) = self.dir.place_of(node)?;
-        if is_same(dc, self.name) {
-            Some(rack)
-        } else {
-            None
-        }
+        self.dir.rack_in(self.name, node)
     }
-}
-
-/// Whether two names are the same.
-fn is_same(one: &Name, other: &Name) -> bool
-    ensures { result ≡ bytes_eq one.now other.now }
-{
-    one.as_str() == other.as_str()
 }
 
 /// Whether a rack is the same as one of some others.
 fn is_one_of(rack: &Name, racks: &[&Name]) -> bool
     ensures { result ≡ list_any (λ r. bytes_eq rack.now r.now) racks.now }
 {
-    racks.iter().any(|other| is_same(rack, other))
+    racks.iter().any(|other| rack.as_str() == other.as_str())
 }
 
-/// Whether a rack is among others.
+/// Whether a rack is among some others.
 pub fn has_rack(racks: &[&Name], rack: &Name) -> bool
     ensures { result ≡ is_member bytes_eq (map (λ r. r.now) racks.now) rack.now }
 {

@@ -8,8 +8,8 @@ use Rattle.cluster_terms.specs.NodeRow.{row_of}
 use Rattle.cluster_terms.specs.declared.node.NodeRow.{NodeRow}
 use Rattle.cluster_terms.specs.declared.token.Pair.{Pair}
 use Rattle.transformations.proofs.ListLemmas.{all_weaker, any_false, found_passes, none_found}
-use Rattle.transformations.specs.Refusals.{first_of, has_joined, has_keyspace, is_idle, is_idle_or_left, is_taken, keyspaces_full, in_sequence, most_keyspaces, most_nodes, most_tokens, name_taken, no_keyspace, no_node, nodes_full, no_tokens, not_idle, not_one_token, other_rack, ranges_locked, early_refusal_of, refusal_of, refused_if, token_taken, tokens_full, tokens_with, too_few_nodes, unless_allowed, wrong_state}
-use Rattle.transformations.specs.States.{is_joined, node_tokens, started_of, state_by, state_in, state_of_row}
+use Rattle.transformations.specs.Refusals.{first_of, may_move_or_leave, has_keyspace, may_join, may_be_removed, is_taken, keyspaces_full, in_sequence, most_keyspaces, most_nodes, most_tokens, name_taken, no_keyspace, no_node, nodes_full, no_tokens, not_idle, not_one_token, other_rack, ranges_locked, early_refusal_of, refusal_of, refused_if, token_taken, tokens_full, tokens_with, too_few_nodes, unless_allowed, wrong_state}
+use Rattle.transformations.specs.States.{owns_tokens, node_tokens, started_of, state_by, state_in, state_of_row}
 use Rattle.transformations.specs.Steps.{takes_part}
 use Rattle.transformations.specs.Valid.{IsOwned, is_standing, stands}
 use Rattle.transformations.specs.declared.command.Command.{Command}
@@ -75,60 +75,60 @@ has_row allowed image n some right = by (row_of image.nodes n) refl some right
     }
 
 -- the node of a movement is at work
-kind_works : (k : Kind) → (is_idle (state_in k) ≡ false) × (is_idle_or_left (state_in k) ≡ false)
+kind_works : (k : Kind) → (may_join (state_in k) ≡ false) × (may_be_removed (state_in k) ≡ false)
 kind_works Join = (refl, refl)
 kind_works Move = (refl, refl)
 kind_works Leave = (refl, refl)
 kind_works Replace = (refl, refl)
 
-idle_row : (image : Image) (row : NodeRow) → is_idle (state_of_row image row) ≡ true → (row.left ≡ false) × (is_joined image row.id ≡ false)
+idle_row : (image : Image) (row : NodeRow) → may_join (state_of_row image row) ≡ true → (row.left ≡ false) × (owns_tokens image row.id ≡ false)
 unfolding state_of_row
 idle_row image row h = by row.left refl (started_of image row.id) h
   where
-    unjoined : (j : Bool) → is_idle (if j then Joined else Registered) ≡ true → j ≡ false
+    unjoined : (j : Bool) → may_join (if j then Joined else Registered) ≡ true → j ≡ false
     unjoined true h = absurd (true≢false (sym h))
     unjoined false h = refl
 
-    by : (l : Bool) → row.left ≡ l → (o : Option SeqRow) → is_idle (if l then Left else state_by image row.id o) ≡ true → (row.left ≡ false) × (is_joined image row.id ≡ false)
+    by : (l : Bool) → row.left ≡ l → (o : Option SeqRow) → may_join (if l then Left else state_by image row.id o) ≡ true → (row.left ≡ false) × (owns_tokens image row.id ≡ false)
     by true e o h = absurd (true≢false (sym h))
     by false e (Some s) h = absurd (true≢false (sym h ∙ (kind_works s.kind).0))
-    by false e None h = (e, unjoined (is_joined image row.id) h)
+    by false e None h = (e, unjoined (owns_tokens image row.id) h)
 
 -- a node that has joined stands and has a token
-kind_moves : (k : Kind) → has_joined (state_in k) ≡ false
+kind_moves : (k : Kind) → may_move_or_leave (state_in k) ≡ false
 kind_moves Join = refl
 kind_moves Move = refl
 kind_moves Leave = refl
 kind_moves Replace = refl
 
-joined_row : (image : Image) (row : NodeRow) → has_joined (state_of_row image row) ≡ true → (row.left ≡ false) × (is_joined image row.id ≡ true)
+joined_row : (image : Image) (row : NodeRow) → may_move_or_leave (state_of_row image row) ≡ true → (row.left ≡ false) × (owns_tokens image row.id ≡ true)
 unfolding state_of_row
 joined_row image row h = by row.left refl (started_of image row.id) h
   where
-    joined : (j : Bool) → has_joined (if j then Joined else Registered) ≡ true → j ≡ true
+    joined : (j : Bool) → may_move_or_leave (if j then Joined else Registered) ≡ true → j ≡ true
     joined true h = refl
     joined false h = absurd (true≢false (sym h))
 
-    by : (l : Bool) → row.left ≡ l → (o : Option SeqRow) → has_joined (if l then Left else state_by image row.id o) ≡ true → (row.left ≡ false) × (is_joined image row.id ≡ true)
+    by : (l : Bool) → row.left ≡ l → (o : Option SeqRow) → may_move_or_leave (if l then Left else state_by image row.id o) ≡ true → (row.left ≡ false) × (owns_tokens image row.id ≡ true)
     by true e o h = absurd (true≢false (sym h))
     by false e (Some s) h = absurd (true≢false (sym h ∙ kind_moves s.kind))
-    by false e None h = (e, joined (is_joined image row.id) h)
+    by false e None h = (e, joined (owns_tokens image row.id) h)
 
-left_row : (image : Image) (row : NodeRow) → is_idle_or_left (state_of_row image row) ≡ true → (row.left ≡ true) ⊎ (is_joined image row.id ≡ false)
+left_row : (image : Image) (row : NodeRow) → may_be_removed (state_of_row image row) ≡ true → (row.left ≡ true) ⊎ (owns_tokens image row.id ≡ false)
 unfolding state_of_row
 left_row image row h = by row.left refl (started_of image row.id) h
   where
-    unjoined : (j : Bool) → is_idle_or_left (if j then Joined else Registered) ≡ true → j ≡ false
+    unjoined : (j : Bool) → may_be_removed (if j then Joined else Registered) ≡ true → j ≡ false
     unjoined true h = absurd (true≢false (sym h))
     unjoined false h = refl
 
-    by : (l : Bool) → row.left ≡ l → (o : Option SeqRow) → is_idle_or_left (if l then Left else state_by image row.id o) ≡ true → (row.left ≡ true) ⊎ (is_joined image row.id ≡ false)
+    by : (l : Bool) → row.left ≡ l → (o : Option SeqRow) → may_be_removed (if l then Left else state_by image row.id o) ≡ true → (row.left ≡ true) ⊎ (owns_tokens image row.id ≡ false)
     by true e o h = inl e
     by false e (Some s) h = absurd (true≢false (sym h ∙ (kind_works s.kind).1))
-    by false e None h = inr (unjoined (is_joined image row.id) h)
+    by false e None h = inr (unjoined (owns_tokens image row.id) h)
 
 -- no pair of the ring is of a node that doesn't stand
-pub bare_unless_standing : (image : Image) (n : ℕ) → IsOwned image → is_standing image.nodes n ≡ false → is_joined image n ≡ false
+pub bare_unless_standing : (image : Image) (n : ℕ) → IsOwned image → is_standing image.nodes n ≡ false → owns_tokens image n ≡ false
 bare_unless_standing image n owned down =
     any_false (λ (p : Pair). p.node == n) image.tokens
     (all_weaker (λ (p : Pair). is_standing image.nodes p.node ≡ true) (λ (p : Pair). (p.node == n) ≡ false) (λ p up. by p up (p.node == n) refl) image.tokens owned.owners)
@@ -160,11 +160,11 @@ pub record IsIdle (image : Image) (n : ℕ) : Type 0 where
   pub free : IsFree image n
   pub apart : IsApart image n
   pub stands : is_standing image.nodes n ≡ true
-  pub bare : is_joined image n ≡ false
+  pub bare : owns_tokens image n ≡ false
 
-idle : (image : Image) (n : ℕ) → no_node image n ≡ None → in_sequence image n ≡ None → wrong_state is_idle image n ≡ None → IsIdle image n
+idle : (image : Image) (n : ℕ) → no_node image n ≡ None → in_sequence image n ≡ None → wrong_state may_join image n ≡ None → IsIdle image n
 idle image n some none right =
-    let r = has_row is_idle image n some right in
+    let r = has_row may_join image n some right in
     let i = idle_row image r.row r.state in
     let up : stands (row_of image.nodes n) ≡ true = rw (r.found, i.0) refl in
     record { free = free image n none; apart = apart image n (free image n none); stands = up; bare = rw r.is at i.1 }
@@ -173,11 +173,11 @@ idle image n some none right =
 pub record HasJoined (image : Image) (n : ℕ) : Type 0 where
   pub free : IsFree image n
   pub stands : is_standing image.nodes n ≡ true
-  pub joined : is_joined image n ≡ true
+  pub joined : owns_tokens image n ≡ true
 
-settled : (image : Image) (n : ℕ) → no_node image n ≡ None → in_sequence image n ≡ None → wrong_state has_joined image n ≡ None → HasJoined image n
+settled : (image : Image) (n : ℕ) → no_node image n ≡ None → in_sequence image n ≡ None → wrong_state may_move_or_leave image n ≡ None → HasJoined image n
 settled image n some none right =
-    let r = has_row has_joined image n some right in
+    let r = has_row may_move_or_leave image n some right in
     let i = joined_row image r.row r.state in
     let up : stands (row_of image.nodes n) ≡ true = rw (r.found, i.0) refl in
     record { free = free image n none; stands = up; joined = rw r.is at i.1 }
@@ -219,21 +219,21 @@ register_accepted image name dc rack h =
     let none = mapped_none (λ (row : NodeRow). NameTaken row.id) (find (λ (row : NodeRow). bytes_eq row.name name) image.nodes) a.0 in
     (none_found (λ (row : NodeRow). bytes_eq row.name name) image.nodes none, room)
 
-pub unregister_accepted : (image : Image) (n : ℕ) → IsOwned image → early_refusal_of image (Unregister n) ≡ None → IsFree image n × (is_joined image n ≡ false)
+pub unregister_accepted : (image : Image) (n : ℕ) → IsOwned image → early_refusal_of image (Unregister n) ≡ None → IsFree image n × (owns_tokens image n ≡ false)
 unfolding early_refusal_of
 unregister_accepted image n owned h =
-    let a = none_of (no_node image n ∷ in_sequence image n ∷ wrong_state is_idle_or_left image n ∷ []) h in
-    let r = has_row is_idle_or_left image n a.0 a.1.1.0 in
+    let a = none_of (no_node image n ∷ in_sequence image n ∷ wrong_state may_be_removed image n ∷ []) h in
+    let r = has_row may_be_removed image n a.0 a.1.1.0 in
     (free image n a.1.0, by r (left_row image r.row r.state))
   where
-    by : (r : HasRow is_idle_or_left image n) → (r.row.left ≡ true) ⊎ (is_joined image r.row.id ≡ false) → is_joined image n ≡ false
+    by : (r : HasRow may_be_removed image n) → (r.row.left ≡ true) ⊎ (owns_tokens image r.row.id ≡ false) → owns_tokens image n ≡ false
     by r (inl left) = (let down : stands (row_of image.nodes n) ≡ false = rw (r.found, left) refl in bare_unless_standing image n owned down)
     by r (inr bare) = rw r.is at bare
 
 pub unsafe_join_accepted : (image : Image) (n : ℕ) (tokens : List ℤ) → early_refusal_of image (UnsafeJoin n tokens) ≡ None → IsIdle image n × AreNew image tokens
 unfolding early_refusal_of
 unsafe_join_accepted image n tokens h =
-    let a = none_of (no_node image n ∷ in_sequence image n ∷ wrong_state is_idle image n ∷ not_idle image.sequences ∷ token_taken image tokens ∷ tokens_full image tokens ∷ []) h in
+    let a = none_of (no_node image n ∷ in_sequence image n ∷ wrong_state may_join image n ∷ not_idle image.sequences ∷ token_taken image tokens ∷ tokens_full image tokens ∷ []) h in
     (idle image n a.0 a.1.0 a.1.1.0, new image tokens a.1.1.1.1.0 a.1.1.1.1.1.0)
 
 -- no movement is in flight
@@ -244,7 +244,7 @@ idle_sequences (s ∷ later) h = absurd (none-some (NotIdle s.node) (sym h))
 pub unsafe_join_idle : (image : Image) (n : ℕ) (tokens : List ℤ) → early_refusal_of image (UnsafeJoin n tokens) ≡ None → image.sequences ≡ []
 unfolding early_refusal_of
 unsafe_join_idle image n tokens h =
-    let a = none_of (no_node image n ∷ in_sequence image n ∷ wrong_state is_idle image n ∷ not_idle image.sequences ∷ token_taken image tokens ∷ tokens_full image tokens ∷ []) h in
+    let a = none_of (no_node image n ∷ in_sequence image n ∷ wrong_state may_join image n ∷ not_idle image.sequences ∷ token_taken image tokens ∷ tokens_full image tokens ∷ []) h in
     idle_sequences image.sequences a.1.1.1.0
 
 pub keyspace_idle : (image : Image) (name : List ℕ) (replication : Replication) → early_refusal_of image (Keyspace name replication) ≡ None → image.sequences ≡ []
@@ -276,7 +276,7 @@ keyspace_accepted image name replication h =
 pub prepare_join_accepted : (image : Image) (n : ℕ) (tokens : List ℤ) → early_refusal_of image (PrepareJoin n tokens) ≡ None → IsIdle image n × AreNew image tokens
 unfolding early_refusal_of
 prepare_join_accepted image n tokens h =
-    let a = none_of (no_node image n ∷ in_sequence image n ∷ wrong_state is_idle image n ∷ token_taken image tokens ∷ tokens_full image tokens ∷ []) h in
+    let a = none_of (no_node image n ∷ in_sequence image n ∷ wrong_state may_join image n ∷ token_taken image tokens ∷ tokens_full image tokens ∷ []) h in
     (idle image n a.0 a.1.0 a.1.1.0, new image tokens a.1.1.1.0 a.1.1.1.1.0)
 
 -- a node that may move to a token
@@ -288,7 +288,7 @@ pub record MayMove (image : Image) (n : ℕ) (t : ℤ) : Type 0 where
 pub prepare_move_accepted : (image : Image) (n : ℕ) (t : ℤ) → early_refusal_of image (PrepareMove n t) ≡ None → MayMove image n t
 unfolding early_refusal_of
 prepare_move_accepted image n t h =
-    let a = none_of (no_node image n ∷ in_sequence image n ∷ wrong_state has_joined image n ∷ not_one_token image n ∷ token_taken image (t ∷ []) ∷ tokens_full image (t ∷ []) ∷ []) h in
+    let a = none_of (no_node image n ∷ in_sequence image n ∷ wrong_state may_move_or_leave image n ∷ not_one_token image n ∷ token_taken image (t ∷ []) ∷ tokens_full image (t ∷ []) ∷ []) h in
     let count = length (node_tokens image n) in
     let same : (count == 1) ≡ true = negated (count == 1) (test_false (not (count == 1)) (NotOneToken count) a.1.1.1.0) in
     record {
@@ -300,23 +300,23 @@ prepare_move_accepted image n t h =
 pub prepare_leave_accepted : (image : Image) (n : ℕ) → early_refusal_of image (PrepareLeave n) ≡ None → HasJoined image n
 unfolding early_refusal_of
 prepare_leave_accepted image n h =
-    let a = none_of (no_node image n ∷ in_sequence image n ∷ wrong_state has_joined image n ∷ too_few_nodes image n ∷ []) h in
+    let a = none_of (no_node image n ∷ in_sequence image n ∷ wrong_state may_move_or_leave image n ∷ too_few_nodes image n ∷ []) h in
     settled image n a.0 a.1.0 a.1.1.0
 
 -- a node that may replace another one
 pub record MayReplace (image : Image) (n gone : ℕ) : Type 0 where
   pub node : IsIdle image n
   pub free : IsFree image gone
-  pub joined : is_joined image gone ≡ true
+  pub joined : owns_tokens image gone ≡ true
   pub near : other_rack image n gone ≡ None
 
 pub prepare_replace_accepted : (image : Image) (n gone : ℕ) → early_refusal_of image (PrepareReplace n gone) ≡ None → MayReplace image n gone
 unfolding early_refusal_of
 prepare_replace_accepted image n gone h =
-    let a = none_of (no_node image n ∷ no_node image gone ∷ in_sequence image n ∷ in_sequence image gone ∷ wrong_state is_idle image n ∷ no_tokens image gone ∷ other_rack image n gone ∷ []) h in
+    let a = none_of (no_node image n ∷ no_node image gone ∷ in_sequence image n ∷ in_sequence image gone ∷ wrong_state may_join image n ∷ no_tokens image gone ∷ other_rack image n gone ∷ []) h in
     record {
       node = idle image n a.0 a.1.1.0 a.1.1.1.1.0;
       free = free image gone a.1.1.1.0;
-      joined = negated (is_joined image gone) (test_false (not (is_joined image gone)) NoTokens a.1.1.1.1.1.0);
+      joined = negated (owns_tokens image gone) (test_false (not (owns_tokens image gone)) NoTokens a.1.1.1.1.1.0);
       near = a.1.1.1.1.1.1.0;
     }

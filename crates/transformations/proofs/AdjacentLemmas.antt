@@ -17,10 +17,10 @@ use Rattle.transformations.proofs.ServedLemmas.{IsServed, served}
 use Rattle.transformations.proofs.SoleLemmas.{only_own}
 use Rattle.transformations.proofs.ValidLemmas.{valid_next}
 use Rattle.transformations.specs.History.{is_command, most_epochs, next_image}
-use Rattle.transformations.specs.Meeting.{AreWritten, ExistAt, HaveReplications, MeetAt, QuorumsMeet, is_movement}
+use Rattle.transformations.specs.Meeting.{AreWritten, ExistAt, HaveReplications, MeetAt, QuorumsMeet, makes_movement_epoch}
 use Rattle.transformations.specs.Refusals.{early_refusal_of, no_node, no_sequence, refusal_of, unless_next, wrong_step}
-use Rattle.transformations.specs.Rings.{is_mid, is_started, reads_at}
-use Rattle.transformations.specs.Steps.{at_phase, finished, is_next_step, join_of, leave_of, move_of, movement_of, others, phase_before, replace_of, same_kind, same_phase, sequences_without}
+use Rattle.transformations.specs.Rings.{is_mid, has_started, reads_at}
+use Rattle.transformations.specs.Steps.{at_phase, finished, is_next_step, join_of, leave_of, move_of, movement_of, others, phase_before, replace_of, same_kind, same_phase, sequences_after_cancel}
 use Rattle.transformations.specs.Valid.{IsSound, IsValid}
 use Rattle.transformations.specs.declared.command.Command.{Command}
 use Rattle.transformations.specs.declared.command.Command.TheVariants.{Register, Unregister, UnsafeJoin, Keyspace, DropKeyspace, PrepareJoin, PrepareMove, PrepareLeave, PrepareReplace, Step, Cancel}
@@ -73,7 +73,7 @@ unseen Prepared e = refl
 unseen Started e = refl
 unseen Mid e = absurd (false≢true e)
 
-begun_before : (phase : Phase) → same_phase phase Started ≡ true → is_started phase ≡ true
+begun_before : (phase : Phase) → same_phase phase Started ≡ true → has_started phase ≡ true
 begun_before Prepared e = absurd (false≢true e)
 begun_before Started e = refl
 begun_before Mid e = refl
@@ -88,7 +88,7 @@ not_half_way Prepared e = refl
 not_half_way Started e = refl
 not_half_way Mid e = e
 
-at_started : (phase : Phase) → same_phase phase Mid ≡ true → is_started phase ≡ true
+at_started : (phase : Phase) → same_phase phase Mid ≡ true → has_started phase ≡ true
 at_started Prepared e = e
 at_started Started e = refl
 at_started Mid e = refl
@@ -110,7 +110,7 @@ share_step image goal.Start kind n h none =
 share_step image goal.Mid kind n h none =
     let m = step_moves image goal.Mid kind n none in
     share_writes Mid image n (image.epoch + 1)
-    (each_own (λ q. is_started q.phase ≡ is_started Mid) image n m.row h m.found (begun_before m.row.phase (step_phase image goal.Mid kind n none m.row m.found)))
+    (each_own (λ q. has_started q.phase ≡ has_started Mid) image n m.row h m.found (begun_before m.row.phase (step_phase image goal.Mid kind n none m.row m.found)))
 share_step image goal.Finish kind n h none =
     let m = step_moves image goal.Finish kind n none in
     subst (λ o. ShareSets image (let after : Image = finished image o in record after { epoch = image.epoch + 1 })) (sym m.found)
@@ -120,14 +120,14 @@ share_cancel : (image : Image) (n : ℕ) → IsSound image → early_refusal_of 
 unfolding next_image
 share_cancel image n h none =
     let m = cancel_moves image n none in
-    subst (λ o. ShareSets image (record image { epoch = image.epoch + 1; sequences = sequences_without image.sequences n o })) (sym m.found) (by m.row m.found (same_phase m.row.phase Mid) refl)
+    subst (λ o. ShareSets image (record image { epoch = image.epoch + 1; sequences = sequences_after_cancel image.sequences n o })) (sym m.found) (by m.row m.found (same_phase m.row.phase Mid) refl)
   where
     by : (s : SeqRow) → movement_of image n ≡ Some s → (b : Bool) → same_phase s.phase Mid ≡ b
         → ShareSets image (record image { epoch = image.epoch + 1; sequences = if b then map (at_phase Started n) image.sequences else others image.sequences n })
-    by s found true e = share_writes Started image n (image.epoch + 1) (each_own (λ q. is_started q.phase ≡ is_started Started) image n s h found (at_started s.phase e))
+    by s found true e = share_writes Started image n (image.epoch + 1) (each_own (λ q. has_started q.phase ≡ has_started Started) image n s h found (at_started s.phase e))
     by s found false e = share_without image (image.epoch + 1) n (each_own (λ q. is_mid q.phase ≡ false) image n s h found (not_half_way s.phase e))
 
-share_next : (image : Image) (c : Command) → IsSound image → is_command c ≡ true → refusal_of image c ≡ None → is_movement c ≡ true → ShareSets image (next_image image c)
+share_next : (image : Image) (c : Command) → IsSound image → is_command c ≡ true → refusal_of image c ≡ None → makes_movement_epoch c ≡ true → ShareSets image (next_image image c)
 unfolding next_image
 share_next image (Register name dc rack) h right none is =
     let row : NodeRow = record { id = image.next; name = name; dc = dc; rack = rack; left = false } in
@@ -146,7 +146,7 @@ share_next image (Step g kind n) h right none is = share_step image g kind n h (
 share_next image (Cancel n) h right none is = share_cancel image n h (early_accepted image (Cancel n) none)
 
 -- the keyspaces stay
-pub same_keyspaces : (image : Image) (c : Command) → is_movement c ≡ true → (next_image image c).keyspaces ≡ image.keyspaces
+pub same_keyspaces : (image : Image) (c : Command) → makes_movement_epoch c ≡ true → (next_image image c).keyspaces ≡ image.keyspaces
 unfolding next_image
 same_keyspaces image (Register name dc rack) is = refl
 same_keyspaces image (Unregister n) is = refl
@@ -193,6 +193,6 @@ meet_sharing image after h later same valid share = λ x token.
 pub meet_itself : (image : Image) → IsValid image → HaveReplications image → QuorumsMeet image image
 meet_itself image h valid = meet_sharing image image h h refl valid (λ r x. inl (record { reads = refl; places = λ dc v there. refl }))
 
-pub meet_next : (image : Image) (c : Command) → IsValid image → HaveReplications image → is_command c ≡ true → refusal_of image c ≡ None → is_movement c ≡ true → image.epoch < most_epochs → QuorumsMeet image (next_image image c)
+pub meet_next : (image : Image) (c : Command) → IsValid image → HaveReplications image → is_command c ≡ true → refusal_of image c ≡ None → makes_movement_epoch c ≡ true → image.epoch < most_epochs → QuorumsMeet image (next_image image c)
 meet_next image c h valid right none is room =
     meet_sharing image (next_image image c) h (valid_next image c h right none room) (same_keyspaces image c is) valid (share_next image c h.sound right none is)

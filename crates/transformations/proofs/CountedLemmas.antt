@@ -17,7 +17,7 @@ use Rattle.cluster_terms.specs.declared.node.NodeRow.{NodeRow}
 use Rattle.cluster_terms.specs.declared.replication.Replication.TheVariants.{Simple, Topology}
 use Rattle.cluster_terms.specs.declared.token.Pair.{Pair}
 use Rattle.transformations.proofs.ListLemmas.{all_each, filter_all, part_distinct, part_filter}
-use Rattle.transformations.specs.Counted.{IsOnce, is_few_of, is_in, is_short_of}
+use Rattle.transformations.specs.Counted.{IsOnce, is_few_of, is_short_of}
 use Rattle.transformations.specs.Refusals.{is_short, is_too_few, not_one_token, refused_if, too_few_nodes, unless_one}
 use Rattle.transformations.specs.declared.image.Image.{Image}
 use Rattle.transformations.specs.declared.keyspace.KeyspaceRow.{KeyspaceRow}
@@ -92,13 +92,13 @@ module _ (nodes : List NodeRow) (ids : List ℕ) (n : ℕ) where
       whole = or_none (nat_le (length (filter (λ (m : ℕ). true) ids)) rf) ∙ ap (λ l. nat_le (length l) rf) all
 
   any_datacenter : (factors : List (List ℕ × ℕ)) → list_any (is_short_of ids n) (map (datacenter_group nodes) factors)
-      ≡ list_any (λ (f : List ℕ × ℕ). is_in nodes f.0 n && nat_le (length (filter (is_in nodes f.0) ids)) f.1) factors
+      ≡ list_any (λ (f : List ℕ × ℕ). is_short_of ids n (datacenter_group nodes f)) factors
   any_datacenter [] = refl
-  any_datacenter (f ∷ factors) = ap (λ b. (is_in nodes f.0 n && nat_le (length (filter (is_in nodes f.0) ids)) f.1) || b) (any_datacenter factors)
+  any_datacenter (f ∷ factors) = ap (λ b. is_short_of ids n (datacenter_group nodes f) || b) (any_datacenter factors)
 
   -- the group of a datacenter has the nodes that stand there
   pub few_topology : (k : KeyspaceRow) (factors : List (List ℕ × ℕ)) → k.replication ≡ Topology factors
-      → list_any (λ (f : List ℕ × ℕ). is_in nodes f.0 n && nat_le (length (filter (is_in nodes f.0) ids)) f.1) factors ≡ is_few_of nodes ids n k
+      → list_any (λ (f : List ℕ × ℕ). is_short_of ids n (datacenter_group nodes f)) factors ≡ is_few_of nodes ids n k
   few_topology k factors is = sym (ap (λ r. list_any (is_short_of ids n) (groups_of nodes r)) is ∙ any_datacenter factors)
 
 -- ---- how many tokens a node has

@@ -24,7 +24,7 @@ use Rattle.transformations.proofs.OwnedLemmas.{has_append, has_filter, has_permu
 use Rattle.transformations.proofs.RingLemmas.{AreFew, few_moved, not_others, owned_with, put_into_ring, put_permuted, tokens_of}
 use Rattle.transformations.proofs.SwapLemmas.{few_swapped}
 use Rattle.transformations.specs.Orders.{by_token}
-use Rattle.transformations.specs.States.{is_joined}
+use Rattle.transformations.specs.States.{owns_tokens}
 use Rattle.transformations.specs.Steps.{leaver, others, owned, ring_after, takes_part, with_left}
 use Rattle.transformations.specs.Valid.{IsMovement, IsOwned, IsSound, brought, brought_by, is_standing, stands}
 use Rattle.transformations.specs.declared.image.Image.{Image}
@@ -145,7 +145,7 @@ module _ (image : Image) (s : SeqRow) (h : IsSound image) (m : IsMovement image 
         omega (arith, h.ring.few n, length-map (owned kept n) (λ (p : Pair). p.token), length-map (owned image.tokens n) (λ (p : Pair). p.token)));
   }
 
-  bare_kept : is_joined (record image { nodes = nodes; tokens = kept }) s.node ≡ false
+  bare_kept : owns_tokens (record image { nodes = nodes; tokens = kept }) s.node ≡ false
   bare_kept =
       any_false (λ (p : Pair). p.node == s.node) kept
       (all_filter (λ (p : Pair). not (p.node == x.from)) (λ (p : Pair). (p.node == s.node) ≡ false) image.tokens

@@ -11,7 +11,7 @@ use Rattle.transformations.proofs.ListLemmas.{all_each, all_false, all_filter, a
 use Rattle.transformations.proofs.OwnedLemmas.{joined_owned}
 use Rattle.transformations.proofs.RingLemmas.{length-pairs, not_others, pairs_own, tokens_of, tokens_of-pairs}
 use Rattle.transformations.proofs.SwapLemmas.{PutsAnew}
-use Rattle.transformations.specs.States.{is_joined}
+use Rattle.transformations.specs.States.{owns_tokens}
 use Rattle.transformations.specs.Steps.{first_node, leaver_by, owned, takes_part}
 use Rattle.transformations.specs.Valid.{Fits, IsMovement, IsOwned, IsReplace, IsSound, is_standing}
 use Rattle.transformations.specs.declared.image.Image.{Image}
@@ -53,7 +53,7 @@ first_owned : (pairs : List Pair) (n : ℕ) → 1 ≤ length pairs → AllByRecu
 first_owned [] n some all = absurd (omega (arith, some))
 first_owned (p ∷ pairs) n some all = ap (λ k. Some k) all.0
 
-pub joined_standing : (image : Image) (n : ℕ) → IsOwned image → is_joined image n ≡ true → is_standing image.nodes n ≡ true
+pub joined_standing : (image : Image) (n : ℕ) → IsOwned image → owns_tokens image n ≡ true → is_standing image.nodes n ≡ true
 joined_standing image n owned joined = by (is_standing image.nodes n) refl
   where
     by : (b : Bool) → is_standing image.nodes n ≡ b → is_standing image.nodes n ≡ true
@@ -61,7 +61,7 @@ joined_standing image n owned joined = by (is_standing image.nodes n) refl
     by false e = absurd (true≢false (sym joined ∙ bare_unless_standing image n owned e))
 
 -- the node that is replaced has pairs, and takes part
-pub gone_joined : (image : Image) (s : SeqRow) (f : IsReplace image s) → is_joined image f.gone ≡ true
+pub gone_joined : (image : Image) (s : SeqRow) (f : IsReplace image s) → owns_tokens image f.gone ≡ true
 gone_joined image s f = joined_owned image.tokens f.gone (omega (arith, f.some, ap length f.out))
 
 pub gone_takes : (image : Image) (s : SeqRow) (f : IsReplace image s) → takes_part f.gone s ≡ true
@@ -76,7 +76,7 @@ gone_other image s f = by (s.node == f.gone) refl
   where
     by : (b : Bool) → (s.node == f.gone) ≡ b → (s.node == f.gone) ≡ false
     by false e = e
-    by true e = absurd (true≢false (sym (gone_joined image s f) ∙ ap (is_joined image) (sym (same_id s.node f.gone e)) ∙ f.bare))
+    by true e = absurd (true≢false (sym (gone_joined image s f) ∙ ap (owns_tokens image) (sym (same_id s.node f.gone e)) ∙ f.bare))
 
 -- ---- each kind
 

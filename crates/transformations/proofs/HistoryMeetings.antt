@@ -9,7 +9,7 @@ use Rattle.transformations.proofs.AdjacentLemmas.{meet_itself, meet_next, same_k
 use Rattle.transformations.proofs.HistoryLemmas.{next_at, state-more, valid_at}
 use Rattle.transformations.proofs.ListLemmas.{part_all_of, part_filter}
 use Rattle.transformations.specs.History.{IsHistory, empty_image, image_after, next_image, state_after}
-use Rattle.transformations.specs.Meeting.{HasReplication, HaveReplications, QuorumsMeet, is_movement}
+use Rattle.transformations.specs.Meeting.{HasReplication, HaveReplications, QuorumsMeet, makes_movement_epoch}
 use Rattle.transformations.specs.Orders.{by_name}
 use Rattle.transformations.specs.declared.command.Command.{Command}
 use Rattle.transformations.specs.declared.command.Command.TheVariants.{Register, Unregister, UnsafeJoin, Keyspace, DropKeyspace, PrepareJoin, PrepareMove, PrepareLeave, PrepareReplace, Step, Cancel}
@@ -19,7 +19,7 @@ use Rattle.transformations.specs.declared.keyspace.KeyspaceRow.{KeyspaceRow}
 -- ---- the replications of keyspaces
 
 -- a movement command leaves them
-by_movement : (image : Image) (c : Command) → is_movement c ≡ true → HaveReplications image → HaveReplications (next_image image c)
+by_movement : (image : Image) (c : Command) → makes_movement_epoch c ≡ true → HaveReplications image → HaveReplications (next_image image c)
 by_movement image c is have = subst (λ ks. AllByRecursion (λ (k : KeyspaceRow). IsReplication k.replication) ks) (sym (same_keyspaces image c is)) have
 
 next_replications : (image : Image) (c : Command) → HasReplication c → HaveReplications image → HaveReplications (next_image image c)
@@ -61,7 +61,7 @@ pub record MeetsNext (one other : Image) : Type 0 where
   pub quorums : QuorumsMeet one other
   pub keyspaces : other.keyspaces ≡ one.keyspaces
 
-pub meet_at_next : (h : List Command) (e : ℕ) (c : Command) → IsHistory h → AllByRecursion HasReplication h → slice_get h e ≡ Some c → is_movement c ≡ true → MeetsNext (state_after h e) (state_after h (e + 1))
+pub meet_at_next : (h : List Command) (e : ℕ) (c : Command) → IsHistory h → AllByRecursion HasReplication h → slice_get h e ≡ Some c → makes_movement_epoch c ≡ true → MeetsNext (state_after h e) (state_after h (e + 1))
 meet_at_next h e c is all at movement =
     let within = slice_get_within h e c at in
     let here : c ≡ get_or h e c = sym (get_or_from_slice_get h e c c at) in

@@ -1,5 +1,5 @@
 -- Quorums of two images, of which each reads what the other writes.
-use Rattle.std.proofs.Common.{◌≡◌, ℕ, ◌≤◌, true, ◌&&◌, ◌||◌, ℤ, List, filter, length, sym, ◌∙◌, subst}
+use Rattle.std.proofs.Common.{◌≡◌, ℕ, ◌≤◌, Bool, true, ◌&&◌, ◌||◌, ℤ, List, filter, is_some, length, sym, ◌∙◌, subst}
 use Rattle.std.proofs.lemmas.Bool.{and_parts, or_left, or_right}
 use Rattle.std.proofs.lemmas.List.Kept.{IsStrictlySortedBy-filter}
 use Rattle.std.specs.List.{AllByRecursion}
@@ -7,18 +7,22 @@ use Rattle.std.specs.Ordering.{nat_cmp}
 use Rattle.cluster_terms.proofs.GroupLemmas.{has}
 use Rattle.cluster_terms.proofs.PlacementCounts.{datacenter_few, place_few}
 use Rattle.cluster_terms.proofs.QuorumLemmas.{AreAmong, Ascend, has_filter, quorums_exist, quorums_meet}
+use Rattle.cluster_terms.specs.NodeRow.{row_of}
 use Rattle.cluster_terms.specs.Quorum.{Meet}
-use Rattle.cluster_terms.specs.Replication.{IsReplication, total_of}
+use Rattle.cluster_terms.specs.Replication.{IsReplication, rack_within, total_of}
+use Rattle.cluster_terms.specs.declared.node.NodeRow.{NodeRow}
 use Rattle.cluster_terms.specs.declared.replication.Replication.{Replication}
 use Rattle.cluster_terms.specs.declared.replication.Replication.TheVariants.{Simple, Topology}
 use Rattle.transformations.proofs.ListLemmas.{all_both, all_each}
 use Rattle.transformations.proofs.ServedLemmas.{IsServed, reads_ascend, writes_ascend}
-use Rattle.transformations.specs.Counted.{is_in}
-use Rattle.transformations.specs.Meeting.{ExistAt, ExistTogether, MeetAt, datacenters_of, local_sets_at}
+use Rattle.transformations.specs.Meeting.{ExistAt, HaveBothOrNone, MeetAt, datacenters_of, local_sets_at}
 use Rattle.transformations.specs.Rings.{reads_at, writes_at}
 use Rattle.transformations.specs.declared.image.Image.{Image}
 
--- the nodes of a datacenter among some
+-- whether a node stands in a datacenter; and the nodes of a datacenter among some
+abbrev pub is_in : List NodeRow → List ℕ → ℕ → Bool
+is_in nodes dc n = is_some (rack_within dc (row_of nodes n))
+
 abbrev local : Image → List ℕ → List ℕ → List ℕ
 local image dc ns = filter (is_in image.nodes dc) ns
 
@@ -47,7 +51,7 @@ exist_at image r x s =
     let writes : List ℕ = writes_at image r x in
     record {
       quorums = quorums_exist (total_of r) reads writes (reads_ascend image r x) (writes_ascend image r x) s.written;
-      local_quorums = all_each (λ f. ExistTogether (local_sets_at image r f x))
+      local_quorums = all_each (λ f. HaveBothOrNone (local_sets_at image r f x))
           (λ f. quorums_exist f.1 (local image f.0 reads) (local image f.0 writes) (local_ascend image f.0 reads (reads_ascend image r x)) (local_ascend image f.0 writes (writes_ascend image r x))
           (λ v there. (let both = and_parts (has reads v) (is_in image.nodes f.0 v) (sym (has_filter (is_in image.nodes f.0) reads v) ∙ there) in
           has_filter (is_in image.nodes f.0) writes v ∙ (λ i. s.written v both.0 i && both.1 i)))) (datacenters_of r);

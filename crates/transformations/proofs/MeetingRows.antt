@@ -7,7 +7,7 @@ use Rattle.cluster_terms.specs.declared.replication.Replication.{Replication}
 use Rattle.cluster_terms.specs.declared.replication.Replication.TheVariants.{Simple, Topology}
 use Rattle.transformations.proofs.Rows.{dc1_node, joining_image, one_node_image, pair, racks_image}
 use Rattle.transformations.specs.History.{next_image}
-use Rattle.transformations.specs.Meeting.{is_movement, local_sets_at, sets_at}
+use Rattle.transformations.specs.Meeting.{makes_movement_epoch, local_sets_at, sets_at}
 use Rattle.transformations.specs.Rings.{reads_at, writes_at}
 use Rattle.transformations.specs.declared.command.Command.TheVariants.{Cancel, DropKeyspace, Register, Step, UnsafeJoin}
 use Rattle.transformations.specs.declared.image.Image.{Image}
@@ -66,11 +66,11 @@ quorums_named_twice = refl
 
 -- ---- what makes a movement epoch
 
-pub movements : (is_movement (Register (codes "f") (codes "dc1") (codes "r1")) ≡ true)
-    × (is_movement (Step goal.Mid Join 5) ≡ true)
-    × (is_movement (Cancel 5) ≡ true)
-    × (is_movement (UnsafeJoin 2 (pos 100 ∷ [])) ≡ false)
-    × (is_movement (DropKeyspace (codes "ks")) ≡ false)
+pub movements : (makes_movement_epoch (Register (codes "f") (codes "dc1") (codes "r1")) ≡ true)
+    × (makes_movement_epoch (Step goal.Mid Join 5) ≡ true)
+    × (makes_movement_epoch (Cancel 5) ≡ true)
+    × (makes_movement_epoch (UnsafeJoin 2 (pos 100 ∷ [])) ≡ false)
+    × (makes_movement_epoch (DropKeyspace (codes "ks")) ≡ false)
 movements = (refl, refl, refl, refl, refl)
 
 -- tokens that are given at once part the quorums before from those after

@@ -17,7 +17,7 @@ use Rattle.transformations.proofs.OnceLemmas.{AreOnce, first_alone, later_once, 
 use Rattle.transformations.proofs.OwnedLemmas.{has_append, has_filter, has_fixed}
 use Rattle.transformations.proofs.RangeLemmas.{IsWithinWidest, fixed_part, moved_within, part_taken}
 use Rattle.transformations.specs.Ranges.{AgreeAt, AreOutcomes, PlacedByRanges, in_ranges, moved_by, outcome_ring, side}
-use Rattle.transformations.specs.Rings.{fixed_ring, incoming, is_mid, is_started, outgoing, replaced, widest}
+use Rattle.transformations.specs.Rings.{fixed_ring, incoming, is_mid, has_started, outgoing, replaced, widest}
 use Rattle.transformations.specs.Steps.{takes_part}
 use Rattle.transformations.specs.Valid.{IsSound}
 use Rattle.transformations.specs.declared.image.Image.{Image}
@@ -162,7 +162,7 @@ pub are_outcomes : (image : Image) → IsSound image → AreOutcomes image
 are_outcomes image h = record {
   low = λ p. sym (none_done image p) ∙ outcome_same image (λ s. false) h p;
   read = outcome_same image (λ s. is_mid s.phase) h;
-  high = outcome_same image (λ s. is_started s.phase) h;
+  high = outcome_same image (λ s. has_started s.phase) h;
 }
 
 -- ---- pairs among those of outcomes

@@ -14,7 +14,7 @@ use Rattle.transformations.proofs.PreparedLemmas.{kept_begun}
 use Rattle.transformations.specs.History.{begun, is_command, next_image}
 use Rattle.transformations.specs.Ranges.{KeepsRanges, in_both, in_ranges}
 use Rattle.transformations.specs.Refusals.{prepared_by, refusal_of}
-use Rattle.transformations.specs.Steps.{at_phase, finished, join_of, leave_of, move_of, movement_of, others, replace_of, same_phase, sequences_without}
+use Rattle.transformations.specs.Steps.{at_phase, finished, join_of, leave_of, move_of, movement_of, others, replace_of, same_phase, sequences_after_cancel}
 use Rattle.transformations.specs.Valid.{IsValid}
 use Rattle.transformations.specs.declared.command.Command.{Command}
 use Rattle.transformations.specs.declared.command.Command.TheVariants.{Register, Unregister, UnsafeJoin, Keyspace, DropKeyspace, PrepareJoin, PrepareMove, PrepareLeave, PrepareReplace, Step, Cancel}
@@ -79,14 +79,14 @@ finish_by P image n epoch none some = by (movement_of image n) refl
 pub cancel_by : (P : Image → Type 0) (image : Image) (n epoch : ℕ) → (movement_of image n ≡ None → P (record image { epoch = epoch }))
     → P (record image { epoch = epoch; sequences = map (at_phase Started n) image.sequences })
     → ((s : SeqRow) → find (λ (q : SeqRow). q.node == s.node) image.sequences ≡ Some s → P (record image { epoch = epoch; sequences = others image.sequences s.node }))
-    → P (record image { epoch = epoch; sequences = sequences_without image.sequences n (movement_of image n) })
+    → P (record image { epoch = epoch; sequences = sequences_after_cancel image.sequences n (movement_of image n) })
 cancel_by P image n epoch none back some = by (movement_of image n) refl
   where
     either : (b : Bool) → P (record image { epoch = epoch; sequences = others image.sequences n }) → P (record image { epoch = epoch; sequences = if b then map (at_phase Started n) image.sequences else others image.sequences n })
     either true ended = back
     either false ended = ended
 
-    by : (o : Option SeqRow) → movement_of image n ≡ o → P (record image { epoch = epoch; sequences = sequences_without image.sequences n o })
+    by : (o : Option SeqRow) → movement_of image n ≡ o → P (record image { epoch = epoch; sequences = sequences_after_cancel image.sequences n o })
     by None found = none found
     by (Some s) found =
         let own = own_found image n s found in

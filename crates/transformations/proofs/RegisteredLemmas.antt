@@ -1,5 +1,5 @@
 -- The nodes that are written are registered, so there are no more of them than nodes.
-use Rattle.std.proofs.Common.{◌≡◌, ℕ, ◌≤◌, Bool, true, false, not, ◌||◌, ◌==◌, cond, nat_eq, ℤ, List, [], ◌∷◌, map, filter, length, Some, refl, sym, ap, ◌∙◌, subst, arith}
+use Rattle.std.proofs.Common.{◌≡◌, ℕ, ◌≤◌, Bool, true, false, not, ◌||◌, ◌==◌, cond, nat_eq, ℤ, List, [], ◌∷◌, map, filter, length, Some, refl, sym, ap, ◌∙◌, arith}
 use Rattle.std.proofs.lemmas.Bool.{or_left, or_right, false≢true}
 use Rattle.std.proofs.lemmas.Bool.Decides.{Decides-eqb}
 use Rattle.std.proofs.lemmas.List.{length-map}
@@ -25,7 +25,7 @@ use Rattle.transformations.proofs.ListLemmas.{IsPart, all_both, all_map, all_wea
 use Rattle.transformations.proofs.RangeLemmas.{widest_hold}
 use Rattle.transformations.proofs.ServedLemmas.{writes_ascend}
 use Rattle.transformations.specs.Refusals.{most_nodes}
-use Rattle.transformations.specs.Rings.{high_ring, incoming, is_started, low_ring, outgoing, widest, writes_at}
+use Rattle.transformations.specs.Rings.{high_ring, incoming, has_started, low_ring, outgoing, widest, writes_at}
 use Rattle.transformations.specs.Valid.{IsMovement, IsSound, is_standing, stands}
 use Rattle.transformations.specs.declared.image.Image.{Image}
 use Rattle.transformations.specs.declared.sequence.SeqRow.{SeqRow}
@@ -68,8 +68,8 @@ module _ (image : Image) (h : IsSound image) where
 
   high_part : IsPart (high_ring image) (widest image)
   high_part =
-      part_append (part_filter (λ p. not (is_member same_pair (outgoing (filter (λ (s : SeqRow). is_started s.phase) image.sequences)) p)) image.tokens)
-      (part_flat (λ (s : SeqRow). s.in_pairs) (λ (s : SeqRow). is_started s.phase) image.sequences)
+      part_append (part_filter (λ p. not (is_member same_pair (outgoing (filter (λ (s : SeqRow). has_started s.phase) image.sequences)) p)) image.tokens)
+      (part_flat (λ (s : SeqRow). s.in_pairs) (λ (s : SeqRow). has_started s.phase) image.sequences)
 
   written_registered : (r : Replication) (x : ℤ) (v : ℕ) → has (writes_at image r x) v ≡ true → IsRegistered v
   unfolding writes_at

@@ -21,7 +21,7 @@ use Rattle.transformations.specs.History.{ascend}
 use Rattle.transformations.specs.Orders.{by_token}
 use Rattle.transformations.specs.Refusals.{is_taken, most_tokens, tokens_with}
 use Rattle.transformations.specs.Rings.{widest}
-use Rattle.transformations.specs.States.{is_joined}
+use Rattle.transformations.specs.States.{owns_tokens}
 use Rattle.transformations.specs.Steps.{pairs_of}
 use Rattle.transformations.specs.Valid.{IsOwned, is_standing}
 use Rattle.transformations.specs.declared.image.Image.{Image}
@@ -130,7 +130,7 @@ pub not_others : (n m : ℕ) (pairs : List Pair) → (n == m) ≡ false → AllB
 not_others n m pairs other = all_weaker (λ (p : Pair). p.node ≡ n) (λ (p : Pair). (p.node == m) ≡ false) (λ p is. ap (λ k. k == m) is ∙ other) pairs
 
 -- the ring once a node has got at most 256 pairs, of which it has none
-pub owned_with : (image : Image) (n : ℕ) (pairs : List Pair) → is_joined image n ≡ false → AllByRecursion (λ p. is_standing image.nodes p.node ≡ true) pairs
+pub owned_with : (image : Image) (n : ℕ) (pairs : List Pair) → owns_tokens image n ≡ false → AllByRecursion (λ p. is_standing image.nodes p.node ≡ true) pairs
     → AllByRecursion (λ p. p.node ≡ n) pairs → length pairs ≤ 256 → IsOwned image → IsOwned (record image { tokens = put_all by_token pairs image.tokens })
 owned_with image n pairs bare up own short h = record {
   ascending = put_all_sorted by_token by_token_total pairs image.tokens h.ascending;
@@ -147,7 +147,7 @@ owned_with image n pairs bare up own short h = record {
     few : (m : ℕ) (b : Bool) → (n == m) ≡ b → length (map (λ (p : Pair). p.token) (kept m (put_all by_token pairs image.tokens))) ≤ 256
     few m true e =
         let is : n ≡ m = same_id n m e in
-        let none : kept m image.tokens ≡ [] = filter_none (λ (p : Pair). p.node == m) image.tokens (all_false (λ (p : Pair). p.node == m) image.tokens (subst (λ k. is_joined image k ≡ false) is bare)) in
+        let none : kept m image.tokens ≡ [] = filter_none (λ (p : Pair). p.node == m) image.tokens (all_false (λ (p : Pair). p.node == m) image.tokens (subst (λ k. owns_tokens image k ≡ false) is bare)) in
         omega (arith, short, ap length none, shorter (λ (p : Pair). p.node == m) pairs, length-filter_put_all by_token (λ (p : Pair). p.node == m) pairs image.tokens, length-map (kept m (put_all by_token pairs image.tokens)) (λ (p : Pair). p.token))
     few m false e =
         let none : kept m pairs ≡ [] = filter_none (λ (p : Pair). p.node == m) pairs (not_others n m pairs e own) in

@@ -21,13 +21,12 @@ use Rattle.cluster_terms.specs.declared.token.Pair.{Pair}
 use Rattle.transformations.proofs.FilterLemmas.{filter_alike, filter_both, filter_put}
 use Rattle.transformations.proofs.KeptNodes.{HaveRows}
 use Rattle.transformations.proofs.ListLemmas.{IsPart, all_weaker, part_all_of, part_append, part_filter, part_flat}
-use Rattle.transformations.proofs.MeetingLemmas.{AreNear}
+use Rattle.transformations.proofs.MeetingLemmas.{AreNear, is_in}
 use Rattle.transformations.proofs.PhaseLemmas.{CountsAlike, incoming_at, outgoing_at}
 use Rattle.transformations.proofs.ServedLemmas.{IsServed}
-use Rattle.transformations.specs.Counted.{is_in}
 use Rattle.transformations.specs.History.{begun}
 use Rattle.transformations.specs.Orders.{by_node}
-use Rattle.transformations.specs.Rings.{incoming, is_mid, is_started, outgoing, read_ring, reads_at, replaced, widest, writes_at}
+use Rattle.transformations.specs.Rings.{incoming, is_mid, has_started, outgoing, read_ring, reads_at, replaced, widest, writes_at}
 use Rattle.transformations.specs.Steps.{at_phase, others}
 use Rattle.transformations.specs.declared.image.Image.{Image}
 use Rattle.transformations.specs.declared.sequence.Phase.{Phase}
@@ -138,10 +137,10 @@ module _ (phase : Phase) (image : Image) (n epoch : ℕ) where
   })
 
   -- or in which writes do
-  pub share_writes : AllByRecursion (CountsAlike is_started phase n) image.sequences → ShareSets image later
+  pub share_writes : AllByRecursion (CountsAlike has_started phase n) image.sequences → ShareSets image later
   unfolding writes_at
   share_writes alike r x = inr (record {
     writes = sym (λ i. put_all nat_cmp (place (groups_of image.nodes r) x image.tokens)
-        (place (groups_of image.nodes r) x (replaced image.tokens (outgoing_at is_started phase n image.sequences alike i) (incoming_at is_started phase n image.sequences alike i))));
+        (place (groups_of image.nodes r) x (replaced image.tokens (outgoing_at has_started phase n image.sequences alike i) (incoming_at has_started phase n image.sequences alike i))));
     nodes = refl;
   })

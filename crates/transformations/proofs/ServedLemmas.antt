@@ -26,7 +26,7 @@ use Rattle.transformations.proofs.OwnedLemmas.{has_append, has_filter}
 use Rattle.transformations.proofs.RangesKept.{apart_at}
 use Rattle.transformations.proofs.SoleLemmas.{distinct_each, filter_own, found_by_node, itself, one_passes}
 use Rattle.transformations.specs.Ranges.{AgreeAt, SamePairs, in_ranges, outcome_ring, placed_after}
-use Rattle.transformations.specs.Rings.{high_ring, incoming, is_mid, is_started, low_ring, outgoing, read_ring, reads_at, replaced, writes_at}
+use Rattle.transformations.specs.Rings.{high_ring, incoming, is_mid, has_started, low_ring, outgoing, read_ring, reads_at, replaced, writes_at}
 use Rattle.transformations.specs.Steps.{ring_after}
 use Rattle.transformations.specs.Valid.{IsMovement, IsSound, IsValid}
 use Rattle.transformations.specs.declared.image.Image.{Image}
@@ -116,9 +116,9 @@ module _ (image : Image) (r : Replication) (x : ℤ) where
           turned : (a b : Bool) → (a || b) ≡ (b || a)
           turned a b = grind arith
 
-      by_high : mid s ≡ true → AgreeAt image r x mid own → AgreeAt image r x mid (λ q. is_started q.phase) → IsServed image r x
+      by_high : mid s ≡ true → AgreeAt image r x mid own → AgreeAt image r x mid (λ q. has_started q.phase) → IsServed image r x
       by_high is agree_own agree_high =
-          let placed : reads_at image r x ≡ place (groups_of image.nodes r) x (high_ring image) = reads_placed (high_ring image) (λ q. is_started q.phase) (are_outcomes image h).high agree_high in
+          let placed : reads_at image r x ≡ place (groups_of image.nodes r) x (high_ring image) = reads_placed (high_ring image) (λ q. has_started q.phase) (are_outcomes image h).high agree_high in
           record {
             ring = ring_after image.tokens s;
             ascending = (owned_after image s h fits swaps found).ascending;
@@ -140,7 +140,7 @@ agree_free image r x free one other =
     all_weaker (λ (q : SeqRow). in_ranges image r q x ≡ false) (λ (q : SeqRow). in_ranges image r q x ≡ true → one q ≡ other q)
     (λ q out here. absurd (true≢false (sym here ∙ out))) image.sequences free
 
-started_at_mid : (phase : Phase) → is_mid phase ≡ true → is_started phase ≡ true
+started_at_mid : (phase : Phase) → is_mid phase ≡ true → has_started phase ≡ true
 started_at_mid Mid is = refl
 started_at_mid Started is = refl
 started_at_mid Prepared is = is
@@ -155,7 +155,7 @@ module _ (image : Image) (h : IsSound image) (r : Replication) (x : ℤ) (apart 
           let own = found_by_node (λ (q : SeqRow). in_ranges image r q x) image.sequences s h.movements found in
           by_high image r x h s own is
           (agree_for image r x s only (λ q. is_mid q.phase) (λ q. q.node == s.node) (is ∙ sym (itself s.node)))
-          (agree_for image r x s only (λ q. is_mid q.phase) (λ q. is_started q.phase) (is ∙ sym (started_at_mid s.phase is)))
+          (agree_for image r x s only (λ q. is_mid q.phase) (λ q. has_started q.phase) (is ∙ sym (started_at_mid s.phase is)))
       phased s found false is =
           let only = one_passes (λ (q : SeqRow). in_ranges image r q x) image.sequences s found apart in
           by_low image r x h (agree_for image r x s only (λ q. is_mid q.phase) (λ q. false) is)

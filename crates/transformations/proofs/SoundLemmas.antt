@@ -31,7 +31,7 @@ use Rattle.transformations.proofs.RingLemmas.{AreFew, few_moved, few_part, lengt
 use Rattle.transformations.specs.History.{begun, empty_image, is_command, most_epochs, next_image}
 use Rattle.transformations.specs.Orders.{by_name, by_node, by_token}
 use Rattle.transformations.specs.Refusals.{most_keyspaces, early_refusal_of, prepared_by, with_movement}
-use Rattle.transformations.specs.Steps.{at_phase, finished, join_of, leave_of, leaver, move_of, movement_of, others, owned, pairs_of, replace_of, same_phase, sequences_without, takes_part}
+use Rattle.transformations.specs.Steps.{at_phase, finished, join_of, leave_of, leaver, move_of, movement_of, others, owned, pairs_of, replace_of, same_phase, sequences_after_cancel, takes_part}
 use Rattle.transformations.specs.Valid.{IsMovement, IsSound, brought, brought_by, is_standing}
 use Rattle.transformations.specs.declared.command.Command.{Command}
 use Rattle.transformations.specs.declared.command.Command.TheVariants.{Register, Unregister, UnsafeJoin, Keyspace, DropKeyspace, PrepareJoin, PrepareMove, PrepareLeave, PrepareReplace, Step, Cancel}
@@ -340,7 +340,7 @@ sound_cancel image n h room = by (movement_of image n)
     back s true = sound_phase Started image n h room
     back s false = sound_given_up image n h room
 
-    by : (o : Option SeqRow) → IsSound (record image { epoch = image.epoch + 1; sequences = sequences_without image.sequences n o })
+    by : (o : Option SeqRow) → IsSound (record image { epoch = image.epoch + 1; sequences = sequences_after_cancel image.sequences n o })
     by None = sound_keyspaces image image.keyspaces h.few_keyspaces h.keyspaces h room
     by (Some s) = back s (same_phase s.phase Mid)
 

@@ -18,7 +18,7 @@ use Rattle.transformations.proofs.OnceLemmas.{AreOnce, both_take, first_alone, l
 use Rattle.transformations.proofs.OwnedLemmas.{has_filter, owned_without, without}
 use Rattle.transformations.proofs.RingLemmas.{AreFew, few_moved, few_part, not_others, tokens_of}
 use Rattle.transformations.proofs.SwapLemmas.{PutsAnew, few_swapped}
-use Rattle.transformations.specs.Rings.{high_ring, incoming, is_mid, is_started, low_ring, outgoing, read_ring, replaced, ring_at}
+use Rattle.transformations.specs.Rings.{high_ring, incoming, is_mid, has_started, low_ring, outgoing, read_ring, replaced, ring_at}
 use Rattle.transformations.specs.Steps.{owned, takes_part}
 use Rattle.transformations.specs.Valid.{IsSound, brought, brought_by}
 use Rattle.transformations.specs.declared.image.Image.{Image}
@@ -127,5 +127,5 @@ pub widest-tokens : (image : Image) → IsSound image
 widest-tokens image h = (
   part_distinct int_eq (part_map (λ (p : Pair). p.token) (part_front image.tokens (brought image.sequences))) h.fresh,
   (ring_few is_mid image h).fresh,
-  (ring_few is_started image h).fresh,
+  (ring_few has_started image h).fresh,
 )

@@ -3,14 +3,9 @@ use Rattle.std.specs.Prelude.{ℕ, Bool, ◌&&◌, List, filter, length, is_some
 use Rattle.std.specs.List.{list_any}
 use Rattle.std.specs.Set.{distinct_count}
 use Rattle.cluster_terms.specs.Group.{Group}
-use Rattle.cluster_terms.specs.NodeRow.{row_of}
-use Rattle.cluster_terms.specs.Replication.{groups_of, rack_within}
+use Rattle.cluster_terms.specs.Replication.{groups_of}
 use Rattle.cluster_terms.specs.declared.node.NodeRow.{NodeRow}
 use Rattle.transformations.specs.declared.keyspace.KeyspaceRow.{KeyspaceRow}
-
--- whether a node stands in a datacenter
-abbrev pub is_in : List NodeRow → List ℕ → ℕ → Bool
-is_in nodes dc n = is_some (rack_within dc (row_of nodes n))
 
 -- some nodes are others, each once: so many of them pass a test as different ones of the others do
 abbrev pub IsOnce : List ℕ → List ℕ → Type 0

@@ -1,10 +1,10 @@
--- What commands make of an image, one after another.
+-- What commands make of an image, one after another (CEP-21's transformations and their log).
 use Rattle.std.specs.Prelude.{ℕ, ◌+◌, Bool, true, false, not, ◌&&◌, if◌then◌else◌, ℤ, int_lt, List, [], ◌∷◌, ◌++◌, filter, take, length, Option, Some, is_none, nat_le, ◌==◌, IsTrue}
 use Rattle.std.specs.Str.{bytes_eq}
 use Rattle.cluster_terms.specs.Ascending.{put, put_all}
 use Rattle.cluster_terms.specs.declared.node.NodeRow.{NodeRow}
-use Rattle.transformations.specs.Orders.{by_token, by_name, by_node}
-use Rattle.transformations.specs.Refusals.{refusal_of}
+use Rattle.transformations.specs.Orders.{by_token, by_name}
+use Rattle.transformations.specs.Refusals.{refusal_of, with_movement}
 use Rattle.transformations.specs.Steps.{pairs_of, join_of, move_of, leave_of, replace_of, stepped, cancelled}
 use Rattle.transformations.specs.declared.command.Command.{Command}
 use Rattle.transformations.specs.declared.command.Command.TheVariants.{Register, Unregister, UnsafeJoin, Keyspace, DropKeyspace, PrepareJoin, PrepareMove, PrepareLeave, PrepareReplace, Step, Cancel}
@@ -20,9 +20,9 @@ empty_image = record { epoch = 0; next = 1; nodes = []; tokens = []; keyspaces =
 
 -- the image once a movement is prepared
 abbrev pub begun : Image → SeqRow → Image
-begun image s = record image { epoch = image.epoch + 1; sequences = put by_node s image.sequences }
+begun image s = let after : Image = with_movement image s in record after { epoch = image.epoch + 1 }
 
--- the image after a command
+-- the image after a command that isn't refused
 unfoldable pub next_image : Image → Command → Image
 next_image image (Register name dc rack) =
     let row : NodeRow = record { id = image.next; name = name; dc = dc; rack = rack; left = false } in
@@ -57,7 +57,8 @@ ascend [] = true
 ascend (t ∷ []) = true
 ascend (t ∷ u ∷ ts) = int_lt t u && ascend (u ∷ ts)
 
--- whether tokens may be a command's: there are 1 to 256, and they ascend; and whether a command has such tokens, where it has any
+-- whether tokens may be a command's: there are 1 to 256, and they ascend; and whether a command has such tokens, where it
+-- has any
 abbrev pub are_tokens : List ℤ → Bool
 are_tokens tokens = nat_le 1 (length tokens) && (nat_le (length tokens) 256 && ascend tokens)
 

@@ -1,4 +1,4 @@
--- Quorums of images, and when those of two images meet.
+-- Quorums of images, and when those of two images meet (CEP-21: quorums of adjacent epochs meet).
 use Rattle.std.specs.Prelude.{◌≡◌, ℕ, Bool, true, false, ℤ, List, [], length, nat_eq, nat_le}
 use Rattle.std.specs.List.{AllByRecursion}
 use Rattle.std.specs.Set.{is_member}
@@ -29,13 +29,14 @@ datacenters_of (Topology factors) = factors
 abbrev pub AreWritten : Image → Replication → ℤ → Type 0
 AreWritten image r x = (n : ℕ) → is_member nat_eq (reads_at image r x) n ≡ true → is_member nat_eq (writes_at image r x) n ≡ true
 
--- a write quorum exists exactly where a read quorum does: of QUORUM at a token, and of LOCAL_QUORUM in each datacenter
-abbrev pub ExistTogether : Sets → Type 0
-ExistTogether s = nat_le (write_need s) (length s.writes) ≡ nat_le (read_need s) (length s.reads)
+-- sets have a write quorum exactly where they have a read quorum; so have those of QUORUM at a token, and those of
+-- LOCAL_QUORUM in each datacenter
+abbrev pub HaveBothOrNone : Sets → Type 0
+HaveBothOrNone s = nat_le (write_need s) (length s.writes) ≡ nat_le (read_need s) (length s.reads)
 
 pub record ExistAt (image : Image) (r : Replication) (x : ℤ) : Type 0 where
-  pub quorums : ExistTogether (sets_at image r x)
-  pub local_quorums : AllByRecursion (λ f. ExistTogether (local_sets_at image r f x)) (datacenters_of r)
+  pub quorums : HaveBothOrNone (sets_at image r x)
+  pub local_quorums : AllByRecursion (λ f. HaveBothOrNone (local_sets_at image r f x)) (datacenters_of r)
 
 -- they do so at every token under every keyspace
 abbrev pub QuorumsExistTogether : Image → Type 0
@@ -60,11 +61,11 @@ abbrev pub QuorumsMeet : Image → Image → Type 0
 QuorumsMeet one other = (x : ℤ) → IsToken x → AllByRecursion (λ k. MeetAt one other k.replication x) one.keyspaces
 
 -- whether a command makes a movement epoch: it gives no tokens at once, and changes no keyspace
-abbrev pub is_movement : Command → Bool
-is_movement (UnsafeJoin node tokens) = false
-is_movement (Keyspace name replication) = false
-is_movement (DropKeyspace name) = false
-is_movement _ = true
+abbrev pub makes_movement_epoch : Command → Bool
+makes_movement_epoch (UnsafeJoin node tokens) = false
+makes_movement_epoch (Keyspace name replication) = false
+makes_movement_epoch (DropKeyspace name) = false
+makes_movement_epoch _ = true
 
 -- a command that makes a keyspace has a replication for it
 abbrev pub HasReplication : Command → Type 0

@@ -12,7 +12,7 @@ use Rattle.cluster_terms.specs.declared.replication.Replication.{Replication}
 use Rattle.cluster_terms.specs.declared.row.TokenRange.{TokenRange}
 use Rattle.cluster_terms.specs.declared.token.Pair.{Pair}
 use Rattle.cluster_terms.specs.declared.token.RightEnd.{RightEnd}
-use Rattle.transformations.specs.Rings.{fixed_ring, widest, cuts, low_ring, read_ring, high_ring, is_mid, is_started}
+use Rattle.transformations.specs.Rings.{fixed_ring, widest, cuts, low_ring, read_ring, high_ring, is_mid, has_started}
 use Rattle.transformations.specs.Steps.{movement_of}
 use Rattle.transformations.specs.declared.image.Image.{Image}
 use Rattle.transformations.specs.declared.sequence.SeqRow.{SeqRow}
@@ -47,23 +47,25 @@ side done s = if done s then s.in_pairs else s.out_pairs
 abbrev pub outcome_ring : Image → (SeqRow → Bool) → List Pair
 outcome_ring image done = fixed_ring image ++ flat_map (side done) image.sequences
 
--- the low, the read and the high ring are outcomes: none is done, those at MID are, those at STARTED or MID are
+-- two rings with the same pairs, in whatever order
 abbrev pub SamePairs : List Pair → List Pair → Type 0
 SamePairs ps qs = (p : Pair) → has_pair ps p ≡ has_pair qs p
 
+-- the low, the read and the high ring are outcomes: none is done, those at MID are, those at STARTED or MID are
 pub record AreOutcomes (image : Image) : Type 0 where
   pub low : SamePairs (low_ring image) (outcome_ring image (λ s. false))
   pub read : SamePairs (read_ring image) (outcome_ring image (λ s. is_mid s.phase))
-  pub high : SamePairs (high_ring image) (outcome_ring image (λ s. is_started s.phase))
+  pub high : SamePairs (high_ring image) (outcome_ring image (λ s. has_started s.phase))
 
 -- two outcomes agree on the movements that have x in their ranges
 abbrev pub AgreeAt : Image → Replication → ℤ → (SeqRow → Bool) → (SeqRow → Bool) → Type 0
 AgreeAt image replication x one other = AllByRecursion (λ s. in_ranges image replication s x ≡ true → one s ≡ other s) image.sequences
 
--- the placement at x depends on the movements that have x in their ranges, and on no other
+-- the placement at x on the ring of an outcome
 abbrev pub placed_after : Image → Replication → ℤ → (SeqRow → Bool) → List ℕ
 placed_after image replication x done = place (groups_of image.nodes replication) x (outcome_ring image done)
 
+-- the placement at x depends on the movements that have x in their ranges, and on no other
 abbrev pub PlacedByRanges : Image → Type 0
 PlacedByRanges image = (replication : Replication) (x : ℤ) (one other : SeqRow → Bool)
     → AgreeAt image replication x one other → placed_after image replication x one ≡ placed_after image replication x other

@@ -1,4 +1,4 @@
--- When a command is refused.
+-- When a command is refused. The refusals, their order and the limits are by rules of this project.
 use Rattle.std.specs.Prelude.{ℕ, Bool, true, false, ◌&&◌, not, if◌then◌else◌, ℤ, List, [], ◌∷◌, ◌++◌, map, length, Option, Some, None, is_some, option_map, option_and_then, find, nat_le, nat_lt, ◌==◌}
 use Rattle.std.specs.List.{list_any}
 use Rattle.std.specs.Ordering.{int_eq}
@@ -13,7 +13,7 @@ use Rattle.cluster_terms.specs.declared.token.Pair.{Pair}
 use Rattle.transformations.specs.Orders.{by_node}
 use Rattle.transformations.specs.Ranges.{first_shared}
 use Rattle.transformations.specs.Rings.{widest}
-use Rattle.transformations.specs.States.{is_joined, node_state, node_tokens}
+use Rattle.transformations.specs.States.{owns_tokens, node_state, node_tokens}
 use Rattle.transformations.specs.Steps.{join_of, move_of, leave_of, replace_of, movement_of, takes_part, is_next_step, others}
 use Rattle.transformations.specs.declared.command.Command.{Command}
 use Rattle.transformations.specs.declared.command.Command.TheVariants.{Register, Unregister, UnsafeJoin, Keyspace, DropKeyspace, PrepareJoin, PrepareMove, PrepareLeave, PrepareReplace, Step, Cancel}
@@ -63,18 +63,19 @@ unless_allowed allowed s = refused_if (not (allowed s)) (WrongState s)
 abbrev pub wrong_state : (NodeState → Bool) → Image → ℕ → Option Refusal
 wrong_state allowed image n = option_and_then (unless_allowed allowed) (node_state image n)
 
-abbrev pub is_idle : NodeState → Bool
-is_idle state.Registered = true
-is_idle _ = false
+-- the states of a node that may be given tokens, of one that may give its tokens up, and of one that may be removed
+abbrev pub may_join : NodeState → Bool
+may_join state.Registered = true
+may_join _ = false
 
-abbrev pub has_joined : NodeState → Bool
-has_joined state.Joined = true
-has_joined _ = false
+abbrev pub may_move_or_leave : NodeState → Bool
+may_move_or_leave state.Joined = true
+may_move_or_leave _ = false
 
-abbrev pub is_idle_or_left : NodeState → Bool
-is_idle_or_left state.Registered = true
-is_idle_or_left state.Left = true
-is_idle_or_left _ = false
+abbrev pub may_be_removed : NodeState → Bool
+may_be_removed state.Registered = true
+may_be_removed state.Left = true
+may_be_removed _ = false
 
 -- the node takes part in a movement, whose node is shown
 abbrev pub in_sequence : Image → ℕ → Option Refusal
@@ -105,7 +106,7 @@ token_taken image tokens = option_map TokenTaken (find (is_taken image) tokens)
 
 -- the node that is to be replaced has no token
 abbrev pub no_tokens : Image → ℕ → Option Refusal
-no_tokens image gone = refused_if (not (is_joined image gone)) NoTokens
+no_tokens image gone = refused_if (not (owns_tokens image gone)) NoTokens
 
 -- the node doesn't have one token; how many it has is shown
 abbrev pub unless_one : ℕ → Option Refusal
@@ -114,10 +115,11 @@ unless_one count = refused_if (not (count == 1)) (NotOneToken count)
 abbrev pub not_one_token : Image → ℕ → Option Refusal
 not_one_token image n = unless_one (length (node_tokens image n))
 
--- the node that is to be replaced stands in another datacenter or rack, which are shown
+-- whether two nodes stand in the same datacenter and rack
 abbrev pub same_place : NodeRow → NodeRow → Bool
 same_place row gone = bytes_eq row.dc gone.dc && bytes_eq row.rack gone.rack
 
+-- the node that is to be replaced stands in another datacenter or rack, which are shown
 abbrev pub unless_near : NodeRow → NodeRow → Option Refusal
 unless_near gone row = refused_if (not (same_place row gone)) (OtherRack gone.dc gone.rack)
 
@@ -143,10 +145,11 @@ tokens_with image tokens = distinct_count int_eq (map (λ p. p.token) (widest im
 abbrev pub tokens_full : Image → List ℤ → Option Refusal
 tokens_full image tokens = refused_if (nat_lt most_tokens (tokens_with image tokens)) TokensFull
 
--- no keyspace has the name; or none has it and as many are there as can be
+-- whether a keyspace has the name
 abbrev pub has_keyspace : Image → List ℕ → Bool
 has_keyspace image name = list_any (λ row. bytes_eq row.name name) image.keyspaces
 
+-- no keyspace has the name; or none has it and as many are there as can be
 abbrev pub no_keyspace : Image → List ℕ → Option Refusal
 no_keyspace image name = refused_if (not (has_keyspace image name)) NoKeyspace
 
@@ -159,11 +162,12 @@ first_of [] = None
 first_of (Some refusal ∷ later) = Some refusal
 first_of (None ∷ later) = first_of later
 
--- a new movement, in the image that has it, overlaps another one: the node of the first such one is shown, and the right
--- end of the first row that is in the ranges of both
+-- the image with a movement, which ascends by node among the others
 abbrev pub with_movement : Image → SeqRow → Image
 with_movement image s = record image { sequences = put by_node s image.sequences }
 
+-- a new movement, in the image that has it, overlaps another one: the node of the first such one is shown, and the right
+-- end of the first row that is in the ranges of both
 abbrev pub locked_by : Image → SeqRow → SeqRow → Option Refusal
 locked_by image s q = option_map (Locked q.node) (first_shared image s q)
 
@@ -175,28 +179,28 @@ locked image s = first_of (map (locked_by image s) (others image.sequences s.nod
 unfoldable pub early_refusal_of : Image → Command → Option Refusal
 early_refusal_of image (Register name dc rack) = first_of (name_taken image name ∷ nodes_full image ∷ [])
 early_refusal_of image (Unregister node) =
-    first_of (no_node image node ∷ in_sequence image node ∷ wrong_state is_idle_or_left image node ∷ [])
+    first_of (no_node image node ∷ in_sequence image node ∷ wrong_state may_be_removed image node ∷ [])
 early_refusal_of image (UnsafeJoin node tokens) =
-    first_of (no_node image node ∷ in_sequence image node ∷ wrong_state is_idle image node ∷ not_idle image.sequences
+    first_of (no_node image node ∷ in_sequence image node ∷ wrong_state may_join image node ∷ not_idle image.sequences
     ∷ token_taken image tokens ∷ tokens_full image tokens ∷ [])
 early_refusal_of image (Keyspace name replication) = first_of (keyspaces_full image name ∷ not_idle image.sequences ∷ [])
 early_refusal_of image (DropKeyspace name) = first_of (no_keyspace image name ∷ not_idle image.sequences ∷ [])
 early_refusal_of image (PrepareJoin node tokens) =
-    first_of (no_node image node ∷ in_sequence image node ∷ wrong_state is_idle image node
+    first_of (no_node image node ∷ in_sequence image node ∷ wrong_state may_join image node
     ∷ token_taken image tokens ∷ tokens_full image tokens ∷ [])
 early_refusal_of image (PrepareMove node token) =
-    first_of (no_node image node ∷ in_sequence image node ∷ wrong_state has_joined image node ∷ not_one_token image node
+    first_of (no_node image node ∷ in_sequence image node ∷ wrong_state may_move_or_leave image node ∷ not_one_token image node
     ∷ token_taken image (token ∷ []) ∷ tokens_full image (token ∷ []) ∷ [])
 early_refusal_of image (PrepareLeave node) =
-    first_of (no_node image node ∷ in_sequence image node ∷ wrong_state has_joined image node ∷ too_few_nodes image node ∷ [])
+    first_of (no_node image node ∷ in_sequence image node ∷ wrong_state may_move_or_leave image node ∷ too_few_nodes image node ∷ [])
 early_refusal_of image (PrepareReplace node gone) =
     first_of (no_node image node ∷ no_node image gone ∷ in_sequence image node ∷ in_sequence image gone
-    ∷ wrong_state is_idle image node ∷ no_tokens image gone ∷ other_rack image node gone ∷ [])
+    ∷ wrong_state may_join image node ∷ no_tokens image gone ∷ other_rack image node gone ∷ [])
 early_refusal_of image (Cancel node) = first_of (no_node image node ∷ no_sequence image node ∷ [])
 early_refusal_of image (Step goal kind node) =
     first_of (no_node image node ∷ no_sequence image node ∷ wrong_step goal kind image node ∷ [])
 
--- the movement that a command prepares; and its ranges are locked
+-- the movement that a command prepares
 abbrev pub prepared_by : List Pair → Command → Option SeqRow
 prepared_by ring (PrepareJoin node tokens) = Some (join_of node tokens)
 prepared_by ring (PrepareMove node token) = Some (move_of ring node token)
@@ -204,6 +208,7 @@ prepared_by ring (PrepareLeave node) = Some (leave_of ring node)
 prepared_by ring (PrepareReplace node gone) = Some (replace_of ring node gone)
 prepared_by ring _ = None
 
+-- its ranges are locked, in the image that has it
 abbrev pub ranges_locked : Image → Command → Option Refusal
 ranges_locked image command = option_and_then (λ s. locked (with_movement image s) s) (prepared_by image.tokens command)
 

@@ -1,4 +1,4 @@
--- The rings of an image, and the reads and writes that they give.
+-- The rings of an image, and the reads and writes that they give (CEP-21's placements for reads and for writes).
 use Rattle.std.specs.Prelude.{ℕ, Bool, true, false, not, ℤ, List, ◌++◌, map, filter, flat_map}
 use Rattle.std.specs.Ordering.{nat_cmp, int_cmp}
 use Rattle.std.specs.Set.{is_member}
@@ -13,16 +13,16 @@ use Rattle.transformations.specs.declared.sequence.Phase.{Phase}
 use Rattle.transformations.specs.declared.sequence.Phase.TheVariants.{Prepared, Started, Mid}
 use Rattle.transformations.specs.declared.sequence.SeqRow.{SeqRow}
 
--- phases at which reads, or writes, see a movement as done
+-- the phases at which reads, and those at which writes, see a movement as done
 abbrev pub is_mid : Phase → Bool
 is_mid Mid = true
 is_mid Started = false
 is_mid Prepared = false
 
-abbrev pub is_started : Phase → Bool
-is_started Mid = true
-is_started Started = true
-is_started Prepared = false
+abbrev pub has_started : Phase → Bool
+has_started Mid = true
+has_started Started = true
+has_started Prepared = false
 
 -- a ring without some pairs, and with others
 abbrev pub replaced : List Pair → List Pair → List Pair → List Pair
@@ -51,7 +51,7 @@ read_ring image = ring_at is_mid image
 
 -- the high ring: those at STARTED or MID are applied
 abbrev pub high_ring : Image → List Pair
-high_ring image = ring_at is_started image
+high_ring image = ring_at has_started image
 
 -- the nodes that are read and those that are written at a token
 unfoldable pub reads_at : Image → Replication → ℤ → List ℕ

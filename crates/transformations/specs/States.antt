@@ -1,9 +1,10 @@
--- What a node is doing.
-use Rattle.std.specs.Prelude.{ℕ, Bool, ◌&&◌, if◌then◌else◌, ℤ, List, map, filter, find, Option, Some, None, option_map, ◌==◌}
+-- What a node is doing (Cassandra's NodeState, derived from the image).
+use Rattle.std.specs.Prelude.{ℕ, Bool, ◌&&◌, if◌then◌else◌, ℤ, List, map, find, Option, Some, None, option_map, ◌==◌}
 use Rattle.std.specs.List.{list_any}
 use Rattle.cluster_terms.specs.NodeRow.{row_of}
 use Rattle.cluster_terms.specs.declared.node.NodeRow.{NodeRow}
-use Rattle.transformations.specs.Rings.{is_started}
+use Rattle.transformations.specs.Rings.{has_started}
+use Rattle.transformations.specs.Steps.{owned}
 use Rattle.transformations.specs.declared.image.Image.{Image}
 use Rattle.transformations.specs.declared.sequence.Kind.{Kind}
 use Rattle.transformations.specs.declared.sequence.Kind.TheVariants as kind
@@ -13,11 +14,11 @@ use Rattle.transformations.specs.declared.state.NodeState.TheVariants.{Left, Boo
 
 -- the tokens of a node in the ring, ascending
 abbrev pub node_tokens : Image → ℕ → List ℤ
-node_tokens image n = map (λ p. p.token) (filter (λ p. p.node == n) image.tokens)
+node_tokens image n = map (λ p. p.token) (owned image.tokens n)
 
 -- whether a node has a token in the ring
-abbrev pub is_joined : Image → ℕ → Bool
-is_joined image n = list_any (λ p. p.node == n) image.tokens
+abbrev pub owns_tokens : Image → ℕ → Bool
+owns_tokens image n = list_any (λ p. p.node == n) image.tokens
 
 -- what the node of a movement is doing
 abbrev pub state_in : Kind → NodeState
@@ -28,12 +29,12 @@ state_in kind.Replace = BootReplacing
 
 -- the movement of a node that has started
 abbrev pub started_of : Image → ℕ → Option SeqRow
-started_of image n = find (λ s. (s.node == n) && is_started s.phase) image.sequences
+started_of image n = find (λ s. (s.node == n) && has_started s.phase) image.sequences
 
 -- the state of a node that hasn't left, with its movement that has started
 abbrev pub state_by : Image → ℕ → Option SeqRow → NodeState
 state_by image n (Some s) = state_in s.kind
-state_by image n None = if is_joined image n then Joined else Registered
+state_by image n None = if owns_tokens image n then Joined else Registered
 
 -- the state of a row, and that of a node; none where it is not registered
 unfoldable pub state_of_row : Image → NodeRow → NodeState

@@ -1,4 +1,5 @@
--- Movements, and the steps that they take.
+-- Movements, and the steps that they take (CEP-21's multi-step operations). That a replaced node has left, and that a
+-- movement at MID is cancelled in two steps, are rules of this project.
 use Rattle.std.specs.Prelude.{ℕ, Bool, true, false, not, ◌&&◌, ◌||◌, if◌then◌else◌, ℤ, List, [], ◌∷◌, map, filter, find, Option, Some, None, ◌==◌}
 use Rattle.std.specs.List.{list_any}
 use Rattle.std.specs.Set.{is_member}
@@ -119,10 +120,10 @@ stepped image goal.Mid n = record image { sequences = map (at_phase Mid n) image
 stepped image goal.Finish n = finished image (movement_of image n)
 
 -- the movements once that of a node is cancelled: from MID it goes back to STARTED, and else it ends
-abbrev pub sequences_without : List SeqRow → ℕ → Option SeqRow → List SeqRow
-sequences_without sequences n None = sequences
-sequences_without sequences n (Some s) = if same_phase s.phase Mid then map (at_phase Started n) sequences else others sequences n
+abbrev pub sequences_after_cancel : List SeqRow → ℕ → Option SeqRow → List SeqRow
+sequences_after_cancel sequences n None = sequences
+sequences_after_cancel sequences n (Some s) = if same_phase s.phase Mid then map (at_phase Started n) sequences else others sequences n
 
 -- the image once the movement of a node is cancelled; the epoch is as before
 abbrev pub cancelled : Image → ℕ → Image
-cancelled image n = record image { sequences = sequences_without image.sequences n (movement_of image n) }
+cancelled image n = record image { sequences = sequences_after_cancel image.sequences n (movement_of image n) }

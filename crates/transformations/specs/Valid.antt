@@ -11,7 +11,7 @@ use Rattle.transformations.specs.History.{most_epochs}
 use Rattle.transformations.specs.Orders.{by_token, by_name, by_node}
 use Rattle.transformations.specs.Ranges.{AreApart}
 use Rattle.transformations.specs.Refusals.{most_nodes, most_tokens, most_keyspaces, other_rack}
-use Rattle.transformations.specs.States.{is_joined, node_tokens}
+use Rattle.transformations.specs.States.{owns_tokens, node_tokens}
 use Rattle.transformations.specs.Steps.{owned, pairs_of, takes_part}
 use Rattle.transformations.specs.declared.image.Image.{Image}
 use Rattle.transformations.specs.declared.sequence.Kind.{Kind}
@@ -45,7 +45,7 @@ pub record IsJoin (image : Image) (s : SeqRow) : Type 0 where
   pub some : 1 ≤ length s.in_pairs
   pub few : length s.in_pairs ≤ 256
   pub own : AllByRecursion (λ p. p.node ≡ s.node) s.in_pairs
-  pub bare : is_joined image s.node ≡ false
+  pub bare : owns_tokens image s.node ≡ false
 
 -- of a move: it takes out the node's one pair, and puts in one
 pub record IsMove (image : Image) (s : SeqRow) : Type 0 where
@@ -67,7 +67,7 @@ pub record IsReplace (image : Image) (s : SeqRow) : Type 0 where
   pub out : s.out_pairs ≡ owned image.tokens gone
   pub some : 1 ≤ length s.out_pairs
   pub same : s.in_pairs ≡ pairs_of s.node (map (λ p. p.token) s.out_pairs)
-  pub bare : is_joined image s.node ≡ false
+  pub bare : owns_tokens image s.node ≡ false
   pub near : other_rack image s.node gone ≡ None
 
 -- the pairs of a movement fit its kind
@@ -83,7 +83,7 @@ pub record IsMovement (image : Image) (s : SeqRow) : Type 0 where
   pub ascending : IsStrictlySortedBy by_token s.in_pairs
   pub fits : Fits s.kind image s
 
--- two movements in which no node takes part twice
+-- two movements of which no node takes part in both
 abbrev pub HaveNoNodeTwice : SeqRow → SeqRow → Type 0
 HaveNoNodeTwice s q = (n : ℕ) → (takes_part n s && takes_part n q) ≡ false
 

@@ -1,10 +1,13 @@
 //! Why a movement is not prepared.
 
-ghost use Rattle.std.specs.Prelude.{◌≡◌, ◌&&◌, ◌==◌, filter, find, length, nat_le, IfOk};
+ghost use Rattle.std.specs.Prelude.{◌≡◌, ◌==◌, filter, find, is_some, length, IfOk};
 ghost use Rattle.std.specs.List.{list_any};
 ghost use Rattle.std.specs.Option.{option_copied};
 ghost use Rattle.cluster_terms.specs.Group.{nodes_of};
-ghost use Rattle.transformations.specs.Counted.{IsOnce, is_few_of, is_in};
+ghost use Rattle.cluster_terms.specs.NodeRow.{row_of};
+ghost use Rattle.cluster_terms.specs.Quorum.{within};
+ghost use Rattle.cluster_terms.specs.Replication.{datacenter_group, rack_within};
+ghost use Rattle.transformations.specs.Counted.{IsOnce, is_few_of, is_short_of};
 ghost use Rattle.transformations.specs.Refusals.{no_tokens, not_one_token, other_rack, same_place, too_few_nodes};
 
 use crate::image::Image;
@@ -88,28 +91,28 @@ fn each_once(mut nodes: Vec<NodeId>) -> Vec<NodeId>
 
 /// Whether a node stands in a datacenter.
 fn is_in(nodes: &[NodeRow], dc: &Name, n: NodeId) -> bool
-    ensures { result ≡ is_in nodes.now dc.now n }
+    ensures { result ≡ is_some (rack_within dc.now (row_of nodes.now n)) }
 {
     row_of(nodes, n).is_some_and(|row| row.dc.as_str() == dc.as_str())
 }
 
 /// How many of some nodes stand in a datacenter.
 fn count_in(nodes: &[NodeRow], dc: &Name, ids: &[NodeId]) -> usize
-    ensures { result ≡ length (filter (is_in nodes.now dc.now) ids.now) }
+    ensures { result ≡ length (within nodes.now dc.now ids.now) }
 {
     ids.iter().filter(|n| is_in(nodes, dc, **n)).count()
 }
 
 /// Whether the datacenter of a node has no more of some nodes than it is to have replicas.
 fn is_short_in(nodes: &[NodeRow], ids: &[NodeId], n: NodeId, row: &(Name, Rf)) -> bool
-    ensures { result ≡ (is_in nodes.now row.now.0 n && nat_le (length (filter (is_in nodes.now row.now.0) ids.now)) row.now.1) }
+    ensures { result ≡ is_short_of ids.now n (datacenter_group nodes.now row.now) }
 {
     is_in(nodes, &row.0, n) && count_in(nodes, &row.0, ids) <= usize::from(row.1.value())
 }
 
 /// Whether one of some datacenters, which is that of a node, has no more of some nodes than it is to have replicas.
 fn is_short_in_any(nodes: &[NodeRow], ids: &[NodeId], n: NodeId, rows: &[(Name, Rf)]) -> bool
-    ensures { result ≡ list_any (λ row. is_in nodes.now row.0 n && nat_le (length (filter (is_in nodes.now row.0) ids.now)) row.1) rows.now }
+    ensures { result ≡ list_any (λ row. is_short_of ids.now n (datacenter_group nodes.now row)) rows.now }
 {
     rows.iter().any(|row| is_short_in(nodes, ids, n, row))
 }

@@ -1,7 +1,7 @@
 ghost use Rattle.std.specs.Prelude.{◌≡◌, [], ◌∷◌, not, IfOk, MatchOption};
 ghost use Rattle.std.specs.List.{list_any};
 ghost use Rattle.std.specs.Ordering.{int_eq};
-ghost use Rattle.transformations.specs.Refusals.{has_joined, has_keyspace, in_sequence, is_idle, is_idle_or_left, is_registered, is_taken, keyspaces_full, name_taken, no_keyspace, no_node, no_sequence, nodes_full, not_idle, first_of, early_refusal_of, refused_if, token_taken, tokens_full, wrong_state, wrong_step};
+ghost use Rattle.transformations.specs.Refusals.{may_move_or_leave, has_keyspace, in_sequence, may_join, may_be_removed, is_registered, is_taken, keyspaces_full, name_taken, no_keyspace, no_node, no_sequence, nodes_full, not_idle, first_of, early_refusal_of, refused_if, token_taken, tokens_full, wrong_state, wrong_step};
 ghost use Rattle.transformations.specs.States.{node_state};
 ghost use Rattle.transformations.specs.declared.command.Command.TheVariants as command;
 
@@ -69,22 +69,22 @@ fn no_node(image: &Image, n: NodeId) -> Option<Refusal>
 }
 
 /// Whether a node is registered, and nothing else.
-fn is_idle(state: NodeState) -> bool
-    ensures { result ≡ is_idle state }
+fn may_join(state: NodeState) -> bool
+    ensures { result ≡ may_join state }
 {
     matches!(state, NodeState::Registered)
 }
 
 /// Whether a node has a token, and no movement of it has started.
-fn has_joined(state: NodeState) -> bool
-    ensures { result ≡ has_joined state }
+fn may_move_or_leave(state: NodeState) -> bool
+    ensures { result ≡ may_move_or_leave state }
 {
     matches!(state, NodeState::Joined)
 }
 
 /// Whether a node is registered and nothing else, or has left.
-fn is_idle_or_left(state: NodeState) -> bool
-    ensures { result ≡ is_idle_or_left state }
+fn may_be_removed(state: NodeState) -> bool
+    ensures { result ≡ may_be_removed state }
 {
     matches!(state, NodeState::Registered | NodeState::Left)
 }
@@ -217,44 +217,30 @@ fn tokens_full(alloc: Global, image: &Image, tokens: &[Token]) -> Result<Option<
 
 /// The node isn't registered, takes part in a movement, or isn't idle: what comes first.
 fn not_ready(image: &Image, n: NodeId) -> Option<Refusal>
-    ensures { result ≡ first_of (no_node image.now n ∷ in_sequence image.now n ∷ wrong_state is_idle image.now n ∷ []) }
+    ensures { result ≡ first_of (no_node image.now n ∷ in_sequence image.now n ∷ wrong_state may_join image.now n ∷ []) }
 {
-    if let Some(refusal) = no_node(image, n) {
-        return Some(refusal);
-    }
-    if let Some(refusal) = in_sequence(image, n) {
-        return Some(refusal);
-    }
-    wrong_state(image, n, is_idle)
+    no_node(image, n)
+        .or_else(|| in_sequence(image, n))
+        .or_else(|| wrong_state(image, n, may_join))
 }
 
 /// The node isn't registered, takes part in a movement, or has not joined: what comes first.
 fn not_settled(image: &Image, n: NodeId) -> Option<Refusal>
-    ensures { result ≡ first_of (no_node image.now n ∷ in_sequence image.now n ∷ wrong_state has_joined image.now n ∷ []) }
+    ensures { result ≡ first_of (no_node image.now n ∷ in_sequence image.now n ∷ wrong_state may_move_or_leave image.now n ∷ []) }
 {
-    if let Some(refusal) = no_node(image, n) {
-        return Some(refusal);
-    }
-    if let Some(refusal) = in_sequence(image, n) {
-        return Some(refusal);
-    }
-    wrong_state(image, n, has_joined)
+    no_node(image, n)
+        .or_else(|| in_sequence(image, n))
+        .or_else(|| wrong_state(image, n, may_move_or_leave))
 }
 
 /// One of two nodes isn't registered, or one takes part in a movement: what comes first.
 fn not_both_free(image: &Image, n: NodeId, m: NodeId) -> Option<Refusal>
     ensures { result ≡ first_of (no_node image.now n ∷ no_node image.now m ∷ in_sequence image.now n ∷ in_sequence image.now m ∷ []) }
 {
-    if let Some(refusal) = no_node(image, n) {
-        return Some(refusal);
-    }
-    if let Some(refusal) = no_node(image, m) {
-        return Some(refusal);
-    }
-    if let Some(refusal) = in_sequence(image, n) {
-        return Some(refusal);
-    }
-    in_sequence(image, m)
+    no_node(image, n)
+        .or_else(|| no_node(image, m))
+        .or_else(|| in_sequence(image, n))
+        .or_else(|| in_sequence(image, m))
 }
 
 /// One of some tokens is taken, or there would be too many: what comes first.
@@ -271,73 +257,51 @@ fn not_available(alloc: Global, image: &Image, tokens: &[Token]) -> Result<Optio
 fn not_free(image: &Image, tokens: &[Token]) -> Option<Refusal>
     ensures { result ≡ first_of (not_idle image.now.sequences ∷ token_taken image.now tokens.now ∷ []) }
 {
-    if let Some(refusal) = not_idle(image.sequences.as_slice()) {
-        return Some(refusal);
-    }
-    token_taken(image, tokens)
+    not_idle(image.sequences.as_slice()).or_else(|| token_taken(image, tokens))
 }
 
 /// The first refusal of a node that is to be registered under a name.
 fn register(image: &Image, name: &Name) -> Option<Refusal>
     ensures { result ≡ first_of (name_taken image.now name.now ∷ nodes_full image.now ∷ []) }
 {
-    if let Some(refusal) = name_taken(image, name) {
-        return Some(refusal);
-    }
-    nodes_full(image)
+    name_taken(image, name).or_else(|| nodes_full(image))
 }
 
 /// The first refusal of a node that is to be removed.
 fn unregister(image: &Image, n: NodeId) -> Option<Refusal>
-    ensures { result ≡ first_of (no_node image.now n ∷ in_sequence image.now n ∷ wrong_state is_idle_or_left image.now n ∷ []) }
+    ensures { result ≡ first_of (no_node image.now n ∷ in_sequence image.now n ∷ wrong_state may_be_removed image.now n ∷ []) }
 {
-    if let Some(refusal) = no_node(image, n) {
-        return Some(refusal);
-    }
-    if let Some(refusal) = in_sequence(image, n) {
-        return Some(refusal);
-    }
-    wrong_state(image, n, is_idle_or_left)
+    no_node(image, n)
+        .or_else(|| in_sequence(image, n))
+        .or_else(|| wrong_state(image, n, may_be_removed))
 }
 
 /// The first refusal of a keyspace that is to be made or changed.
 fn keyspace(image: &Image, name: &Name) -> Option<Refusal>
     ensures { result ≡ first_of (keyspaces_full image.now name.now ∷ not_idle image.now.sequences ∷ []) }
 {
-    if let Some(refusal) = keyspaces_full(image, name) {
-        return Some(refusal);
-    }
-    not_idle(image.sequences.as_slice())
+    keyspaces_full(image, name).or_else(|| not_idle(image.sequences.as_slice()))
 }
 
 /// The first refusal of a keyspace that is to be removed.
 fn drop_keyspace(image: &Image, name: &Name) -> Option<Refusal>
     ensures { result ≡ first_of (no_keyspace image.now name.now ∷ not_idle image.now.sequences ∷ []) }
 {
-    if let Some(refusal) = no_keyspace(image, name) {
-        return Some(refusal);
-    }
-    not_idle(image.sequences.as_slice())
+    no_keyspace(image, name).or_else(|| not_idle(image.sequences.as_slice()))
 }
 
 /// The first refusal of a movement that is to be cancelled.
 fn cancel(image: &Image, n: NodeId) -> Option<Refusal>
     ensures { result ≡ first_of (no_node image.now n ∷ no_sequence image.now n ∷ []) }
 {
-    if let Some(refusal) = no_node(image, n) {
-        return Some(refusal);
-    }
-    no_sequence(image, n)
+    no_node(image, n).or_else(|| no_sequence(image, n))
 }
 
 /// The first refusal of a step that a movement is to take.
 fn step(image: &Image, goal: Goal, kind: Kind, n: NodeId) -> Option<Refusal>
     ensures { result ≡ first_of (no_node image.now n ∷ no_sequence image.now n ∷ wrong_step goal kind image.now n ∷ []) }
 {
-    if let Some(refusal) = cancel(image, n) {
-        return Some(refusal);
-    }
-    wrong_step(goal, kind, image, n)
+    cancel(image, n).or_else(|| wrong_step(goal, kind, image, n))
 }
 
 /// The first refusal of tokens that a node is to get at once.
@@ -413,7 +377,7 @@ fn prepare_replace(image: &Image, node: NodeId, gone: NodeId) -> Result<Option<R
     if let Some(refusal) = not_both_free(image, node, gone) {
         return Ok(Some(refusal));
     }
-    if let Some(refusal) = wrong_state(image, node, is_idle) {
+    if let Some(refusal) = wrong_state(image, node, may_join) {
         return Ok(Some(refusal));
     }
     if let Some(refusal) = no_tokens(image, gone) {

@@ -2,7 +2,7 @@ ghost use Rattle.std.specs.Prelude.{◌≡◌, ◌==◌};
 ghost use Rattle.std.specs.List.{list_any};
 ghost use Rattle.std.specs.Option.{option_copied};
 ghost use Rattle.cluster_terms.specs.NodeRow.{row_of};
-ghost use Rattle.transformations.specs.Rings.{is_started};
+ghost use Rattle.transformations.specs.Rings.{has_started};
 ghost use Rattle.transformations.specs.States.{node_state, started_of, state_in, state_of_row};
 
 use crate::image::Image;
@@ -41,8 +41,8 @@ fn state_in(kind: Kind) -> NodeState
 }
 
 /// Whether a movement at a phase has started.
-fn is_started(phase: Phase) -> bool
-    ensures { result ≡ is_started phase }
+fn has_started(phase: Phase) -> bool
+    ensures { result ≡ has_started phase }
 {
     match phase {
         Phase::Prepared => false,
@@ -58,7 +58,7 @@ fn started_of(image: &Image, n: NodeId) -> Option<&SeqRow>
         .sequences
         .as_slice()
         .iter()
-        .find(|row| row.node == n && is_started(row.phase))
+        .find(|row| row.node == n && has_started(row.phase))
 }
 
 /// Whether one of some pairs is the node's.

@@ -8,6 +8,7 @@ use cluster_terms::{
     Factors, Name, NodeId, NodeRow, Pair, PairList, Replication, Rf, SmallList, Token, TokenList,
 };
 use std::alloc::Global;
+use std::process::Abort;
 use std::test::Fail;
 
 /// What is asked for, before it is a command.
@@ -42,15 +43,41 @@ fn tokens_of(alloc: Global, tokens: &[i64]) -> Result<TokenList, Fail> {
     Ok(list)
 }
 
+/// A command that takes no memory.
+fn plain_command_of(asked: &Asked) -> Option<Command> {
+    match asked {
+        Asked::Unregister(node) => Some(Command::Unregister {
+            node: NodeId(*node),
+        }),
+        Asked::Move(node, token) => Some(Command::PrepareMove {
+            node: NodeId(*node),
+            token: Token::new(*token),
+        }),
+        Asked::Leave(node) => Some(Command::PrepareLeave {
+            node: NodeId(*node),
+        }),
+        Asked::Replace(node, gone) => Some(Command::PrepareReplace {
+            node: NodeId(*node),
+            gone: NodeId(*gone),
+        }),
+        Asked::Cancel(node) => Some(Command::Cancel {
+            node: NodeId(*node),
+        }),
+        Asked::Step(goal, kind, node) => Some(Command::Step {
+            goal: *goal,
+            kind: *kind,
+            node: NodeId(*node),
+        }),
+        _ => None,
+    }
+}
+
 fn command_of(alloc: Global, asked: &Asked) -> Result<Command, Fail> {
     match asked {
         Asked::Register(name) => Ok(Command::Register {
             name: name_of(alloc, name)?,
             dc: name_of(alloc, "dc1")?,
             rack: name_of(alloc, "r1")?,
-        }),
-        Asked::Unregister(node) => Ok(Command::Unregister {
-            node: NodeId(*node),
         }),
         Asked::Tokens(node, tokens) => Ok(Command::UnsafeJoin {
             node: NodeId(*node),
@@ -60,25 +87,6 @@ fn command_of(alloc: Global, asked: &Asked) -> Result<Command, Fail> {
             node: NodeId(*node),
             tokens: tokens_of(alloc, tokens)?,
         }),
-        Asked::Move(node, token) => Ok(Command::PrepareMove {
-            node: NodeId(*node),
-            token: Token::new(*token),
-        }),
-        Asked::Leave(node) => Ok(Command::PrepareLeave {
-            node: NodeId(*node),
-        }),
-        Asked::Replace(node, gone) => Ok(Command::PrepareReplace {
-            node: NodeId(*node),
-            gone: NodeId(*gone),
-        }),
-        Asked::Cancel(node) => Ok(Command::Cancel {
-            node: NodeId(*node),
-        }),
-        Asked::Step(goal, kind, node) => Ok(Command::Step {
-            goal: *goal,
-            kind: *kind,
-            node: NodeId(*node),
-        }),
         Asked::Keyspace(name) => Ok(Command::Keyspace {
             name: name_of(alloc, name)?,
             replication: three()?,
@@ -86,6 +94,7 @@ fn command_of(alloc: Global, asked: &Asked) -> Result<Command, Fail> {
         Asked::Drop(name) => Ok(Command::DropKeyspace {
             name: name_of(alloc, name)?,
         }),
+        _ => Ok(plain_command_of(asked).ok_or("no command")?),
     }
 }
 
@@ -190,6 +199,18 @@ fn same(alloc: Global, found: &Option<Refusal>, wanted: &Option<Refusal>) -> Res
     Ok(found.as_str() == wanted.as_str())
 }
 
+/// A command, and its first refusal, if it has one.
+type Row<'a> = (Asked<'a>, Option<Refusal>);
+
+/// Each command of a table is refused as its row says.
+fn are_refused<A: Abort>(rt: &A, alloc: Global, image: &Image, rows: &[Row]) -> Result<(), Fail> {
+    for (at, (asked, wanted)) in rows.iter().enumerate() {
+        let found = refusal(alloc, image, asked)?;
+        assert!(rt; same(alloc, &found, wanted)?, "row {at}: {found:?}");
+    }
+    Ok(())
+}
+
 fn wrong(state: NodeState) -> Option<Refusal> {
     Some(Refusal::WrongState(state))
 }
@@ -234,9 +255,9 @@ fn small_image(alloc: Global) -> Result<Image, Fail> {
 }
 
 #[test]
-fn refusals_of_a_small_image(rt: HostRuntime) -> Result<(), Fail> {
+fn refusals_of_nodes(rt: HostRuntime) -> Result<(), Fail> {
     let image = small_image(rt.alloc())?;
-    for (at, (asked, wanted)) in [
+    let rows = [
         (Asked::Register("d"), Some(Refusal::NameTaken(NodeId(4)))),
         (Asked::Register("g"), None),
         (Asked::Unregister(7), Some(Refusal::NoNode)),
@@ -250,43 +271,55 @@ fn refusals_of_a_small_image(rt: HostRuntime) -> Result<(), Fail> {
         (Asked::Tokens(1, &[0]), wrong(NodeState::Joined)),
         (Asked::Tokens(4, &[5]), wrong(NodeState::Left)),
         (Asked::Tokens(3, &[100]), not_idle(2)),
+    ];
+    are_refused(&rt, rt.alloc(), &image, &rows)?;
+    assert_eq!(rt; node_state(&image, NodeId(6)), Some(NodeState::Registered));
+    assert_eq!(rt; node_state(&image, NodeId(7)), None);
+    Ok(())
+}
+
+#[test]
+fn refusals_of_joins_and_keyspaces(rt: HostRuntime) -> Result<(), Fail> {
+    let image = small_image(rt.alloc())?;
+    let rows = [
         (Asked::Join(7, &[0]), Some(Refusal::NoNode)),
         (Asked::Join(6, &[0]), in_sequence(6)),
         (Asked::Join(1, &[0]), wrong(NodeState::Joined)),
         (Asked::Join(3, &[-5, 100, 150]), taken(100)),
         (Asked::Join(3, &[149, 250]), taken(250)),
         (Asked::Join(3, &[-5, 5]), None),
-        (
-            Asked::Step(Goal::Start, Kind::Join, 7),
-            Some(Refusal::NoNode),
-        ),
-        (
-            Asked::Step(Goal::Start, Kind::Join, 1),
-            Some(Refusal::NoSequence),
-        ),
-        (
-            Asked::Step(Goal::Mid, Kind::Join, 6),
-            wrong_step(Kind::Join, Phase::Prepared),
-        ),
-        (
-            Asked::Step(Goal::Finish, Kind::Join, 2),
-            wrong_step(Kind::Move, Phase::Mid),
-        ),
-        (Asked::Step(Goal::Start, Kind::Join, 6), None),
-        (Asked::Step(Goal::Mid, Kind::Join, 5), None),
-        (Asked::Step(Goal::Finish, Kind::Move, 2), None),
         (Asked::Keyspace("ks"), not_idle(2)),
         (Asked::Drop("ks"), not_idle(2)),
         (Asked::Drop("k"), Some(Refusal::NoKeyspace)),
-    ]
-    .iter()
-    .enumerate()
-    {
-        let found = refusal(rt.alloc(), &image, asked)?;
-        assert!(rt; same(rt.alloc(), &found, wanted)?, "row {at}: {found:?}");
+    ];
+    are_refused(&rt, rt.alloc(), &image, &rows)
+}
+
+#[test]
+fn refusals_of_steps(rt: HostRuntime) -> Result<(), Fail> {
+    let image = small_image(rt.alloc())?;
+    for (goal, kind, node, wanted) in [
+        (Goal::Start, Kind::Join, 7, Some(Refusal::NoNode)),
+        (Goal::Start, Kind::Join, 1, Some(Refusal::NoSequence)),
+        (
+            Goal::Mid,
+            Kind::Join,
+            6,
+            wrong_step(Kind::Join, Phase::Prepared),
+        ),
+        (
+            Goal::Finish,
+            Kind::Join,
+            2,
+            wrong_step(Kind::Move, Phase::Mid),
+        ),
+        (Goal::Start, Kind::Join, 6, None),
+        (Goal::Mid, Kind::Join, 5, None),
+        (Goal::Finish, Kind::Move, 2, None),
+    ] {
+        let rows = [(Asked::Step(goal, kind, node), wanted)];
+        are_refused(&rt, rt.alloc(), &image, &rows)?;
     }
-    assert_eq!(rt; node_state(&image, NodeId(6)), Some(NodeState::Registered));
-    assert_eq!(rt; node_state(&image, NodeId(7)), None);
     Ok(())
 }
 
@@ -343,8 +376,7 @@ fn image_of_movements(alloc: Global) -> Result<Image, Fail> {
 #[test]
 fn refusals_of_moves_and_leaves(rt: HostRuntime) -> Result<(), Fail> {
     let image = image_of_movements(rt.alloc())?;
-    let short = Some(Refusal::TooFewNodes(name_of(rt.alloc(), "kt")?));
-    for (at, (asked, wanted)) in [
+    let rows = [
         (Asked::Move(12, 0), Some(Refusal::NoNode)),
         (Asked::Move(7, 0), in_sequence(7)),
         (Asked::Move(8, 0), in_sequence(8)),
@@ -364,22 +396,16 @@ fn refusals_of_moves_and_leaves(rt: HostRuntime) -> Result<(), Fail> {
         (Asked::Cancel(1), Some(Refusal::NoSequence)),
         (Asked::Cancel(7), None),
         (Asked::Cancel(8), None),
-    ]
-    .iter()
-    .enumerate()
-    {
-        let found = refusal(rt.alloc(), &image, asked)?;
-        assert!(rt; same(rt.alloc(), &found, wanted)?, "row {at}: {found:?}");
-    }
-    let found = refusal(rt.alloc(), &image, &Asked::Leave(1))?;
-    assert!(rt; same(rt.alloc(), &found, &short)?, "{found:?}");
-    Ok(())
+    ];
+    are_refused(&rt, rt.alloc(), &image, &rows)?;
+    let short = Some(Refusal::TooFewNodes(name_of(rt.alloc(), "kt")?));
+    are_refused(&rt, rt.alloc(), &image, &[(Asked::Leave(1), short)])
 }
 
 #[test]
 fn refusals_of_replaces(rt: HostRuntime) -> Result<(), Fail> {
     let image = image_of_movements(rt.alloc())?;
-    for (at, (asked, wanted)) in [
+    let rows = [
         (Asked::Replace(12, 8), Some(Refusal::NoNode)),
         (Asked::Replace(7, 12), Some(Refusal::NoNode)),
         (Asked::Replace(7, 8), in_sequence(7)),
@@ -389,17 +415,11 @@ fn refusals_of_replaces(rt: HostRuntime) -> Result<(), Fail> {
         (Asked::Replace(6, 4), wrong(NodeState::Left)),
         (Asked::Replace(5, 4), Some(Refusal::NoTokens)),
         (Asked::Replace(4, 2), None),
-    ]
-    .iter()
-    .enumerate()
-    {
-        let found = refusal(rt.alloc(), &image, asked)?;
-        assert!(rt; same(rt.alloc(), &found, wanted)?, "row {at}: {found:?}");
-    }
+    ];
+    are_refused(&rt, rt.alloc(), &image, &rows)?;
     for (asked, dc) in [(Asked::Replace(5, 2), "dc1"), (Asked::Replace(4, 9), "dc2")] {
         let wanted = Refusal::OtherRack(name_of(rt.alloc(), dc)?, name_of(rt.alloc(), "r1")?);
-        let found = refusal(rt.alloc(), &image, &asked)?;
-        assert!(rt; same(rt.alloc(), &found, &Some(wanted))?, "{found:?}");
+        are_refused(&rt, rt.alloc(), &image, &[(asked, Some(wanted))])?;
     }
     Ok(())
 }
@@ -425,20 +445,13 @@ fn large_image(alloc: Global, nodes: u32, keyspaces: u32, tokens: i64) -> Result
 fn what_there_is_at_most(rt: HostRuntime) -> Result<(), Fail> {
     let full = large_image(rt.alloc(), 1_024, 64, 16_384)?;
     let one_fewer = large_image(rt.alloc(), 1_023, 63, 16_383)?;
-    for (at, (asked, wanted)) in [
-        (Asked::Register("x"), Some(Refusal::NodesFull)),
-        (Asked::Keyspace("x"), Some(Refusal::KeyspacesFull)),
-        (Asked::Tokens(2, &[-1]), Some(Refusal::TokensFull)),
-    ]
-    .iter()
-    .enumerate()
-    {
-        let found = refusal(rt.alloc(), &full, asked)?;
-        assert!(rt; same(rt.alloc(), &found, wanted)?, "row {at}: {found:?}");
-        assert!(rt;
-            refusal(rt.alloc(), &one_fewer, asked)?.is_none(),
-            "row {at}"
-        );
+    for (asked, wanted) in [
+        (Asked::Register("x"), Refusal::NodesFull),
+        (Asked::Keyspace("x"), Refusal::KeyspacesFull),
+        (Asked::Tokens(2, &[-1]), Refusal::TokensFull),
+    ] {
+        are_refused(&rt, rt.alloc(), &one_fewer, &[(asked, None)])?;
+        are_refused(&rt, rt.alloc(), &full, &[(asked, Some(wanted))])?;
     }
     Ok(())
 }
@@ -448,8 +461,7 @@ fn a_move_brings_a_token(rt: HostRuntime) -> Result<(), Fail> {
     for (tokens, wanted) in [(16_382, None), (16_383, Some(Refusal::TokensFull))] {
         let mut image = large_image(rt.alloc(), 2, 0, tokens)?;
         add_pair(&mut image.tokens, 20_000, 2)?;
-        let found = refusal(rt.alloc(), &image, &Asked::Move(2, -1))?;
-        assert!(rt; same(rt.alloc(), &found, &wanted)?, "{found:?}");
+        are_refused(&rt, rt.alloc(), &image, &[(Asked::Move(2, -1), wanted)])?;
     }
     Ok(())
 }
@@ -462,8 +474,7 @@ fn a_token_of_two_nodes_counts_once(rt: HostRuntime) -> Result<(), Fail> {
         ([-1].as_slice(), None),
         ([-2, -1].as_slice(), Some(Refusal::TokensFull)),
     ] {
-        let found = refusal(rt.alloc(), &image, &Asked::Join(2, tokens))?;
-        assert!(rt; same(rt.alloc(), &found, &wanted)?, "{found:?}");
+        are_refused(&rt, rt.alloc(), &image, &[(Asked::Join(2, tokens), wanted)])?;
     }
     Ok(())
 }

@@ -9,7 +9,7 @@ ghost use Rattle.cluster_terms.specs.Replication.{total_of};
 ghost use Rattle.cluster_terms.specs.Row.{last_token};
 ghost use Rattle.cluster_terms.specs.declared.token.RightEnd.{RightEnd};
 ghost use Rattle.transformations.specs.History.{IsHistory, empty_image, image_after, is_command, most_epochs, next_image};
-ghost use Rattle.transformations.specs.Meeting.{HaveReplications, QuorumsExistTogether, QuorumsMeet, ReadsAreWritten, is_movement};
+ghost use Rattle.transformations.specs.Meeting.{HaveReplications, QuorumsExistTogether, QuorumsMeet, ReadsAreWritten, makes_movement_epoch};
 ghost use Rattle.transformations.specs.Ranges.{AreApart, AreOutcomes, KeepsRanges, PlacedByRanges, first_shared, in_both};
 ghost use Rattle.transformations.specs.Refusals.{locked, refusal_of};
 ghost use Rattle.transformations.specs.Rings.{reads_at};
@@ -51,7 +51,7 @@ pub fn adjacent_epochs_meet()
     ensures few { (image : Image) → IsValid image → (x : ℤ) → IsToken x → AllByRecursion (λ k. length (reads_at image k.replication x) ≤ total_of k.replication) image.keyspaces }
     ensures needs { (image : Image) → IsValid image → QuorumsExistTogether image }
     ensures itself { (image : Image) → IsValid image → HaveReplications image → QuorumsMeet image image }
-    ensures adjacent { (image : Image) (c : Command) → IsValid image → HaveReplications image → IsTrue (is_command c) → refusal_of image c ≡ None → is_movement c ≡ true → image.epoch < most_epochs → QuorumsMeet image (next_image image c) }
+    ensures adjacent { (image : Image) (c : Command) → IsValid image → HaveReplications image → IsTrue (is_command c) → refusal_of image c ≡ None → makes_movement_epoch c ≡ true → image.epoch < most_epochs → QuorumsMeet image (next_image image c) }
     ensures common { (one other : Sets) (written read : List ℕ) → Meet one other → AreSome (write_need one) one.writes written → AreSome (read_need other) other.reads read → IsTrue (list_any (is_member nat_eq written) read) }
 {}
 

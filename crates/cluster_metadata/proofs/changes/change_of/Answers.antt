@@ -1,7 +1,7 @@
 use Rattle.std.proofs.Common.{◌≡◌, MatchResult, None, Option, Some, subst}
 use Rattle.transformations.specs.Refusals.{prepared_by}
 use Rattle.transformations.specs.declared.refusal.Refusal.{Refusal}
-use Rattle.cluster_metadata.proofs.PrepareLemmas.{prepared_new, prepared_phase, prepares}
+use Rattle.cluster_metadata.proofs.PrepareLemmas.{prepared_new, prepares}
 use Rattle.cluster_metadata.proofs.RefusalLemmas.{none_later, prepared_locked}
 use Rattle.cluster_metadata.specs.Permission.{ShowsRefusal}
 use Rattle.cluster_metadata.proofs.changes.change_of.Goals as goal

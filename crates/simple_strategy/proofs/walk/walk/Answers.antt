@@ -5,7 +5,7 @@ use Rattle.cluster_terms.specs.Group.{nodes_of, place}
 use Rattle.cluster_terms.specs.Replication.{whole_group}
 use Rattle.simple_strategy.specs.Walk.{taken_after}
 use Rattle.cluster_terms.proofs.PlacementLemmas.{placed_nowhere}
-use Rattle.simple_strategy.proofs.PlaceLemmas.{placed_by_walk}
+use Rattle.simple_strategy.proofs.PlaceLemmas.{placed_in_parts}
 use Rattle.simple_strategy.proofs.walk.walk.Goals as goal
 
 pub returns-in_default : goal.returns-in_default
@@ -26,4 +26,4 @@ returns c =
     c.in_ok-take_nodes.ensures ∙ (λ j. taken_after (wanted j) (c.in_ok-taken.ensures.items j) (nodes_of (rest j))) in
     let all : c.take_nodes-2.new.taken.items ≡ taken_after c.args.rf (taken_after c.args.rf [] (nodes_of (drop i ring))) (nodes_of (take i ring)) =
     c.in_ok-take_nodes-2.ensures ∙ (λ j. taken_after (wanted j) (first j) (nodes_of (front j))) in
-    placed_by_walk ring c.args.t i c.pairs.ensures.ascends c.in-Some.ensures.first c.args.rf low ∙ ap (ascending nat_cmp) (sym all)
+    placed_in_parts ring c.args.t i c.pairs.ensures.ascends c.in-Some.ensures.first c.args.rf low ∙ ap (ascending nat_cmp) (sym all)

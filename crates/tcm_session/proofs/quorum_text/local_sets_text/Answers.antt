@@ -6,8 +6,8 @@ use Rattle.tcm_session.proofs.LocalLemmas.{local_shown}
 use Rattle.tcm_session.proofs.quorum_text.local_sets_text.Goals as goal
 
 -- the needs are those of the rows of the directory, which are the image's nodes
-pub returns : goal.returns
-returns c =
+pub returns-clause-added : goal.returns-clause-added
+returns-clause-added c =
     let rows : c.directory-dir.result.now.rows ≡ c.args.metadata.now.nodes = ap (λ (d : Registry). d.rows) c.directory-dir.ensures in
     let sets : List NodeRow → List ℕ × ℕ → Sets = λ nodes f. local_sets nodes f c.args.sets.now.0 c.args.sets.now.1 in
     let named = datacenter_of c.args.factors.now c.args.dc.now in

@@ -1,7 +1,8 @@
-use Rattle.std.proofs.Common.{ℕ, ◌&&◌, List, ap, ◌∙◌, filter, length, nat_le}
+use Rattle.std.proofs.Common.{ℕ, List, ap, ◌∙◌}
 use Rattle.std.specs.List.{list_any}
+use Rattle.cluster_terms.specs.Replication.{datacenter_group}
 use Rattle.transformations.proofs.CountedLemmas.{few_topology}
-use Rattle.transformations.specs.Counted.{is_in}
+use Rattle.transformations.specs.Counted.{is_short_of}
 use Rattle.transformations.proofs.prepares.is_few.Goals as goal
 
 pub returns-in-Topology : goal.returns-in-Topology
@@ -10,5 +11,5 @@ returns-in-Topology c =
     let ids = c.args.ids.now in
     let n = c.args.n in
     c.is_short_in_any.ensures
-    ∙ ap (list_any (λ (f : List ℕ × ℕ). is_in nodes f.0 n && nat_le (length (filter (is_in nodes f.0) ids)) f.1)) c.rows.ensures.rows
+    ∙ ap (list_any (λ (f : List ℕ × ℕ). is_short_of ids n (datacenter_group nodes f))) c.rows.ensures.rows
     ∙ few_topology nodes ids n c.args.row.now c.in-Topology.factors c.in-Topology.is

@@ -1,0 +1,42 @@
+//! What queries ask of the metadata of an epoch.
+
+ghost use Rattle.std.specs.Prelude.{◌≡◌, ◌++◌, length, take, OnOk};
+ghost use Rattle.tcm_session.specs.Machine.{answer_from as answer_of};
+
+use crate::place_text::place_text;
+use crate::quorum_text::{local_text, quorum_text};
+use cluster_metadata::Metadata;
+use cluster_terms::{ByteText, Memory, Name, Token};
+use script_lang::nodes_text;
+use std::alloc::Global;
+
+/// What a query asks of the metadata of an epoch.
+#[derive(Debug, Drop)]
+pub enum Query {
+    /// The placements of a keyspace.
+    Place(Name),
+    /// The nodes, and the movements in flight.
+    Nodes,
+    /// What QUORUM reads and writes of a keyspace at a token.
+    Quorum(Name, Token),
+    /// What LOCAL_QUORUM reads and writes of a keyspace in a datacenter, at a token.
+    Local(Name, Name, Token),
+}
+
+/// Adds the answer to a query. After want of memory the output begins with what it held.
+pub fn answer_from(
+    alloc: Global,
+    metadata: &Metadata,
+    query: &Query,
+    out: &mut ByteText,
+) -> Result<(), Memory>
+    ensures added { OnOk result (out.new ≡ out.old ++ answer_of query.now metadata.now) }
+    ensures kept { take (length out.old) out.new ≡ out.old }
+{
+    match query {
+        Query::Place(keyspace) => place_text(alloc, metadata, keyspace, out),
+        Query::Nodes => nodes_text(alloc, metadata.as_image(), out),
+        Query::Quorum(keyspace, t) => quorum_text(alloc, metadata, keyspace, *t, out),
+        Query::Local(keyspace, dc, t) => local_text(alloc, metadata, keyspace, dc, *t, out),
+    }
+}

@@ -1,0 +1,23 @@
+//! What it means that nodes are the placement.
+
+ghost use Rattle.std.specs.Prelude.{◌≡◌, ℕ, ℤ, List, [], ◌++◌, take, drop};
+ghost use Rattle.std.specs.Ordering.{nat_cmp};
+ghost use Rattle.cluster_terms.specs.Ascending.{ascending};
+ghost use Rattle.cluster_terms.specs.Group.{nodes_of, place};
+ghost use Rattle.cluster_terms.specs.Replication.{groups_of};
+ghost use Rattle.cluster_terms.specs.declared.node.NodeRow.{NodeRow};
+ghost use Rattle.cluster_terms.specs.declared.token.Pair.{Pair};
+ghost use Rattle.token_ring.specs.Ring.{IsFirstAt, IsRing};
+ghost use Rattle.topology_strategy.specs.Shape.{shapes_of};
+ghost use Rattle.topology_strategy.specs.Walk.{taken_in_all};
+
+use cluster_terms::Replication;
+
+/// The placement of the groups of some datacenters, which is defined by counting, is what NetworkTopologyStrategy's
+/// walks take: one in each datacenter, from the first token at or after `x` round the ring, with the shape that the
+/// datacenter has in the ring.
+pub fn placement_is_walked()
+    ensures walk { (nodes : List NodeRow) (factors : List (List ℕ × ℕ)) (ring : List Pair) (x : ℤ) (i : ℕ) → IsRing ring → IsFirstAt ring x i
+        → place (groups_of nodes (Replication.Topology factors)) x ring ≡ ascending nat_cmp (taken_in_all (nodes_of (drop i ring ++ take i ring)) nodes factors (shapes_of nodes factors (nodes_of ring))) }
+    ensures nowhere { (nodes : List NodeRow) (factors : List (List ℕ × ℕ)) (x : ℤ) → place (groups_of nodes (Replication.Topology factors)) x [] ≡ [] }
+{}
