@@ -1,11 +1,11 @@
 pub mod CancelLemmas
-pub mod DirectoryLemmas
-pub mod EndLemmas
+pub mod FirstEnds
+pub mod ImageDirectory
+pub mod ImageRings
 pub mod LockLemmas
-pub mod OutcomeLemmas
-pub mod PlaceLemmas
+pub mod LockRefusals
+pub mod MovementPlaces
+pub mod PermitOutcomes
 pub mod PrepareLemmas
-pub mod RefusalLemmas
-pub mod RingLemmas
 pub mod RunningLemmas
 pub mod StepLemmas

@@ -16,7 +16,7 @@ use Rattle.cluster_terms.specs.declared.token.Pair.{Pair}
 use Rattle.token_ring.specs.Ranges.{AreCutOut, HaveTokens, have_token}
 use Rattle.token_ring.specs.declared.book.LockRow.{LockRow}
 use Rattle.token_ring.specs.declared.book.RangeRow.{RangeRow}
-use Rattle.transformations.proofs.ListLemmas.{all_weaker}
+use Rattle.transformations.proofs.lists.ListLemmas.{all_weaker}
 use Rattle.transformations.specs.Ranges.{first_shared, in_both, in_ranges, is_shared}
 use Rattle.transformations.specs.Refusals.{first_of, locked, locked_by}
 use Rattle.transformations.specs.Rings.{cuts, widest}
@@ -114,10 +114,10 @@ module _ (image : Image) (up : AllByRecursion IsToken (cuts image)) where
       λ i. option_map (Locked (are.0.node i)) (common_shared s q ours lock.ranges one are.0.ranges i) ∷ locks_alike s ours movements locks one are.1 i
 
 -- the locks of a plan show the refusal of its movement
-pub plan_locked : (image : Image) (s : SeqRow) (plan : Plan) → IsPlan image s plan → AllByRecursion IsToken plan.cuts → first_lock plan.ranges plan.wide plan.cuts ≡ locked image s
+pub plan_locked : (image : Image) (s : SeqRow) (plan : Plan) → IsPlan image s plan → first_lock plan.ranges plan.wide plan.cuts ≡ locked image s
 unfolding locked
-plan_locked image s plan is up =
-    let tokens : AllByRecursion IsToken (cuts image) = subst (λ ts. AllByRecursion IsToken ts) is.cuts up in
+plan_locked image s plan is =
+    let tokens : AllByRecursion IsToken (cuts image) = subst (λ ts. AllByRecursion IsToken ts) is.cuts is.tokens in
     ap (λ ts. first_lock plan.ranges plan.wide ts) is.cuts ∙ ap first_of (locks_alike image tokens s plan.ranges (others image.sequences s.node) plan.wide is.ranges is.wide)
 
 -- the bounds of all ranges of a plan are its cuts

@@ -2,8 +2,9 @@
 use Rattle.std.proofs.Common.{◌≡◌, true, false, ◌==◌, Result, Ok, Err, IfOk, Some, None, ap, sym, ◌∙◌}
 use Rattle.std.proofs.lemmas.Option.{none-some}
 use Rattle.std.specs.List.{AllByRecursion}
-use Rattle.transformations.proofs.BeginLemmas.{begin_new, may_begin}
+use Rattle.transformations.proofs.movements.BeginLemmas.{begin_new, may_begin}
 use Rattle.transformations.specs.History.{begun, is_command, next_image}
+use Rattle.transformations.specs.Meeting.{HasReplication}
 use Rattle.transformations.specs.Refusals.{early_refusal_of, prepared_by}
 use Rattle.transformations.specs.Valid.{IsSound}
 use Rattle.transformations.specs.declared.command.Command.{Command}
@@ -37,3 +38,8 @@ prepared_begun image (Cancel n) row h = absurd (none-some row h)
 pub prepares : (image : Image) (c : Command) (row : SeqRow) → prepared_by image.tokens c ≡ Some row → {E : Type 0} (result : Result Change E) → IfOk result (Begins image row) → IfOk result (IsChange image c)
 prepares image c row h (Ok change) begin = (begin.0 ∙ prepared_begun image c row h, begin.1)
 prepares image c row h (Err e) begin = begin
+
+-- and it makes no keyspace
+pub prepared_replicated : (image : Image) (c : Command) (row : SeqRow) → prepared_by image.tokens c ≡ Some row → HasReplication c
+prepared_replicated image (Keyspace name replication) row h = absurd (none-some row h)
+prepared_replicated image _ row h = tt

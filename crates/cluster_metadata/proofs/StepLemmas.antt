@@ -7,7 +7,7 @@ use Rattle.std.specs.List.Sorted.{IsStrictlySortedBy}
 use Rattle.cluster_terms.specs.Ascending.{put}
 use Rattle.cluster_terms.specs.declared.node.NodeRow.{NodeRow}
 use Rattle.cluster_terms.specs.declared.token.Pair.{Pair}
-use Rattle.transformations.proofs.ListLemmas.{found_passes}
+use Rattle.transformations.proofs.lists.ListLemmas.{found_passes}
 use Rattle.transformations.specs.History.{next_image}
 use Rattle.transformations.specs.Orders.{by_node}
 use Rattle.transformations.specs.Refusals.{early_refusal_of, first_of, no_node, no_sequence, refused_if, unless_next, wrong_step}
@@ -22,7 +22,7 @@ use Rattle.transformations.specs.declared.sequence.Kind.{Kind}
 use Rattle.transformations.specs.declared.sequence.Phase.{Phase}
 use Rattle.transformations.specs.declared.sequence.Phase.TheVariants as phase
 use Rattle.transformations.specs.declared.sequence.SeqRow.{SeqRow}
-use Rattle.cluster_metadata.proofs.PlaceLemmas.{at_index, others_at, stepped_at}
+use Rattle.cluster_metadata.proofs.MovementPlaces.{at_index, others_at, stepped_at}
 use Rattle.cluster_metadata.specs.Change.{Begins, IsChange, in_phase}
 use Rattle.cluster_metadata.specs.declared.change.Change.TheVariants.{Begun, Started, Mid, Finished}
 

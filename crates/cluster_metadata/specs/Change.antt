@@ -1,4 +1,5 @@
--- What a command changes of an image.
+-- The changes that commands make in an image.
+-- Of the code, but for `directory_of`, which `Metadata::directory` promises: no promise rests on the others.
 use Rattle.std.specs.Prelude.{◌≡◌, ℕ, ◌+◌, ◌≤◌, false, List, length, slice_set, Option, Some, None, option_map}
 use Rattle.std.specs.List.{insert, remove, slice_get}
 use Rattle.cluster_terms.specs.Ascending.{put}
@@ -14,7 +15,7 @@ use Rattle.transformations.specs.declared.sequence.SeqRow.{SeqRow}
 use Rattle.cluster_metadata.specs.declared.change.Change.{Change}
 use Rattle.cluster_metadata.specs.declared.change.Change.TheVariants.{Nodes, Tokens, Keyspaces, Begun, Started, Mid, Finished, Ended, BroughtBack}
 
--- the image with a change, which is one epoch
+-- the image after a change; each change adds one epoch
 abbrev pub changed : Image → Change → Image
 changed image (Nodes nodes next) = record image { epoch = image.epoch + 1; next = next; nodes = nodes }
 changed image (Tokens tokens) = record image { epoch = image.epoch + 1; tokens = tokens }
@@ -31,17 +32,17 @@ changed image (BroughtBack at row) = record image { epoch = image.epoch + 1; seq
 abbrev pub in_phase : Phase → SeqRow → SeqRow
 in_phase p row = record row { phase = p }
 
--- a movement stands at a place, at a phase
+-- the movement at this index is at this phase
 abbrev pub StandsAt : List SeqRow → ℕ → Phase → Type 0
 StandsAt rows at p = option_map (λ s. s.phase) (slice_get rows at) ≡ Some p
 
--- and one that isn't half way stands there
+-- the movement at this index isn't half way
 abbrev pub StandsBeforeMid : List SeqRow → ℕ → Type 0
 StandsBeforeMid rows at = option_map (λ s. is_mid s.phase) (slice_get rows at) ≡ Some false
 
--- the movements in flight are those that a change goes on from: a new one is put among them at its place; the row itself
--- stands at its place, at the phase before, for a step, and at MID for the way back; and one that is half way is taken
--- out for the last step, and one that isn't where it is given up
+-- a change fits the movements in flight before it. The row of a new movement is inserted at its index. For a step, the
+-- same row is at this index, at the phase before; for the way back, it is there at MID. A movement that is finished is
+-- at MID and is removed. A movement that is given up isn't at MID and is removed
 abbrev pub Follows : List SeqRow → Change → Type 0
 Follows before (Begun at row after) = (row.phase ≡ phase.Prepared) × (at ≤ length before) × (after ≡ insert before at row)
 Follows before (Started at row) = (slice_get before at ≡ Some (in_phase phase.Prepared row)) × (row.phase ≡ phase.Started)
@@ -51,7 +52,7 @@ Follows before (Ended at after) = StandsBeforeMid before at × (after ≡ remove
 Follows before (BroughtBack at row) = (slice_get before at ≡ Some (in_phase phase.Mid row)) × (row.phase ≡ phase.Started)
 Follows before _ = Unit {0}
 
--- a change is a command's
+-- a change is the change of this command
 abbrev pub IsChange : Image → Command → Change → Type 0
 IsChange image command change = (changed image change ≡ next_image image command) × Follows image.sequences change
 
@@ -59,12 +60,12 @@ IsChange image command change = (changed image change ≡ next_image image comma
 abbrev pub Begins : Image → SeqRow → Change → Type 0
 Begins image row change = (changed image change ≡ record image { epoch = image.epoch + 1; sequences = put by_node row image.sequences }) × Follows image.sequences change
 
--- how many movements there are after a change that begins one
+-- how many movements there are after a change that begins one; 0 for other changes
 abbrev pub grown_to : Change → ℕ
 grown_to (Begun at row sequences) = length sequences
 grown_to _ = 0
 
--- the directory of the nodes of an image; and that of the nodes that a change leaves, where it changes them
+-- the directory of an image's nodes; and the directory after a change that comes with new nodes
 abbrev pub directory_of : Image → Registry
 directory_of image = record { rows = image.nodes; next = image.next }
 

@@ -1,4 +1,5 @@
 pub mod Change
+pub mod Held
 pub mod Locks
 pub mod Permission
 pub mod Running

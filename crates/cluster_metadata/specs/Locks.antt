@@ -1,4 +1,5 @@
 -- The first row that two movements share, from the ranges of both under each replication.
+-- Of the code: no promise rests on these.
 use Rattle.std.specs.Prelude.{Bool, ℤ, int_lt, if◌then◌else◌, List, map, find, Option, Some, None, option_map}
 use Rattle.std.specs.List.{list_any, zip}
 use Rattle.cluster_terms.specs.Row.{rows_between}
@@ -12,7 +13,7 @@ use Rattle.transformations.specs.Refusals.{first_of}
 use Rattle.transformations.specs.declared.refusal.Refusal.{Refusal}
 use Rattle.transformations.specs.declared.refusal.Refusal.TheVariants.{Locked}
 
--- the lesser of two right ends; and the lesser of those that there are
+-- the lesser of two right ends; and of two right ends each of which may be absent
 abbrev pub lesser_end : RightEnd → RightEnd → RightEnd
 lesser_end Max end = end
 lesser_end (At t) Max = At t
@@ -30,7 +31,7 @@ is_common_row ours theirs row = list_any (λ both. is_common both.0.ranges both.
 abbrev pub first_common_row : List RangeRow → List RangeRow → List ℤ → Option RightEnd
 first_common_row ours theirs cuts = option_map (λ row. row.right) (find (is_common_row ours theirs) (rows_between cuts))
 
--- the refusal of a movement whose ranges those of some others lock
+-- the refusal of a movement that has a row in common with another movement; and the first such refusal
 abbrev pub lock_of : List RangeRow → List ℤ → LockRow → Option Refusal
 lock_of ours cuts lock = option_map (Locked lock.node) (first_common_row ours lock.ranges cuts)
 

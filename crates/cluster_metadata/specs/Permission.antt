@@ -1,6 +1,7 @@
--- What permits are given for.
+-- Permits, and the commands that they allow.
 use Rattle.std.specs.Prelude.{◌≡◌, ◌<◌, true, Option, Some, None}
 use Rattle.transformations.specs.History.{is_command, most_epochs}
+use Rattle.transformations.specs.Meeting.{HasReplication}
 use Rattle.transformations.specs.Refusals.{refusal_of}
 use Rattle.transformations.specs.declared.command.Command.{Command}
 use Rattle.transformations.specs.declared.image.Image.{Image}
@@ -15,14 +16,15 @@ pub record Permission : Type 0 where
   pub image : Image
   pub command : Command
 
--- a command is accepted in an image, and makes this change of it
+-- a command is accepted in an image, and makes this change in it
 pub record IsPermitted (image : Image) (command : Command) (change : Change) : Type 0 where
   pub room : image.epoch < most_epochs
   pub formed : is_command command ≡ true
   pub accepted : refusal_of image command ≡ None
   pub makes : IsChange image command change
+  pub replicated : HasReplication command
 
--- a fault that shows the first refusal, if there is one; or want of memory
+-- a fault that shows the first refusal, if there is one; or memory ran out
 abbrev pub ShowsRefusal : Option Refusal → AdmitFault → Type 0
 ShowsRefusal first (Refused refusal) = first ≡ Some refusal
 ShowsRefusal first Memory = Unit {0}

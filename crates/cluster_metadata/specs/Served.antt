@@ -6,7 +6,7 @@ use Rattle.transformations.specs.Rings.{reads_at, writes_at}
 use Rattle.transformations.specs.declared.image.Image.{Image}
 use Rattle.transformations.specs.declared.keyspace.KeyspaceRow.{KeyspaceRow}
 
--- a keyspace; none where none has the name
+-- the keyspace with this name, if there is one
 abbrev pub keyspace_of : Image → List ℕ → Option KeyspaceRow
 keyspace_of image name = find (λ row. bytes_eq row.name name) image.keyspaces
 
@@ -14,6 +14,6 @@ keyspace_of image name = find (λ row. bytes_eq row.name name) image.keyspaces
 abbrev pub served_by : Image → ℤ → Replication → List ℕ × List ℕ
 served_by image t replication = (reads_at image replication t, writes_at image replication t)
 
--- the same of a keyspace
+-- the same for the keyspace with this name, if there is one
 abbrev pub served : Image → List ℕ → ℤ → Option (List ℕ × List ℕ)
 served image name t = option_map (λ row. served_by image t row.replication) (keyspace_of image name)

@@ -6,9 +6,9 @@ use transformations::Refusal;
 /// Why a command was not admitted.
 #[derive(Debug, Drop)]
 pub enum AdmitFault {
-    /// The image refuses it.
+    /// The image refuses the command.
     Refused(Refusal),
-    /// Memory was wanting.
+    /// Memory ran out.
     Memory,
 }
 

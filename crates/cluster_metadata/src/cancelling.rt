@@ -9,7 +9,7 @@ ghost use Rattle.transformations.specs.declared.command.Command.TheVariants as c
 ghost use Rattle.cluster_metadata.specs.Change.{IsChange};
 
 use crate::change::Change;
-use crate::stepping::{at_phase, others, place_of};
+use crate::stepping::{at_phase, others, position_of};
 use cluster_terms::{Memory, NodeId};
 use transformations::{Image, Phase};
 
@@ -20,14 +20,15 @@ fn is_mid(phase: Phase) -> bool
     matches!(phase, Phase::Mid)
 }
 
-/// The movement of a node is cancelled: half way it goes back to where it had started, and else it ends.
+/// The change that cancels the movement of a node: from `Mid` it goes back to `Started`, from another phase it ends.
+/// `Err` means that memory ran out.
 pub fn cancel(image: &Image, node: NodeId) -> Result<Change, Memory>
     requires movements { IsStrictlySortedBy by_node image.now.sequences }
     requires accepted { early_refusal_of image.now (command.Cancel node) ≡ None }
     ensures { IfOk result (IsChange image.now (command.Cancel node)) }
 {
     let sequences = image.sequences.as_slice();
-    let at = place_of(sequences, node);
+    let at = position_of(sequences, node);
     let row = &sequences[at];
     if is_mid(row.phase) {
         let row = at_phase(row, Phase::Started)?;

@@ -1,48 +1,48 @@
 use cluster_terms::{NodeRows, PairList};
 use transformations::{KeyspaceRows, SeqRow, SeqRows};
 
-/// What a command changes of an image beside the epoch: the next version of a list, with the change made, or of one
-/// movement. Where a movement is named, `at` is its place among the movements.
+/// The change that a command makes in an image, beside the epoch. It has the new version of each list that changes, or
+/// of the row of one movement. `at` is the index of this movement among the movements.
 #[derive(Drop)]
 pub enum Change {
-    /// The nodes, and the id that the next one gets.
+    /// The new nodes, and the id of the next node that is registered.
     Nodes {
         nodes: NodeRows,
         next: u32,
     },
-    /// The ring.
+    /// The pairs of the new ring.
     Tokens(PairList),
-    /// The keyspaces.
+    /// The new keyspaces.
     Keyspaces(KeyspaceRows),
-    /// The row of a movement that begins, and the movements with it.
+    /// A movement begins: its row, and the movements with this row inserted at `at`.
     Begun {
         at: usize,
         row: SeqRow,
         sequences: SeqRows,
     },
-    /// The row of a movement, started.
+    /// A movement starts: its row, at `Started`.
     Started {
         at: usize,
         row: SeqRow,
     },
-    /// The row of a movement, half way.
+    /// A movement comes half way: its row, at `Mid`.
     Mid {
         at: usize,
         row: SeqRow,
     },
-    /// The nodes, of which one may have left, and the ring once a movement is done, and the other movements.
+    /// A movement is finished: the nodes (one may have left by it), the ring after it, and the other movements.
     Finished {
         at: usize,
         nodes: NodeRows,
         tokens: PairList,
         sequences: SeqRows,
     },
-    /// The other movements, once one is given up that isn't half way.
+    /// A movement that isn't half way is given up: the other movements.
     Ended {
         at: usize,
         sequences: SeqRows,
     },
-    /// The row of a movement, started, which was half way.
+    /// A movement that was half way goes back: its row, at `Started`.
     BroughtBack {
         at: usize,
         row: SeqRow,

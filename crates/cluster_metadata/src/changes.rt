@@ -1,9 +1,11 @@
-//! The change that a command makes of an image which accepts it.
+//! The change that a command makes in an image that accepts it.
 
-ghost use Rattle.std.specs.Prelude.{◌≡◌, ◌<◌, ◌^◌, ◌-◌, ◌==◌, true, not, None, filter, IfOk, MatchResult};
+ghost use Rattle.std.specs.Prelude.{◌≡◌, ◌<◌, ◌^◌, ◌-◌, ◌==◌, true, not, None, filter, IfOk, MatchResult, OnOk};
 ghost use Rattle.std.specs.List.Sorted.{IsStrictlySortedBy};
 ghost use Rattle.std.specs.Str.{bytes_eq};
+ghost use Rattle.cluster_terms.specs.Replication.{IsReplication};
 ghost use Rattle.transformations.specs.History.{is_command};
+ghost use Rattle.transformations.specs.Meeting.{HasReplication};
 ghost use Rattle.transformations.specs.Orders.{by_node};
 ghost use Rattle.transformations.specs.Refusals.{early_refusal_of, prepared_by, refusal_of};
 ghost use Rattle.transformations.specs.Valid.{IsSound};
@@ -24,7 +26,7 @@ use std::alloc::Global;
 use std::sync::ledger::Ledger;
 use transformations::{Command, Image, KeyspaceRow, KeyspaceRows};
 
-/// A node is added under the next id.
+/// The change that adds a node under the next id.
 #[tactic(auto, unfolding(transformations::specs::History::next_image))]
 fn register(image: &Image, name: &Name, dc: &Name, rack: &Name) -> Result<Change, Memory>
     requires { image.now.next < 2 ^ 32 - 1 }
@@ -51,7 +53,7 @@ fn remove_node(rows: &mut NodeRows, node: NodeId)
     rows.retain(|row| row.id != node);
 }
 
-/// A node is removed.
+/// The change that removes a node.
 #[tactic(auto, unfolding(transformations::specs::History::next_image))]
 fn unregister(image: &Image, node: NodeId) -> Result<Change, Memory>
     ensures { IfOk result (IsChange image.now (command.Unregister node)) }
@@ -64,7 +66,7 @@ fn unregister(image: &Image, node: NodeId) -> Result<Change, Memory>
     })
 }
 
-/// Tokens are given to a node at once.
+/// The change that gives tokens to a node at once, without a movement.
 #[tactic(auto, unfolding(transformations::specs::History::next_image))]
 fn unsafe_join(
     alloc: Global,
@@ -80,10 +82,11 @@ fn unsafe_join(
     Ok(Change::Tokens(ring))
 }
 
-/// A keyspace is made, or gets another replication.
+/// The change that makes a keyspace, or gives it another replication.
 #[tactic(auto, unfolding(transformations::specs::History::next_image))]
 fn set_keyspace(image: &Image, name: &Name, replication: &Replication) -> Result<Change, Memory>
-    ensures { IfOk result (IsChange image.now (command.Keyspace name.now replication.now)) }
+    ensures change { IfOk result (IsChange image.now (command.Keyspace name.now replication.now)) }
+    ensures replicated { OnOk result (IsReplication replication.now) }
 {
     let mut keyspaces = image.keyspaces.copy()?;
     keyspaces.put(KeyspaceRow {
@@ -100,7 +103,7 @@ fn remove_keyspace(rows: &mut KeyspaceRows, name: &Name)
     rows.retain(|row| row.name.as_str() != name.as_str());
 }
 
-/// A keyspace is removed.
+/// The change that removes a keyspace.
 #[tactic(auto, unfolding(transformations::specs::History::next_image))]
 fn drop_keyspace(image: &Image, name: &Name) -> Result<Change, Memory>
     ensures { IfOk result (IsChange image.now (command.DropKeyspace name.now)) }
@@ -110,13 +113,14 @@ fn drop_keyspace(image: &Image, name: &Name) -> Result<Change, Memory>
     Ok(Change::Keyspaces(keyspaces))
 }
 
-/// What a command changes that prepares no movement: the next version of each list that it changes, with the change made.
+/// The change of a command that prepares no movement.
 fn settled(alloc: Global, image: &Image, cmd: &Command) -> Result<Change, Memory>
     requires next { image.now.next < 2 ^ 32 - 1 }
     requires movements { IsStrictlySortedBy by_node image.now.sequences }
     requires early { early_refusal_of image.now cmd.now ≡ None }
     requires settled { prepared_by image.now.tokens cmd.now ≡ None }
-    ensures { IfOk result (IsChange image.now cmd.now) }
+    ensures change { IfOk result (IsChange image.now cmd.now) }
+    ensures replicated { OnOk result (HasReplication cmd.now) }
 {
     match cmd {
         Command::Register { name, dc, rack } => register(image, name, dc, rack),
@@ -133,7 +137,9 @@ fn settled(alloc: Global, image: &Image, cmd: &Command) -> Result<Change, Memory
     }
 }
 
-/// What a command changes that has no early refusal. A movement is refused whose ranges are locked.
+/// The change of a command that has no early refusal.
+///
+/// Errors: `Refused` if the ranges of the movement that the command prepares are locked; `Memory` if memory runs out.
 pub fn change_of<L: Ledger>(
     alloc: Global,
     image: &Image,
@@ -145,7 +151,9 @@ pub fn change_of<L: Ledger>(
     requires formed { is_command cmd.now ≡ true }
     requires early { early_refusal_of image.now cmd.now ≡ None }
     ensures change { IfOk result (IsChange image.now cmd.now) }
-    ensures refusal { MatchResult result (λ _. refusal_of image.now cmd.now ≡ None) (ShowsRefusal (refusal_of image.now cmd.now)) }
+    ensures replicated { OnOk result (HasReplication cmd.now) }
+    ensures refusal { MatchResult result (λ _. refusal_of image.now cmd.now ≡ None)
+        (ShowsRefusal (refusal_of image.now cmd.now)) }
     ensures uncounted { walks.new ≡ walks.old }
 {
     if let Some(row) = row_prepared(alloc, image, cmd)? {

@@ -1,4 +1,4 @@
-//! A change is made of an image, and the values of the movements in flight go along. Nothing takes memory here.
+//! Makes a change in an image and in the values of its movements in flight. Nothing here allocates memory.
 
 ghost use Rattle.std.specs.Prelude.{◌≡◌, ◌+◌, ◌<◌, ◌≤◌, ◌^◌, ◌-◌, length, slice_set, vec_capacity, vec_len, MatchOption};
 ghost use Rattle.std.specs.List.{insert, remove};
@@ -13,7 +13,7 @@ use node_directory::Directory;
 use std::mem::swap;
 use transformations::{Image, SeqRow, SeqRows};
 
-/// Puts the value of a movement where it belongs, into memory that is there.
+/// Inserts the value of a movement. The vector has room for it.
 fn put(running: &mut Vec<Running>, at: usize, movement: Running)
     requires place { at ≤ vec_len running.old }
     requires room { vec_len running.old < vec_capacity running.old }
@@ -25,7 +25,7 @@ fn put(running: &mut Vec<Running>, at: usize, movement: Running)
     }
 }
 
-/// Moves the values into empty memory that has room for one more, and leaves theirs empty.
+/// Moves the values into `room`, which is empty and has room for one more, and swaps the two vectors.
 fn move_over(running: &mut Vec<Running>, room: &mut Vec<Running>)
     requires empty { vec_len room.old ≡ 0 }
     requires room { vec_len running.old + 1 ≤ vec_capacity room.old }
@@ -40,7 +40,7 @@ fn move_over(running: &mut Vec<Running>, room: &mut Vec<Running>)
     swap(running, room);
 }
 
-/// A movement begins.
+/// Inserts the value of a movement that begins.
 fn begin(
     sequences: &[SeqRow],
     running: &mut Vec<Running>,
@@ -60,7 +60,7 @@ fn begin(
     put(running, at, Running::begin(row));
 }
 
-/// A movement that is prepared starts.
+/// Takes a movement from `Prepared` to `Started`.
 fn start(sequences: &mut SeqRows, running: &mut Vec<Running>, at: usize, row: SeqRow)
     requires running { IsRunning sequences.old running.old.items }
     requires follows { Follows sequences.old (change.Started at row) }
@@ -72,7 +72,7 @@ fn start(sequences: &mut SeqRows, running: &mut Vec<Running>, at: usize, row: Se
     sequences.replace(at, row);
 }
 
-/// A movement that has started is half way.
+/// Takes a movement from `Started` to `Mid`.
 fn mid(sequences: &mut SeqRows, running: &mut Vec<Running>, at: usize, row: SeqRow)
     requires running { IsRunning sequences.old running.old.items }
     requires follows { Follows sequences.old (change.Mid at row) }
@@ -84,7 +84,7 @@ fn mid(sequences: &mut SeqRows, running: &mut Vec<Running>, at: usize, row: SeqR
     sequences.replace(at, row);
 }
 
-/// A movement that is half way is done.
+/// Removes the value of a movement that is finished. It is at `Mid`.
 fn finish(sequences: &[SeqRow], running: &mut Vec<Running>, at: usize)
     requires running { IsRunning sequences.now running.old.items }
     requires mid { StandsAt sequences.now at phase.Mid }
@@ -93,7 +93,7 @@ fn finish(sequences: &[SeqRow], running: &mut Vec<Running>, at: usize)
     let _row = running.remove(at).finish();
 }
 
-/// A movement that isn't half way is given up.
+/// Removes the value of a movement that is given up. It isn't at `Mid`.
 fn end(sequences: &[SeqRow], running: &mut Vec<Running>, at: usize)
     requires running { IsRunning sequences.now running.old.items }
     requires early { StandsBeforeMid sequences.now at }
@@ -102,7 +102,7 @@ fn end(sequences: &[SeqRow], running: &mut Vec<Running>, at: usize)
     let _row = running.remove(at).give_up();
 }
 
-/// A movement that is half way goes back to where it had started.
+/// Takes a movement from `Mid` back to `Started`.
 fn bring_back(sequences: &mut SeqRows, running: &mut Vec<Running>, at: usize, row: SeqRow)
     requires running { IsRunning sequences.old running.old.items }
     requires follows { Follows sequences.old (change.BroughtBack at row) }
@@ -114,7 +114,7 @@ fn bring_back(sequences: &mut SeqRows, running: &mut Vec<Running>, at: usize, ro
     sequences.replace(at, row);
 }
 
-/// Takes over the directory that a change leaves, where it leaves one.
+/// Replaces the directory if the change comes with a new one.
 pub fn renew(directory: &mut Directory, left: Option<Directory>)
     ensures { MatchOption left (directory.new ≡ directory.old) (λ d. directory.new ≡ d) }
 {
@@ -123,7 +123,7 @@ pub fn renew(directory: &mut Directory, left: Option<Directory>)
     }
 }
 
-/// Makes a change of an image, and takes the values of the movements along.
+/// Makes a change in an image and in the values of its movements. `room` is memory for the values if a movement begins.
 pub fn make(image: &mut Image, running: &mut Vec<Running>, change: Change, mut room: Vec<Running>)
     requires epochs { image.old.epoch < 2 ^ 64 - 1 }
     requires running { IsRunning image.old.sequences running.old.items }

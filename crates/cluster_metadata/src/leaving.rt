@@ -1,13 +1,14 @@
 //! Which node has left once a movement is done.
 
 ghost use Rattle.std.specs.Prelude.{◌≡◌, map, IfOk};
-ghost use Rattle.transformations.specs.Steps.{first_node, leaver, marked, with_left};
+ghost use Rattle.cluster_terms.specs.NodeRow.{marked};
+ghost use Rattle.transformations.specs.Steps.{first_node, leaver, with_left};
 
 use cluster_terms::{Memory, NodeId, NodeRow, NodeRows, Pair, TryCopy};
 use std::alloc::Global;
 use transformations::{Kind, SeqRow};
 
-/// The node of the first of some pairs.
+/// The node of the first pair. Returns `None` if there is no pair.
 fn first_node(pairs: &[Pair]) -> Option<NodeId>
     ensures { result ≡ first_node pairs.now }
 {
@@ -17,7 +18,8 @@ fn first_node(pairs: &[Pair]) -> Option<NodeId>
     }
 }
 
-/// The node that has left once a movement is done: that of a leave, and the one that a replace takes the pairs of.
+/// The node that has left once a movement is done: the node of a leave, or the node from which a replace takes pairs.
+/// Returns `None` for a join, for a move, and for a replace that takes no pair.
 pub fn leaver(row: &SeqRow) -> Option<NodeId>
     ensures { result ≡ leaver row.now }
 {
@@ -28,7 +30,7 @@ pub fn leaver(row: &SeqRow) -> Option<NodeId>
     }
 }
 
-/// A row, marked where it is that of the node which has left.
+/// A copy of a row. If it is the row of `node`, the copy is marked as left.
 fn marked(row: &NodeRow, node: NodeId) -> Result<NodeRow, Memory>
     ensures { IfOk result (λ now. now ≡ marked node row.now) }
 {
@@ -39,7 +41,7 @@ fn marked(row: &NodeRow, node: NodeId) -> Result<NodeRow, Memory>
     Ok(row)
 }
 
-/// Some rows, of which that of the node which has left is marked.
+/// A copy of the rows, with the row of `node` marked as left.
 fn all_marked(alloc: Global, rows: &[NodeRow], node: NodeId) -> Result<NodeRows, Memory>
     ensures { IfOk result (λ nodes. nodes ≡ map (marked node) rows.now) }
 {
@@ -50,7 +52,7 @@ fn all_marked(alloc: Global, rows: &[NodeRow], node: NodeId) -> Result<NodeRows,
     Ok(nodes)
 }
 
-/// The nodes, of which one may have left.
+/// A copy of the nodes, with the leaver, if there is one, marked as left.
 pub fn with_left(alloc: Global, rows: &NodeRows, leaver: Option<NodeId>) -> Result<NodeRows, Memory>
     ensures { IfOk result (λ nodes. nodes ≡ with_left rows.now leaver) }
 {

@@ -14,8 +14,6 @@ mod placement;
 mod preparing;
 mod running;
 mod stepping;
-#[cfg(test)]
-mod tests;
 
 pub use admit_fault::AdmitFault;
 pub use metadata::Metadata;

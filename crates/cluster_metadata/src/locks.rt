@@ -1,14 +1,13 @@
-//! Whether the ranges of a movement are locked by those of the movements in flight.
+//! Whether the ranges of the movements in flight lock the ranges of a new movement.
 
 ghost use Rattle.std.specs.Prelude.{◌≡◌};
 ghost use Rattle.std.specs.List.{AllByRecursion};
 ghost use Rattle.std.specs.List.Sorted.{IsStrictlySortedBy};
 ghost use Rattle.std.specs.Ordering.{int_cmp};
-ghost use Rattle.cluster_terms.specs.Arc.{IsToken};
 ghost use Rattle.token_ring.specs.Ranges.{AreCutOut};
 ghost use Rattle.cluster_metadata.specs.Locks.{first_common_row, first_end, first_lock, lesser_end};
 
-use cluster_terms::{RightEnd, Token, tokens_in_range};
+use cluster_terms::{RightEnd, Token};
 use token_ring::{LockRow, RangeList, RangeRow};
 use transformations::Refusal;
 
@@ -25,7 +24,7 @@ fn lesser_end(one: RightEnd, end: RightEnd) -> RightEnd
     }
 }
 
-/// The lesser of those right ends that there are.
+/// The lesser of two right ends, each of which may be absent. Returns `None` if both are.
 fn first_end(one: Option<RightEnd>, end: Option<RightEnd>) -> Option<RightEnd>
     ensures { result ≡ first_end one end }
 {
@@ -51,17 +50,17 @@ fn first_shared(ours: &[RangeRow], theirs: &[RangeRow], cuts: &[Token]) -> Optio
     first
 }
 
-/// The first of some movements that has a row in its ranges which is in a movement's own, too, under the same
-/// replication, and the right end of the first such row. For k movements, r replications and c cuts there are up to
-/// 2·k·r·c binary searches.
+/// The refusal by the first movement of `locks` that has a row of `ours` in its ranges, under the same replication. It
+/// shows the node of this movement and the right end of the first such row. Returns `None` if no movement has one.
+///
+/// For k movements, r replications and c cuts, the cost is at most 2·k·r·(c + 1) binary searches.
 pub fn first_lock(ours: &[RangeRow], locks: &[LockRow], cuts: &[Token]) -> Option<Refusal>
     requires ascending { IsStrictlySortedBy int_cmp cuts.now }
     requires ours { AllByRecursion (λ r. AreCutOut cuts.now r.ranges) ours.now }
-    requires theirs { AllByRecursion (λ l. AllByRecursion (λ r. AreCutOut cuts.now r.ranges) l.ranges) locks.now }
-    ensures first { result ≡ first_lock ours.now locks.now cuts.now }
-    ensures tokens { AllByRecursion IsToken cuts.now }
+    requires theirs { AllByRecursion
+        (λ l. AllByRecursion (λ r. AreCutOut cuts.now r.ranges) l.ranges) locks.now }
+    ensures { result ≡ first_lock ours.now locks.now cuts.now }
 {
-    tokens_in_range(cuts);
     for lock in locks {
         if let Some(end) = first_shared(ours, lock.ranges.as_slice(), cuts) {
             return Some(Refusal::Locked(lock.node, end));

@@ -1,15 +1,14 @@
 ghost use Rattle.std.specs.Prelude.{◌≡◌, ◌<◌, ◌≤◌, true, None, length, option_map, IfOk, IfSome, IsTrue, MatchResult};
 ghost use Rattle.std.specs.Option.{option_copied};
 ghost use Rattle.transformations.specs.History.{empty_image, is_command, most_epochs, next_image};
-ghost use Rattle.transformations.specs.Meeting.{QuorumsExistTogether, QuorumsMeet, ReadsAreWritten, makes_movement_epoch};
+ghost use Rattle.transformations.specs.Meeting.{HaveReplications, QuorumsExistTogether, QuorumsMeet, ReadsAreWritten, makes_movement_epoch};
 ghost use Rattle.transformations.specs.Refusals.{refusal_of};
 ghost use Rattle.cluster_metadata.specs.Change.{directory_of};
-ghost use Rattle.cluster_metadata.specs.Served.{keyspace_of as the_keyspace_of, served};
+ghost use Rattle.cluster_metadata.specs.Served as spec;
 
 use crate::admit_fault::AdmitFault;
-use crate::changes::change_of;
 use crate::enact::{make, renew};
-use crate::permit::{Permit, directory_for, room_for};
+use crate::permit::{Permit, permit_for};
 use crate::placement::{keyspace_of, served_by};
 use crate::running::{Running, close_all};
 use cluster_terms::{Memory, Name, Replication, SmallList, Steps, Token, TryCopy};
@@ -17,17 +16,16 @@ use node_directory::Directory;
 use node_sets::NodeSet;
 use std::alloc::Global;
 use std::marker::Model;
-use std::snapshot::Snapshot;
 use std::sync::ledger::Ledger;
-use transformations::{Command, Image, early_refusal};
+use transformations::{Command, Image, KeyspaceRow};
 
-/// The metadata of a cluster: its image, which is valid, and the movements in flight, each as a value of its
-/// phase. It is seen as the image.
+/// The metadata of a cluster: a valid image, and the movements in flight, each as a value of its phase. Contracts see
+/// it as the image.
 ///
-/// At most one movement has a token in its ranges, under each keyspace. These are CEP-21's locked ranges, by a rule of
-/// this project: the tokens whose replicas the movement may change, whatever becomes of the others.
+/// Under each keyspace, a token is in the ranges of at most one movement. The ranges are CEP-21's locked ranges, by a
+/// rule of this project: the tokens whose replicas the movement may change, whatever happens to the other movements.
 ///
-/// The value has to be spent, by `close`.
+/// The value must be consumed, by `close`.
 pub struct Metadata {
     alloc: Global,
     image: Image,
@@ -36,26 +34,22 @@ pub struct Metadata {
 }
 
 impl Model for Metadata {
-    ghost use Rattle.std.specs.Prelude.{◌≡◌};
-    ghost use Rattle.transformations.specs.Valid.{IsValid};
     ghost use Rattle.transformations.specs.declared.image.Image.{Image};
+    ghost use Rattle.cluster_metadata.specs.Held.{IsHeld};
 
     ghost Value = { Image };
 
-    ghost use Rattle.cluster_metadata.specs.Change.{directory_of};
-    ghost use Rattle.cluster_metadata.specs.Running.{IsRunning};
-
     ghost view = { λ m. m.image };
 
-    ghost invariant = { λ m. IsValid m.image × IsRunning m.image.sequences m.running.items × (m.directory ≡ directory_of m.image) };
+    ghost invariant = { λ m. IsHeld m.image m.directory m.running.items };
 }
 
 impl Metadata {
     ghost use Rattle.transformations.specs.Valid.{IsValid};
-    ghost use Rattle.transformations.specs.Ranges.{AreApart, AreOutcomes, KeepsRanges, PlacedByRanges};
+    ghost use Rattle.transformations.specs.Ranges.{AreApart, AreOutcomes, ArePlacedByOutcomes, KeepsRanges, PlacedByRanges};
     ghost use Rattle.cluster_metadata.specs.Permission.{ShowsRefusal};
 
-    /// The metadata before the first command.
+    /// The metadata before the first command: epoch 0, no node and no keyspace. `Err` means that memory ran out.
     pub fn empty(alloc: Global) -> Result<Metadata, Memory>
         ensures { IfOk result (λ metadata. metadata ≡ empty_image) }
     {
@@ -76,42 +70,43 @@ impl Metadata {
         })
     }
 
-    /// The epoch: how many commands have been enacted.
+    /// The epoch: the number of commands that have been enacted.
     pub fn epoch(&self) -> u64
         ensures { result ≡ self.now.epoch }
     {
         self.image.epoch
     }
 
-    /// The image, which is valid.
+    /// The image. It is valid, and the replication of each keyspace names each of its datacenters once.
     pub fn as_image(&self) -> &Image
         ensures image { result.now ≡ self.now }
         ensures valid { IsValid self.now }
+        ensures replications { HaveReplications self.now }
     {
         &self.image
     }
 
-    /// A copy of the image.
+    /// A copy of the image, with all its lists. `Err` means that memory ran out.
     pub fn image(&self) -> Result<Image, Memory>
         ensures { IfOk result (λ image. image ≡ self.now) }
     {
         self.image.copy()
     }
 
-    /// Gives a permit for a command that the image accepts, and otherwise shows the first refusal. The last one that is
-    /// looked for is that of a movement whose ranges are locked: it shows the first movement, by node, that has a token
-    /// in its ranges which is in the new one's, too, under the same keyspace, and where the first row of such tokens
-    /// ends.
+    /// Returns a permit if the image accepts the command. The permit holds all memory that the command needs.
     ///
-    /// All memory that the command needs is taken here, for a copy of the list that it changes, or for the row of the
-    /// movement that takes a step. `Memory` comes only where it is wanting. No strategy is called. For a movement that
-    /// is prepared, the ranges of all movements are found anew, under each replication: for m movements and r replications
-    /// this costs m times r times what `ring_reach::reached` costs.
+    /// Errors: `Refused` with the first refusal of the command; `Memory` if memory runs out. Locked ranges are checked
+    /// last. `Locked` shows the least node whose movement shares a token with the new movement, in the ranges of both
+    /// under one keyspace, and the right end of the first row that they share.
     ///
-    /// In the image at most one movement has a token in its ranges. Whatever movements are done or given up, the
-    /// placement at a token depends on those alone that have it in their ranges; and the rings that are read and written
-    /// come of such outcomes.
-    #[tactic(auto, using(crate::proofs::OutcomeLemmas::placed, crate::proofs::OutcomeLemmas::rings))]
+    /// Cost: a copy of each list that the command changes, or of the row of the movement that takes a step. No strategy
+    /// is called. If the command prepares a movement, the image is copied and the ranges of all movements are found
+    /// anew: for m movements with the new one and r replications, `ring_reach::reached` is called m·r times.
+    ///
+    /// Under each keyspace, a token is in the ranges of at most one movement. Whichever movements are done or given up,
+    /// the placement at a token depends only on the movements that have it in their ranges. Reads and writes are
+    /// placements after such outcomes, so at most one movement matters to them.
+    #[tactic(auto, using(crate::proofs::PermitOutcomes::placed, crate::proofs::PermitOutcomes::rings, crate::proofs::PermitOutcomes::placements))]
     pub fn admit<L: Ledger>(
         &self,
         cmd: &Command,
@@ -120,34 +115,26 @@ impl Metadata {
         requires room { self.now.epoch < most_epochs }
         requires formed { IsTrue (is_command cmd.now) }
         ensures permit { IfOk result (λ permit. permit ≡ record { image = self.now; command = cmd.now }) }
-        ensures refusal { MatchResult result (λ _. refusal_of self.now cmd.now ≡ None) (ShowsRefusal (refusal_of self.now cmd.now)) }
+        ensures refusal { MatchResult result (λ _. refusal_of self.now cmd.now ≡ None)
+            (ShowsRefusal (refusal_of self.now cmd.now)) }
         ensures uncounted { walks.new ≡ walks.old }
         ensures apart { AreApart self.now }
         ensures outcomes { PlacedByRanges self.now }
         ensures rings { AreOutcomes self.now }
+        ensures placements { ArePlacedByOutcomes self.now }
     {
-        if let Some(refusal) = early_refusal(self.alloc, &self.image, cmd)? {
-            return Err(AdmitFault::Refused(refusal));
-        }
-        let change = change_of(self.alloc, &self.image, cmd, walks)?;
-        let directory = directory_for(self.alloc, &self.image, &change)?;
-        let room = room_for(self.alloc, &change)?;
-        Ok(Permit {
-            change,
-            room,
-            directory,
-            image: Snapshot::of(&self.image),
-            command: Snapshot::of(cmd),
-        })
+        permit_for(self.alloc, &self.image, cmd, walks)
     }
 
-    /// Makes the image that the permit's command leads to, and answers its epoch. It can't be refused, and takes no
-    /// memory: what the permit holds is put in its place. Each movement that goes on keeps its ranges, and still at most
-    /// one has a token in its own.
+    /// Carries out the permit's command and returns the new epoch. It can't be refused and allocates no memory: it
+    /// uses the memory that the permit holds.
     ///
-    /// Where the command makes a movement epoch, the write quorums of the image before have a replica in common with the
-    /// read quorums of the image after, and the other way round: by QUORUM at every token under every keyspace, and by
-    /// LOCAL_QUORUM in each datacenter that its replication names.
+    /// Each movement that goes on keeps its ranges, and under each keyspace a token is still in the ranges of at most
+    /// one movement. Reads and writes are still placements after outcomes, as `admit` says.
+    ///
+    /// If the command makes a movement epoch, each write quorum of the image before shares a replica with each read
+    /// quorum of the image after, and the other way round. This holds for QUORUM at every token under every keyspace,
+    /// and for LOCAL_QUORUM in each datacenter that its replication names.
     pub fn enact(&mut self, permit: Permit) -> u64
         requires { permit.image ≡ self.old }
         ensures image { self.new ≡ next_image self.old permit.command }
@@ -155,10 +142,10 @@ impl Metadata {
         ensures apart { AreApart self.new }
         ensures outcomes { PlacedByRanges self.new }
         ensures rings { AreOutcomes self.new }
+        ensures placements { ArePlacedByOutcomes self.new }
         ensures ranges { KeepsRanges self.old self.new }
         ensures meets { makes_movement_epoch permit.command ≡ true → QuorumsMeet self.old self.new }
     {
-        self.image.replications();
         let Permit {
             change,
             room,
@@ -171,30 +158,28 @@ impl Metadata {
         self.image.epoch
     }
 
-    /// The nodes that are read and those that are written at a token, under the replication of a keyspace: the replicas
-    /// by SimpleStrategy or NetworkTopologyStrategy on the ring that reads see, and those on the ring before the
-    /// movements and on the ring that writes see. `None` comes exactly where no keyspace has the name, and `Memory` only
-    /// where memory is wanting.
+    /// The nodes that are read at a token under a keyspace, and the nodes that are written. The nodes that are read are
+    /// the replicas on the ring that reads see. The nodes that are written are the replicas on the ring before the
+    /// movements and on the ring that writes see. Returns `None` if and only if no keyspace has this name.
     ///
-    /// Each node that is read is written, and at most 1,024 nodes are. The write quorums of the image have a replica in
-    /// common with its read quorums, and a write quorum exists exactly where a read quorum does.
+    /// Each node that is read is written, and at most 1,024 nodes are written. Each write quorum of the image shares a
+    /// replica with each of its read quorums, and a write quorum exists if and only if a read quorum does.
     ///
-    /// Each look-up makes the three rings anew. For p pairs it copies and sorts them three times, and then walks each
-    /// ring once.
+    /// `Err` means that memory ran out. Cost: each call builds three rings. It copies and sorts the pairs three times,
+    /// and walks each ring once. For n pairs, of which movements take out k, it also makes up to 2·n·k comparisons.
     pub fn replicas(
         &self,
         alloc: Global,
         keyspace: &Name,
         t: Token,
     ) -> Result<Option<(NodeSet, NodeSet)>, Memory>
-        ensures sets { IfOk result (λ found. found ≡ served self.now keyspace.now t) }
+        ensures sets { IfOk result (λ found. found ≡ spec.served self.now keyspace.now t) }
         ensures few { IfOk result (λ found. IfSome found (λ sets. length sets.1 ≤ 1024)) }
         ensures itself { QuorumsMeet self.now self.now }
         ensures together { QuorumsExistTogether self.now }
         ensures written { ReadsAreWritten self.now }
     {
-        self.quorums();
-        match keyspace_of(&self.image, keyspace) {
+        match self.keyspace(keyspace) {
             None => Ok(None),
             Some(row) => {
                 let (image, dir) = (&self.image, &self.directory);
@@ -203,33 +188,35 @@ impl Metadata {
         }
     }
 
-    /// What is known of the quorums of the image.
-    fn quorums(&self)
+    /// The keyspace with this name. The contract also says what holds of the quorums of all keyspaces.
+    fn keyspace(&self, name: &Name) -> Option<&KeyspaceRow>
+        ensures found { option_copied result ≡ spec.keyspace_of self.now name.now }
         ensures itself { QuorumsMeet self.now self.now }
         ensures together { QuorumsExistTogether self.now }
         ensures written { ReadsAreWritten self.now }
     {
-        self.image.replications();
+        keyspace_of(&self.image, name)
     }
 
-    /// The replication of a keyspace. `None` comes exactly where no keyspace has the name.
+    /// The replication of a keyspace. Returns `None` if and only if no keyspace has this name.
     pub fn replication(&self, keyspace: &Name) -> Option<&Replication>
-        ensures { option_copied result ≡ option_map (λ row. row.replication) (the_keyspace_of self.now keyspace.now) }
+        ensures { option_copied result ≡ option_map (λ row. row.replication)
+            (spec.keyspace_of self.now keyspace.now) }
     {
-        match keyspace_of(&self.image, keyspace) {
+        match self.keyspace(keyspace) {
             Some(row) => Some(&row.replication),
             None => None,
         }
     }
 
-    /// The registered nodes, and the id that the next one gets.
+    /// The registered nodes, and the id of the next node that is registered.
     pub fn directory(&self) -> &Directory
         ensures { result.now ≡ directory_of self.now }
     {
         &self.directory
     }
 
-    /// Ends the metadata. The movements in flight are forgotten with it.
+    /// Consumes the metadata, with the values of the movements in flight.
     pub fn close(self) {
         let Metadata {
             alloc: _,

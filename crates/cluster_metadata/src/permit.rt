@@ -1,18 +1,24 @@
-ghost use Rattle.std.specs.Prelude.{◌≡◌, ◌≤◌, IfOk, vec_capacity, vec_len};
-ghost use Rattle.transformations.specs.Valid.{IsSound};
+ghost use Rattle.std.specs.Prelude.{◌≡◌, ◌<◌, ◌≤◌, None, IfOk, IsTrue, MatchResult, vec_capacity, vec_len};
+ghost use Rattle.transformations.specs.History.{is_command, most_epochs};
+ghost use Rattle.transformations.specs.Refusals.{refusal_of};
+ghost use Rattle.transformations.specs.Valid.{IsSound, IsValid};
 ghost use Rattle.cluster_metadata.specs.Change.{changed, directory_after, grown_to};
+ghost use Rattle.cluster_metadata.specs.Permission.{ShowsRefusal};
 
+use crate::admit_fault::AdmitFault;
 use crate::change::Change;
+use crate::changes::change_of;
 use crate::running::Running;
-use cluster_terms::Memory;
+use cluster_terms::{Memory, Steps};
 use node_directory::Directory;
 use std::alloc::Global;
 use std::marker::Model;
 use std::snapshot::Snapshot;
-use transformations::{Command, Image};
+use std::sync::ledger::Ledger;
+use transformations::{Command, Image, early_refusal};
 
-/// Memory for the values of the movements, where a change begins one.
-pub(crate) fn room_for(alloc: Global, change: &Change) -> Result<Vec<Running>, Memory>
+/// An empty vector. If the change begins a movement, it has room for the values of all movements.
+fn room_for(alloc: Global, change: &Change) -> Result<Vec<Running>, Memory>
     ensures { IfOk result (λ room. (vec_len room ≡ 0) × (grown_to change.now ≤ vec_capacity room)) }
 {
     let count = match change {
@@ -22,12 +28,8 @@ pub(crate) fn room_for(alloc: Global, change: &Change) -> Result<Vec<Running>, M
     Ok(Vec::with_capacity(alloc, count)?)
 }
 
-/// The directory of the nodes that a change leaves, where it changes them.
-pub(crate) fn directory_for(
-    alloc: Global,
-    image: &Image,
-    change: &Change,
-) -> Result<Option<Directory>, Memory>
+/// The directory after a change. Returns `None` if the change comes with no list of nodes.
+fn directory_for(alloc: Global, image: &Image, change: &Change) -> Result<Option<Directory>, Memory>
     requires { IsSound (changed image.now change.now) }
     ensures { IfOk result (λ found. found ≡ directory_after image.now change.now) }
 {
@@ -43,10 +45,10 @@ pub(crate) fn directory_for(
     }
 }
 
-/// The leave to enact a command: it is given for an image that accepts the command, and is seen as both. It holds the
-/// memory that the command needs.
+/// The permission to enact a command in an image that accepts it. Contracts see it as this image and this command. It
+/// holds the memory that the command needs.
 ///
-/// The value has to be spent, once: `Metadata::enact` does what it allows, `decline` gives it back.
+/// The value must be consumed once: `Metadata::enact` carries out the command, and `decline` gives the permit up.
 pub struct Permit {
     pub(crate) change: Change,
     pub(crate) room: Vec<Running>,
@@ -64,11 +66,13 @@ impl Model for Permit {
 
     ghost view = { λ p. record { image = p.image.value; command = p.command.value } };
 
-    ghost invariant = { λ p. IsPermitted p.image.value p.command.value p.change × (vec_len p.room ≡ 0) × (grown_to p.change ≤ vec_capacity p.room) × (p.directory ≡ directory_after p.image.value p.change) };
+    ghost invariant = { λ p. IsPermitted p.image.value p.command.value p.change × (vec_len p.room ≡ 0)
+        × (grown_to p.change ≤ vec_capacity p.room)
+        × (p.directory ≡ directory_after p.image.value p.change) };
 }
 
 impl Permit {
-    /// Gives the permit back. Nothing changes.
+    /// Gives up the permit. The metadata doesn't change.
     pub fn decline(self) {
         let Permit {
             change: _,
@@ -79,4 +83,34 @@ impl Permit {
         } = self;
         room.destroy_empty();
     }
+}
+
+/// A permit for a command in an image. Errors: `Refused` with its first refusal; `Memory` if memory runs out.
+pub(crate) fn permit_for<L: Ledger>(
+    alloc: Global,
+    image: &Image,
+    cmd: &Command,
+    walks: &mut Steps<L>,
+) -> Result<Permit, AdmitFault>
+    requires valid { IsValid image.now }
+    requires room { image.now.epoch < most_epochs }
+    requires formed { IsTrue (is_command cmd.now) }
+    ensures permit { IfOk result (λ permit. permit ≡ record { image = image.now; command = cmd.now }) }
+    ensures refusal { MatchResult result (λ _. refusal_of image.now cmd.now ≡ None)
+        (ShowsRefusal (refusal_of image.now cmd.now)) }
+    ensures uncounted { walks.new ≡ walks.old }
+{
+    if let Some(refusal) = early_refusal(alloc, image, cmd)? {
+        return Err(AdmitFault::Refused(refusal));
+    }
+    let change = change_of(alloc, image, cmd, walks)?;
+    let directory = directory_for(alloc, image, &change)?;
+    let room = room_for(alloc, &change)?;
+    Ok(Permit {
+        change,
+        room,
+        directory,
+        image: Snapshot::of(image),
+        command: Snapshot::of(cmd),
+    })
 }

@@ -3,11 +3,12 @@
 ghost use Rattle.std.specs.Prelude.{◌≡◌, ◌<◌, ◌≤◌, length, IfOk, IsTrue};
 ghost use Rattle.std.specs.Option.{option_copied};
 ghost use Rattle.cluster_terms.specs.Group.{place};
+ghost use Rattle.cluster_terms.specs.Pair.{tokens_of};
 ghost use Rattle.cluster_terms.specs.Replication.{groups_of};
-ghost use Rattle.token_ring.specs.Ring.{are_distinct, tokens_of};
+ghost use Rattle.token_ring.specs.Ring.{are_distinct};
 ghost use Rattle.transformations.specs.Rings.{reads_at, writes_at};
 ghost use Rattle.transformations.specs.Valid.{IsValid};
-ghost use Rattle.cluster_metadata.specs.Served.{keyspace_of as the_keyspace_of, served_by as are_served_by};
+ghost use Rattle.cluster_metadata.specs.Served as spec;
 
 use cluster_terms::{Memory, Name, Pair, Replication, Steps, Token};
 use node_directory::Directory;
@@ -18,9 +19,9 @@ use std::sync::ledger::{Blank, Ledger};
 use token_ring::Ring;
 use transformations::{Image, KeyspaceRow, RingKind, ring_with};
 
-/// A keyspace.
+/// The keyspace with this name. Returns `None` if and only if there is none.
 pub fn keyspace_of<'a>(image: &'a Image, name: &Name) -> Option<&'a KeyspaceRow>
-    ensures { option_copied result ≡ the_keyspace_of image.now name.now }
+    ensures { option_copied result ≡ spec.keyspace_of image.now name.now }
 {
     image
         .keyspaces
@@ -29,7 +30,7 @@ pub fn keyspace_of<'a>(image: &'a Image, name: &Name) -> Option<&'a KeyspaceRow>
         .find(|row| row.name.as_str() == name.as_str())
 }
 
-/// The replicas at a token on a ring, as the walk of the replication's strategy finds them.
+/// The replicas at a token on a ring, found by the replication's strategy.
 fn walked<L: Ledger>(
     alloc: Global,
     ring: &Ring,
@@ -52,7 +53,7 @@ fn walked<L: Ledger>(
     }
 }
 
-/// The replicas at a token on the ring of some pairs.
+/// The replicas at a token on the ring of these pairs.
 fn placed(
     alloc: Global,
     pairs: &[Pair],
@@ -68,7 +69,7 @@ fn placed(
 }
 
 /// The nodes that are read at a token: the replicas on the ring that reads see.
-#[tactic(auto, using(crate::proofs::RingLemmas::read_tokens), unfolding(transformations::specs::Rings::reads_at))]
+#[tactic(auto, using(crate::proofs::ImageRings::read_tokens), unfolding(transformations::specs::Rings::reads_at))]
 fn reads_of(
     alloc: Global,
     image: &Image,
@@ -86,7 +87,7 @@ fn reads_of(
 
 /// The nodes that are written at a token: the replicas on the ring before the movements, and those on the ring that
 /// writes see.
-#[tactic(auto, using(crate::proofs::RingLemmas::low_tokens, crate::proofs::RingLemmas::high_tokens), unfolding(transformations::specs::Rings::writes_at))]
+#[tactic(auto, using(crate::proofs::ImageRings::low_tokens, crate::proofs::ImageRings::high_tokens), unfolding(transformations::specs::Rings::writes_at))]
 fn writes_of(
     alloc: Global,
     image: &Image,
@@ -104,8 +105,9 @@ fn writes_of(
     before.union(&after)
 }
 
-/// The nodes that are read and those that are written at a token, under a replication.
-#[tactic(auto, using(crate::proofs::RingLemmas::few_served))]
+/// The nodes that are read at a token under a replication, and the nodes that are written: at most 1,024.
+/// `Err` means that memory ran out.
+#[tactic(auto, using(crate::proofs::ImageRings::few_served))]
 pub fn served_by(
     alloc: Global,
     image: &Image,
@@ -115,7 +117,7 @@ pub fn served_by(
 ) -> Result<(NodeSet, NodeSet), Memory>
     requires valid { IsValid image.now }
     requires nodes { dir.now.rows ≡ image.now.nodes }
-    ensures sets { IfOk result (λ found. found ≡ are_served_by image.now t replication.now) }
+    ensures sets { IfOk result (λ found. found ≡ spec.served_by image.now t replication.now) }
     ensures few { IfOk result (λ found. length found.1 ≤ 1024) }
 {
     let reads = reads_of(alloc, image, dir, replication, t)?;

@@ -1,4 +1,4 @@
-//! A movement that is prepared begins, unless its ranges are locked.
+//! Begins a movement, unless its ranges are locked.
 
 ghost use Rattle.std.specs.Prelude.{◌≡◌, ◌≤◌, ◌==◌, false, true, None, length, IfOk, IfSome, MatchResult};
 ghost use Rattle.std.specs.List.{AllByRecursion, insert};
@@ -9,7 +9,6 @@ ghost use Rattle.transformations.specs.Refusals.{early_refusal_of, locked, prepa
 ghost use Rattle.transformations.specs.Valid.{IsSound};
 ghost use Rattle.transformations.specs.declared.sequence.Phase.TheVariants as phase;
 ghost use Rattle.transformations.specs.declared.sequence.SeqRow.{SeqRow};
-ghost use Rattle.sequence_plans.specs.Plan.{IsPlan};
 ghost use Rattle.cluster_metadata.specs.Change.{Begins};
 ghost use Rattle.cluster_metadata.specs.Permission.{ShowsRefusal};
 
@@ -23,11 +22,12 @@ use std::alloc::Global;
 use std::sync::ledger::Ledger;
 use transformations::{Command, Image, SeqRow};
 
-/// How many movements have a lesser node: the place of a new one, of a node that has none.
+/// The index at which the movement of a node that has none is put among the movements, in the order of nodes.
 fn place_for(sequences: &[SeqRow], node: NodeId) -> usize
     requires { AllByRecursion (λ s. (s.node == node) ≡ false) sequences.now }
     ensures bound { result ≤ length sequences.now }
-    ensures place { (row : SeqRow) → row.node ≡ node → put by_node row sequences.now ≡ insert sequences.now result row }
+    ensures place { (row : SeqRow) → row.node ≡ node
+        → put by_node row sequences.now ≡ insert sequences.now result row }
 {
     for (at, other) in sequences.iter().enumerate() {
         if node < other.node {
@@ -37,7 +37,7 @@ fn place_for(sequences: &[SeqRow], node: NodeId) -> usize
     sequences.len()
 }
 
-/// A movement begins, of a node that has none.
+/// The change that begins the movement of a node that has none.
 fn begun(image: &Image, row: SeqRow) -> Result<Change, Memory>
     requires phase { row.phase ≡ phase.Prepared }
     requires new { AllByRecursion (λ s. (s.node == row.node) ≡ false) image.now.sequences }
@@ -49,7 +49,8 @@ fn begun(image: &Image, row: SeqRow) -> Result<Change, Memory>
     Ok(Change::Begun { at, row, sequences })
 }
 
-/// The row of the movement that a command prepares which has no early refusal. `None` comes exactly where it prepares none.
+/// The row of the movement that a command prepares. The command has no early refusal. Returns `None` if and only if the
+/// command prepares no movement. `Err` means that memory ran out.
 pub fn row_prepared(alloc: Global, image: &Image, cmd: &Command) -> Result<Option<SeqRow>, Memory>
     requires sound { IsSound image.now }
     requires formed { is_command cmd.now ≡ true }
@@ -67,8 +68,10 @@ pub fn row_prepared(alloc: Global, image: &Image, cmd: &Command) -> Result<Optio
     Ok(Some(row))
 }
 
-/// A movement begins, of a node that has none. It is refused where its ranges are locked: where those of a movement in
-/// flight have a token in common with them, under the replication of one keyspace.
+/// The change that begins the movement of a node that has none.
+///
+/// Errors: `Refused` if its ranges are locked: they share a token with the ranges of a movement in flight, under the
+/// replication of one keyspace; `Memory` if memory runs out.
 pub fn prepare<L: Ledger>(
     alloc: Global,
     image: &Image,
@@ -79,7 +82,8 @@ pub fn prepare<L: Ledger>(
     requires new { AllByRecursion (λ s. (s.node == row.node) ≡ false) image.now.sequences }
     requires sound { IsSound (with_movement image.now row) }
     ensures change { IfOk result (Begins image.now row) }
-    ensures refusal { MatchResult result (λ _. locked (with_movement image.now row) row ≡ None) (ShowsRefusal (locked (with_movement image.now row) row)) }
+    ensures refusal { MatchResult result (λ _. locked (with_movement image.now row) row ≡ None)
+        (ShowsRefusal (locked (with_movement image.now row) row)) }
     ensures uncounted { walks.new ≡ walks.old }
 {
     let plan = match plan(alloc, image, row, walks) {

@@ -2,7 +2,7 @@ ghost use Rattle.std.specs.Prelude.{◌≡◌, false};
 ghost use Rattle.transformations.specs.Rings.{is_mid};
 ghost use Rattle.transformations.specs.declared.sequence.Phase.TheVariants as phase;
 ghost use Rattle.cluster_metadata.specs.Change.{in_phase};
-ghost use Rattle.cluster_metadata.specs.Running.{phase_of, row_of};
+ghost use Rattle.cluster_metadata.specs.Running.{phase_of, movement_row};
 
 use sequence_core::{Mid, Prepared, Seq, Started};
 use transformations::SeqRow;
@@ -15,19 +15,19 @@ pub enum Running {
 }
 
 impl Running {
-    /// The movement of a row that is prepared.
+    /// The value of a movement whose row is at `Prepared`.
     pub fn begin(row: SeqRow) -> Running
         requires { row.phase ≡ phase.Prepared }
-        ensures row { row_of result ≡ row }
+        ensures row { movement_row result ≡ row }
         ensures phase { phase_of result ≡ phase.Prepared }
     {
         Running::Prepared(Seq::begin(row))
     }
 
-    /// Starts a movement that is prepared.
+    /// Takes a movement from `Prepared` to `Started`.
     pub fn start(self) -> Running
         requires { phase_of self ≡ phase.Prepared }
-        ensures row { row_of result ≡ in_phase phase.Started (row_of self) }
+        ensures row { movement_row result ≡ in_phase phase.Started (movement_row self) }
         ensures phase { phase_of result ≡ phase.Started }
     {
         match self {
@@ -36,10 +36,10 @@ impl Running {
         }
     }
 
-    /// Brings a movement half way that has started.
+    /// Takes a movement from `Started` to `Mid`.
     pub fn mid(self) -> Running
         requires { phase_of self ≡ phase.Started }
-        ensures row { row_of result ≡ in_phase phase.Mid (row_of self) }
+        ensures row { movement_row result ≡ in_phase phase.Mid (movement_row self) }
         ensures phase { phase_of result ≡ phase.Mid }
     {
         match self {
@@ -48,10 +48,10 @@ impl Running {
         }
     }
 
-    /// Finishes a movement that is half way, and gives back its row.
+    /// Finishes a movement that is at `Mid`, and returns its row.
     pub fn finish(self) -> SeqRow
         requires { phase_of self ≡ phase.Mid }
-        ensures { result ≡ row_of self }
+        ensures { result ≡ movement_row self }
     {
         match self {
             Running::Mid(seq) => seq.finish(),
@@ -59,10 +59,10 @@ impl Running {
         }
     }
 
-    /// Brings a movement back to where it had started that is half way.
+    /// Takes a movement from `Mid` back to `Started`.
     pub fn bring_back(self) -> Running
         requires { phase_of self ≡ phase.Mid }
-        ensures row { row_of result ≡ in_phase phase.Started (row_of self) }
+        ensures row { movement_row result ≡ in_phase phase.Started (movement_row self) }
         ensures phase { phase_of result ≡ phase.Started }
     {
         match self {
@@ -71,10 +71,10 @@ impl Running {
         }
     }
 
-    /// Gives up a movement that isn't half way, and gives back its row.
+    /// Gives up a movement that isn't at `Mid`, and returns its row.
     pub fn give_up(self) -> SeqRow
         requires { is_mid (phase_of self) ≡ false }
-        ensures { result ≡ row_of self }
+        ensures { result ≡ movement_row self }
     {
         match self {
             Running::Prepared(seq) => seq.cancel(),
@@ -83,7 +83,7 @@ impl Running {
         }
     }
 
-    /// Ends a movement that is no longer looked at. Nothing of the cluster changes.
+    /// Consumes the value of a movement at any phase. The image doesn't change.
     pub fn close(self) {
         let _row = match self {
             Running::Prepared(seq) => seq.cancel(),
@@ -93,7 +93,7 @@ impl Running {
     }
 }
 
-/// Ends some movements.
+/// Consumes the values of all these movements.
 pub fn close_all(mut running: Vec<Running>) {
     while let Some(movement) = running.pop() {
         movement.close();

@@ -1,6 +1,6 @@
 -- Quorums that meet have a node in common.
 use Rattle.std.proofs.Common.{◌≡◌, ℕ, ◌+◌, ◌≤◌, Bool, true, false, ◌||◌, nat_eq, nat_lt, List, [], ◌∷◌, ◌++◌, length, refl, sym, ◌∙◌, arith, length-append}
-use Rattle.std.proofs.lemmas.Bool.{false≢true, or_left, or_right}
+use Rattle.std.proofs.lemmas.Bool.{false≢true, or_left, or_right, or_parts}
 use Rattle.std.proofs.lemmas.Bool.Decides.{nat_tests}
 use Rattle.std.proofs.lemmas.List.Folds.{list_any-append}
 use Rattle.std.proofs.lemmas.Map.Made.{distinct_count-from_IsDistinct, length-le_from_is_member}
@@ -17,16 +17,12 @@ none_among : (n : ℕ) (ms : List ℕ) → AllByRecursion (λ m. nat_eq n m ≡ 
 none_among n [] apart = refl
 none_among n (m ∷ ms) apart = (λ i. apart.0 i || none_among n ms apart.1 i)
 
-neither : (a b : Bool) → (a || b) ≡ false → (a ≡ false) × (b ≡ false)
-neither true b none = (none, absurd (false≢true (sym none)))
-neither false b none = (refl, none)
-
 -- they are different nodes
 all_different : (ns ms : List ℕ) → IsDistinct nat_eq ns → IsDistinct nat_eq ms → list_any (has ns) ms ≡ false → IsDistinct nat_eq (ms ++ ns)
 unfolding IsDistinct
 all_different ns [] one other none = one
 all_different ns (m ∷ ms) one other none =
-    let parts = neither (has ns m) (list_any (has ns) ms) none in
+    let parts = or_parts (has ns m) (list_any (has ns) ms) none in
     distinct_cons nat_eq_equiv m (ms ++ ns) (all_different ns ms one other.1 parts.1)
     (list_any-append (nat_eq m) ms ns ∙ (λ i. none_among m ms other.0 i || parts.0 i))
 

@@ -1,19 +1,12 @@
 -- How many distinct keys a list has, by what is among it.
 use Rattle.std.proofs.Common.{◌≡◌, ◌+◌, ◌<◌, ◌≤◌, Bool, true, false, ◌||◌, List, [], ◌∷◌, ◌++◌, length, refl, sym, ap, ◌∙◌, arith}
+use Rattle.std.proofs.Math.Bool.{or_comm, or-false, or-true}
 use Rattle.std.proofs.lemmas.Bool.{false≢true}
 use Rattle.std.proofs.lemmas.List.Folds.{list_any-append}
 use Rattle.std.proofs.lemmas.Map.Made.{length-from_keys, length-le_from_is_member}
 use Rattle.std.specs.Cmp.{IsEquivalence}
 use Rattle.std.specs.List.{AllByRecursion, IsDistinct}
 use Rattle.std.specs.Set.{is_member, distinct_count}
-
-or_false : (b : Bool) → (b || false) ≡ b
-or_false true = refl
-or_false false = refl
-
-or_true : (b : Bool) → (b || true) ≡ true
-or_true true = refl
-or_true false = refl
 
 module _ {K : Type 0} {eq : K → K → Bool} (laws : IsEquivalence eq) where
   -- equal keys are members alike
@@ -22,7 +15,7 @@ module _ {K : Type 0} {eq : K → K → Bool} (laws : IsEquivalence eq) where
   is_member-alike (z ∷ xs) x y e = (λ i. laws.congr x y z e i || is_member-alike xs x y e i)
 
   pub is_member-push : (xs : List K) (x q : K) → is_member eq (xs ++ x ∷ []) q ≡ (is_member eq xs q || eq q x)
-  is_member-push xs x q = list_any-append (eq q) xs (x ∷ []) ∙ ap (λ b. is_member eq xs q || b) (or_false (eq q x))
+  is_member-push xs x q = list_any-append (eq q) xs (x ∷ []) ∙ ap (λ b. is_member eq xs q || b) (or-false (eq q x))
 
   apart : (x : K) (ys : List K) → is_member eq ys x ≡ false → AllByRecursion (λ y. eq x y ≡ false) ys
   apart x [] h = tt
@@ -78,21 +71,17 @@ module _ {K : Type 0} {eq : K → K → Bool} (laws : IsEquivalence eq) where
   distinct_count-new xs x m =
       let k = keys_of xs in
       let more = length-from_keys laws (x ∷ k.keys) (xs ++ x ∷ []) (distinct_cons x k.keys k.distinct (k.same x ∙ m))
-      (λ q. ap (λ b. eq q x || b) (k.same q) ∙ swap (eq q x) (is_member eq xs q) ∙ sym (is_member-push xs x q)) in
+      (λ q. ap (λ b. eq q x || b) (k.same q) ∙ or_comm (eq q x) (is_member eq xs q) ∙ sym (is_member-push xs x q)) in
       let count = distinct_count-keys xs k in
       omega arith
-    where
-      swap : (a b : Bool) → (a || b) ≡ (b || a)
-      swap true b = sym (or_true b)
-      swap false b = sym (or_false b)
 
   -- a key that is there is none
   pub distinct_count-old : (xs : List K) (x : K) → is_member eq xs x ≡ true → distinct_count eq (xs ++ x ∷ []) ≡ distinct_count eq xs
   distinct_count-old xs x m = distinct_count-same (xs ++ x ∷ []) xs (λ q. is_member-push xs x q ∙ here q (eq q x) refl)
     where
       here : (q : K) (b : Bool) → eq q x ≡ b → (is_member eq xs q || b) ≡ is_member eq xs q
-      here q true t = or_true (is_member eq xs q) ∙ sym (is_member-alike xs q x t ∙ m)
-      here q false t = or_false (is_member eq xs q)
+      here q true t = or-true (is_member eq xs q) ∙ sym (is_member-alike xs q x t ∙ m)
+      here q false t = or-false (is_member eq xs q)
 
   -- what is among others is no more, and less where one of the others isn't among it
   pub distinct_count-within : (xs ys : List K) → ((q : K) → is_member eq xs q ≡ true → is_member eq ys q ≡ true) → distinct_count eq xs ≤ distinct_count eq ys

@@ -1,5 +1,5 @@
 -- Rows of a topology replication in the order of their names.
-use Rattle.std.proofs.Common.{◌≡◌, ℕ, ◌*◌, ◌≤◌, ◌<◌, true, false, List, [], ◌∷◌, length, suc, take, drop, get_or, ◌+◌, ◌-◌, subst, refl, sym, ◌∙◌, ap, arith}
+use Rattle.std.proofs.Common.{◌≡◌, ℕ, ◌*◌, ◌≤◌, ◌<◌, true, false, List, [], ◌∷◌, length, suc, drop, get_or, ◌+◌, ◌-◌, subst, refl, sym, ◌∙◌, ap, arith}
 use Rattle.std.specs.Cmp.{IsTotalOrder}
 use Rattle.std.specs.List.{All}
 use Rattle.std.specs.Ordering.{nat_cmp, eq_by_cmp, is_eq}
@@ -14,7 +14,7 @@ use Rattle.std.proofs.lemmas.List.Elements.{All-cons, All-head, All-tail, All-fr
 use Rattle.cluster_terms.specs.Ascending.{put, put_all, ascending}
 use Rattle.cluster_terms.specs.Factors.{IsFactorRow, IsFactors, by_name, names_of, are_factors, sum_of_factors}
 use Rattle.cluster_terms.proofs.AscendingLemmas.{ascending_sorted, length-ascending, All-put_all}
-use Rattle.cluster_terms.proofs.Put.{put_all_less}
+use Rattle.cluster_terms.proofs.Put.{put_all_from}
 
 -- the order of names is total
 pub by_name_total : IsTotalOrder by_name
@@ -67,10 +67,10 @@ pub total_bounds : (rows : List (List ℕ × ℕ)) → IsFactors rows → (1 ≤
 total_bounds rows factors = (let bounds = sum_bounds rows factors.valid in (omega (arith, factors.some), omega (arith, factors.few)))
 
 -- a copy of the row before a place is put into what the rows from there on have made
-pub put_less : (rows : List (List ℕ × ℕ)) (i : ℕ) (row copied : List ℕ × ℕ) (list new : List (List ℕ × ℕ)) → 0 < i → i ≤ length rows → row ≡ get_or rows (i - 1) row → copied ≡ row → new ≡ put by_name copied list → put_all by_name (take (i - 1) rows) new ≡ put_all by_name (take i rows) list
-put_less rows i row copied list new some within at same is =
-    let less = put_all_less by_name rows i row list some within at in
-    ap (λ (new : List (List ℕ × ℕ)). put_all by_name (take (i - 1) rows) new) (is ∙ ap (λ (first : List ℕ × ℕ). put by_name first list) same) ∙ less
+pub put_less : (rows : List (List ℕ × ℕ)) (i : ℕ) (row copied : List ℕ × ℕ) (list new : List (List ℕ × ℕ)) → 0 < i → i ≤ length rows → row ≡ get_or rows (i - 1) row
+    → list ≡ put_all by_name (drop i rows) [] → copied ≡ row → new ≡ put by_name copied list → new ≡ put_all by_name (drop (i - 1) rows) []
+put_less rows i row copied list new some within at made same is =
+    is ∙ (λ k. put by_name (same k) (made k)) ∙ put_all_from by_name rows i row [] some within at
 
 -- what holds from a place on, and of the row before it, holds from there on
 pub valid_less : (rows : List (List ℕ × ℕ)) (i : ℕ) (row : List ℕ × ℕ) → 0 < i → i ≤ length rows → row ≡ get_or rows (i - 1) row → IsFactorRow row → All IsFactorRow (drop i rows) → All IsFactorRow (drop (i - 1) rows)

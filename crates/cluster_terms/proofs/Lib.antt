@@ -13,6 +13,7 @@ pub mod PlacedByReach
 pub mod PlacedNodes
 pub mod PlacementCounts
 pub mod PlacementLemmas
+pub mod PlacementRows
 pub mod Put
 pub mod QuorumLemmas
 pub mod QuorumRows

@@ -1,6 +1,6 @@
 -- A placement depends on the pairs that reach its token, and on no other.
 use Rattle.std.proofs.Common.{◌≡◌, ℕ, ◌+◌, ◌-◌, ◌<◌, ◌≤◌, min, Bool, true, false, not, ◌||◌, nat_lt, ℤ, List, [], ◌∷◌, is_some, refl, sym, ap, ◌∙◌, arith}
-use Rattle.std.proofs.lemmas.Bool.{false≢true, or_left, and_parts}
+use Rattle.std.proofs.lemmas.Bool.{false≢true, or_left, and_parts, or_parts}
 use Rattle.std.proofs.lemmas.Bool.Decides.{nat_tests}
 use Rattle.std.specs.Cmp.{both_ways}
 use Rattle.std.specs.List.{list_any}
@@ -144,10 +144,6 @@ module _ (g : Group) (fixed widest moved : List Pair) (x : ℤ) (free : is_reach
 -- the difference, from the other ring
 turned : (moved one other : List Pair) → DifferWithin moved one other → DifferWithin moved other one
 turned moved one other differ = record { forth = differ.back; back = differ.forth }
-
-or_parts : (a b : Bool) → (a || b) ≡ false → (a ≡ false) × (b ≡ false)
-or_parts true b h = absurd (false≢true (sym h))
-or_parts false b h = (refl, h)
 
 module _ (fixed widest moved one other : List Pair) (x : ℤ) (ring : IsBetween fixed widest one) (another : IsBetween fixed widest other) (differ : DifferWithin moved one other) where
   replicas-same : (gs : List Group) → is_reached gs fixed widest moved x ≡ false → (v : ℕ) → is_replica_of_any gs x one v ≡ is_replica_of_any gs x other v

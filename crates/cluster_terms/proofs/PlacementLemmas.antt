@@ -1,6 +1,6 @@
 -- The placement depends on which pairs there are.
 use Rattle.std.proofs.Common.{◌≡◌, ℕ, Bool, true, false, not, ◌&&◌, ◌||◌, if◌then◌else◌, nat_eq, ℤ, List, [], ◌∷◌, ◌++◌, filter, refl, sym, ap, ◌∙◌}
-use Rattle.std.proofs.lemmas.Bool.{false≢true, or_right}
+use Rattle.std.proofs.lemmas.Bool.{false≢true, or_right, and_parts}
 use Rattle.std.proofs.lemmas.List.Sorted.{list_any-IsPermutation}
 use Rattle.std.proofs.lemmas.Map.Lookups.{exact_unsigned}
 use Rattle.std.proofs.lemmas.Map.Made.{is_member-filter}
@@ -38,10 +38,6 @@ tied [] v = refl
 tied (x ∷ xs) v = λ i. unsigned_tied v x i || tied xs v i
 
 module _ (x : ℤ) (ps : List Pair) where
-  and_first : (a b : Bool) → (a && b) ≡ true → a ≡ true
-  and_first true b h = refl
-  and_first false b h = h
-
   -- a replica is a node of the ring
   chosen-has : (g : Group) (qs : List Pair) (v : ℕ) → list_any (is_chosen_at g x ps v) qs ≡ true → has (nodes_of qs) v ≡ true
   chosen-has g [] v h = h
@@ -49,7 +45,7 @@ module _ (x : ℤ) (ps : List Pair) where
     where
       by : (b : Bool) → is_chosen_at g x ps v q ≡ b → (b || list_any (is_chosen_at g x ps v) qs) ≡ true
           → (list_any (is_chosen_at g x ps v) qs ≡ true → has (nodes_of qs) v ≡ true) → (nat_eq v q.node || has (nodes_of qs) v) ≡ true
-      by true here e rest = ap (λ b. b || has (nodes_of qs) v) (and_first (nat_eq v q.node) _ here)
+      by true here e rest = ap (λ b. b || has (nodes_of qs) v) ((and_parts (nat_eq v q.node) _ here).0)
       by false here e rest = or_right (nat_eq v q.node) (has (nodes_of qs) v) (rest e)
 
   pub replica-has : (gs : List Group) (v : ℕ) → is_replica_of_any gs x ps v ≡ true → has (nodes_of ps) v ≡ true

@@ -21,7 +21,8 @@ arc-between x w y t le out_y out_t = grind (arith, ints)
 
 -- ---- from x to w
 
-ahead-between : (x w y : ℤ) → x ≤ℤ w → in_arc x w y ≡ false → (ps : List Pair) → AllByRecursion (λ p. in_arc x w p.token ≡ false) ps → ahead_of x y ps ≡ ahead_of w y ps
+-- the same pairs are ahead of a token
+pub ahead-between : (x w y : ℤ) → x ≤ℤ w → in_arc x w y ≡ false → (ps : List Pair) → AllByRecursion (λ p. in_arc x w p.token ≡ false) ps → ahead_of x y ps ≡ ahead_of w y ps
 ahead-between x w y le out [] h = refl
 ahead-between x w y le out (p ∷ ps) h =
     let rest = ahead-between x w y le out ps h.1 in

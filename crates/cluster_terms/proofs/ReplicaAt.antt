@@ -1,6 +1,6 @@
 -- A replica, by its first pair.
-use Rattle.std.proofs.Common.{◌≡◌, ℕ, Bool, true, false, not, ◌&&◌, nat_eq, ℤ, List, Option, Some, None, refl, sym, ap, ◌∙◌}
-use Rattle.std.proofs.lemmas.Bool.{false≢true, and_parts}
+use Rattle.std.proofs.Common.{◌≡◌, ℕ, true, false, not, ◌&&◌, nat_eq, ℤ, List, Option, Some, None, refl, sym, ap, ◌∙◌}
+use Rattle.std.proofs.lemmas.Bool.{false≢true, and_parts, not-true}
 use Rattle.std.proofs.lemmas.Map.Views.{exact_unsigned_eq}
 use Rattle.std.specs.Cmp.{nat_eq_equiv}
 use Rattle.cluster_terms.proofs.GroupLemmas.{has, has_rack, is_chosen_by, is_chosen_rack-by}
@@ -20,10 +20,6 @@ pub record IsReplicaAt (g : Group) (x : ℤ) (ps : List Pair) (v : ℕ) : Type 0
   pub first : has (nodes_of (ahead_of x pair.token ps)) v ≡ false
   pub chosen : is_chosen_by (wanted g (nodes_of ps)) (spare g (nodes_of ps)) (node_count g (nodes_of (ahead_of x pair.token ps)))
       (rack_count g (nodes_of (ahead_of x pair.token ps))) (has_rack g (nodes_of (ahead_of x pair.token ps)) rack) ≡ true
-
-not_true : (b : Bool) → not b ≡ true → b ≡ false
-not_true true h = absurd (false≢true h)
-not_true false h = refl
 
 -- the two ways between it and the test
 pub IsReplicaAt-from_replica : (g : Group) (x : ℤ) (ps : List Pair) (v : ℕ) → is_replica g x ps v ≡ true → IsReplicaAt g x ps v
@@ -53,7 +49,7 @@ IsReplicaAt-from_replica g x ps v h = at (found_from_any (is_chosen_at g x ps v)
           there = f.there;
           node = same;
           in_rack = is;
-          first = ap (has (nodes_of (ahead_of x p.token ps))) same ∙ has-nodes_of (ahead_of x p.token ps) p.node ∙ not_true _ parts.0;
+          first = ap (has (nodes_of (ahead_of x p.token ps))) same ∙ has-nodes_of (ahead_of x p.token ps) p.node ∙ not-true _ parts.0;
           chosen = sym (is_chosen_rack-by g (nodes_of ps) (nodes_of (ahead_of x p.token ps)) rack) ∙ c;
         }
 

@@ -1,6 +1,6 @@
 -- How many replicas a group has: no more than it asks for.
 use Rattle.std.proofs.Common.{◌≡◌, ℕ, ◌+◌, ◌-◌, ◌<◌, ◌≤◌, min, Bool, true, false, not, ◌&&◌, ◌||◌, cond, nat_eq, nat_lt, ℤ, List, [], ◌∷◌, map, filter, filter_map, length, Option, Some, None, is_some, refl, sym, ap, ◌∙◌, arith}
-use Rattle.std.proofs.lemmas.Bool.{false≢true, and_parts, or_left, or_right}
+use Rattle.std.proofs.lemmas.Bool.{false≢true, and_parts, or_left, or_right, not-true}
 use Rattle.std.proofs.lemmas.Bool.Decides.{nat_tests}
 use Rattle.std.proofs.lemmas.Cmp.{nat_list_eq_equiv}
 use Rattle.std.proofs.lemmas.Int.{ints}
@@ -69,16 +69,12 @@ module _ (g : Group) (x : ℤ) (ps : List Pair) where
       parts : (is_first x ps p ≡ true) × (is_chosen g (nodes_of ps) (ahead p) (g.rack_of p.node) ≡ true)
       parts = and_parts (is_first x ps p) (is_chosen g (nodes_of ps) (ahead p) (g.rack_of p.node)) rest
 
-      not_true : (b : Bool) → not b ≡ true → b ≡ false
-      not_true true e = absurd (false≢true e)
-      not_true false e = refl
-
       by : (o : Option (List ℕ)) → g.rack_of p.node ≡ o → is_chosen g (nodes_of ps) (ahead p) o ≡ true → IsTaken p
       by None is c = absurd (false≢true c)
       by (Some rack) is c = record {
         rack = rack;
         in_rack = is;
-        first = has-nodes_of (ahead_of x p.token ps) p.node ∙ not_true _ parts.0;
+        first = has-nodes_of (ahead_of x p.token ps) p.node ∙ not-true _ parts.0;
         chosen = sym (is_chosen_rack-by g (nodes_of ps) (ahead p) rack) ∙ c;
       }
 

@@ -11,7 +11,7 @@ use Rattle.std.proofs.lemmas.List.Splits.{slice_split_none, slice_split_at}
 use Rattle.cluster_terms.specs.Factors.{IsFactorRow, IsFactors, by_name}
 use Rattle.cluster_terms.specs.Name.{is_name, is_name_byte}
 use Rattle.cluster_terms.specs.Replication.{IsReplication}
-use Rattle.cluster_terms.specs.ReplicationText.{words_of, is_colon, row_of, rows_of, factors_of, replication_of, replication_of_words, row_text, text_of}
+use Rattle.cluster_terms.specs.ReplicationText.{words_of, is_colon, factor_row_of, rows_of, factors_of, replication_of, replication_of_words, row_text, text_of}
 use Rattle.cluster_terms.specs.Rf.{IsFactor, factor_of}
 use Rattle.cluster_terms.specs.declared.replication.Replication.{Replication}
 use Rattle.cluster_terms.specs.declared.replication.Replication.TheVariants.{Simple, Topology}
@@ -72,9 +72,9 @@ at_colon (b ∷ bs) text lacks =
     grind arith
 
 -- the word of a row reads as the row
-row_of-word : (row : List ℕ × ℕ) → IsFactorRow row → row_of (row_word row) ≡ Some row
-unfolding row_of
-row_of-word row is =
+factor_row_of-word : (row : List ℕ × ℕ) → IsFactorRow row → factor_row_of (row_word row) ≡ Some row
+unfolding factor_row_of
+factor_row_of-word row is =
     let name : is_name row.0 ≡ true = is.name in
     let place = at_colon row.0 (decimal row.1) (name_lacks 58 refl row.0 (name_bytes row.0 is.name)) in
     let dc : before_first is_colon (row_word row) ≡ row.0 = ap (λ (k : ℕ). take k (row_word row)) place ∙ take-append_seam row.0 (58 ∷ decimal row.1) in
@@ -83,10 +83,10 @@ row_of-word row is =
     grind arith
 
 -- the words of rows read as the rows
-all_rows : (rows : List (List ℕ × ℕ)) → All IsFactorRow rows → (list_all (λ (word : List ℕ). is_some (row_of word)) (map row_word rows) ≡ true) × (filter_map row_of (map row_word rows) ≡ rows)
+all_rows : (rows : List (List ℕ × ℕ)) → All IsFactorRow rows → (list_all (λ (word : List ℕ). is_some (factor_row_of word)) (map row_word rows) ≡ true) × (filter_map factor_row_of (map row_word rows) ≡ rows)
 all_rows [] all = (refl, refl)
 all_rows (row ∷ rows) all =
-    let here = row_of-word row (All-head IsFactorRow row rows all) in
+    let here = factor_row_of-word row (All-head IsFactorRow row rows all) in
     let rest = all_rows rows (All-tail IsFactorRow row rows all) in
     (grind (arith, rest.0), grind (arith, rest.1))
 

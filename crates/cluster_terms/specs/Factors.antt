@@ -1,4 +1,4 @@
--- The factors of a topology replication: datacenters, each with how many replicas it is to have.
+-- The factors of a topology replication: datacenters, each with its number of replicas.
 use Rattle.std.specs.Prelude.{ℕ, ◌≤◌, Bool, ◌&&◌, List, map, length, nat_le, ◌==◌, IsTrue, sum_by}
 use Rattle.std.specs.Cmp.Lexicographic.{slice_cmp}
 use Rattle.std.specs.List.{All}
@@ -10,15 +10,15 @@ use Rattle.std.specs.declared.cmp.Ordering.{Ordering}
 use Rattle.cluster_terms.specs.Name.{is_name}
 use Rattle.cluster_terms.specs.Rf.{IsFactor}
 
--- rows stand in the order of the bytes of their names
+-- rows are ordered by the bytes of their names
 abbrev pub by_name : List ℕ × ℕ → List ℕ × ℕ → Ordering
 by_name a b = slice_cmp nat_cmp a.0 b.0
 
--- the names of some rows
+-- the names of the rows
 abbrev pub names_of : List (List ℕ × ℕ) → List (List ℕ)
 names_of rows = map (λ row. row.0) rows
 
--- whether some rows make factors: there are 1 to 16, and no name comes twice
+-- whether rows make up factors: there are 1 to 16 rows, and no two of them have the same name
 abbrev pub are_factors : List (List ℕ × ℕ) → Bool
 are_factors rows =
     nat_le 1 (length rows) && nat_le (length rows) 16 && (distinct_count bytes_eq (names_of rows) == length rows)
@@ -35,6 +35,6 @@ pub record IsFactors (rows : List (List ℕ × ℕ)) : Type 0 where
   pub ascending : IsStrictlySortedBy by_name rows
   pub valid : All IsFactorRow rows
 
--- how many replicas they ask for, in all
+-- the number of replicas that the factors ask for in all
 abbrev pub sum_of_factors : List (List ℕ × ℕ) → ℕ
 sum_of_factors rows = sum_by (λ row. row.1) rows

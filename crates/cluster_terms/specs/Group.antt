@@ -1,4 +1,4 @@
--- Replicas by counting, as the walks of SimpleStrategy and NetworkTopologyStrategy take them.
+-- Replicas, defined by counting. The walks of SimpleStrategy and NetworkTopologyStrategy take the same nodes.
 use Rattle.std.specs.Prelude.{ℕ, ◌-◌, ◌+◌, min, Bool, false, not, ◌&&◌, ◌||◌, ℤ, List, map, filter, filter_map, Option, Some, None, is_some, nat_eq, nat_lt, ◌==◌}
 use Rattle.std.specs.List.{list_any}
 use Rattle.std.specs.Ordering.{nat_cmp}
@@ -8,34 +8,34 @@ use Rattle.cluster_terms.specs.Arc.{in_arc}
 use Rattle.cluster_terms.specs.Ascending.{ascending}
 use Rattle.cluster_terms.specs.declared.token.Pair.{Pair}
 
--- some nodes, each with its rack, and how many replicas they are to have
+-- a group of nodes, each with its rack, and the number of replicas that the group is to have
 pub record Group : Type 0 where
   pub rf : ℕ
-  -- the rack of a node; none for a node outside the group
+  -- the rack of a node; None for a node outside the group
   pub rack_of : ℕ → Option (List ℕ)
 
--- the nodes of some pairs, as often as they stand there
+-- the nodes of the pairs, with repeats
 abbrev pub nodes_of : List Pair → List ℕ
 nodes_of ps = map (λ p. p.node) ps
 
--- how many nodes of the group are among these nodes, and how many racks they have
+-- the number of distinct nodes of the group among these nodes, and the number of their distinct racks
 abbrev pub node_count : Group → List ℕ → ℕ
 node_count g ns = distinct_count nat_eq (filter (λ n. is_some (g.rack_of n)) ns)
 
 abbrev pub rack_count : Group → List ℕ → ℕ
 rack_count g ns = distinct_count bytes_eq (filter_map g.rack_of ns)
 
--- how many replicas are to be found in a ring with these nodes, and how many of them may stand in a rack that has one:
--- NetworkTopologyStrategy's acceptable rack repeats
+-- the number of replicas to find in a ring with these nodes, and how many of them may stand in a rack that already has
+-- a replica: NetworkTopologyStrategy's acceptable rack repeats
 abbrev pub wanted : Group → List ℕ → ℕ
 wanted g ns = min g.rf (node_count g ns)
 
 abbrev pub spare : Group → List ℕ → ℕ
 spare g ns = g.rf - min g.rf (rack_count g ns)
 
--- whether a node of this rack is a replica in a ring with the nodes ns, where the nodes ahead are met before it. Of d
--- such nodes in p racks a walk has taken min (p + spare) d: the first of each rack, and as many further ones as may be.
--- These aren't all that are wanted, and its rack is new or a further node of a rack may still be taken
+-- whether the next node, in this rack, is a replica in a ring with the nodes ns, where the nodes ahead are met before
+-- it. Of the group's d nodes ahead in p racks a walk has taken min (p + spare) d: the first of each rack, and up to
+-- `spare` further nodes. The node is a replica if more replicas are wanted, and its rack is new or a repeat is left
 unfoldable pub is_chosen_rack : Group → List ℕ → List ℕ → List ℕ → Bool
 is_chosen_rack g ns ahead rack =
     let d = node_count g ahead in
@@ -43,7 +43,7 @@ is_chosen_rack g ns ahead rack =
     nat_lt (min (p + spare g ns) d) (wanted g ns)
     && (not (is_member bytes_eq (filter_map g.rack_of ahead) rack) || nat_lt (d - p) (spare g ns))
 
--- the same of a node; a node outside the group is none
+-- the same for a node whose rack may be None; a node outside the group is not chosen
 abbrev pub is_chosen : Group → List ℕ → List ℕ → Option (List ℕ) → Bool
 is_chosen g ns ahead None = false
 is_chosen g ns ahead (Some rack) = is_chosen_rack g ns ahead rack
@@ -65,7 +65,7 @@ is_chosen_at g x ps v p =
 unfoldable pub is_replica : Group → ℤ → List Pair → ℕ → Bool
 is_replica g x ps v = list_any (is_chosen_at g x ps v) ps
 
--- whether v is a replica of one of some groups at x
+-- whether v is a replica of any of the groups at x
 abbrev pub is_replica_of_any : List Group → ℤ → List Pair → ℕ → Bool
 is_replica_of_any gs x ps v = list_any (λ g. is_replica g x ps v) gs
 

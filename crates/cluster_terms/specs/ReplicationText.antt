@@ -9,7 +9,7 @@ use Rattle.cluster_terms.specs.Rf.{factor_of}
 use Rattle.cluster_terms.specs.declared.replication.Replication.{Replication}
 use Rattle.cluster_terms.specs.declared.replication.Replication.TheVariants.{Simple, Topology}
 
--- the words of a text, which are parted by single spaces
+-- the words of a text, separated by single spaces
 abbrev pub words_of : List ℕ → List (List ℕ)
 words_of text = slice_split (λ byte. byte == 32) text
 
@@ -17,16 +17,16 @@ words_of text = slice_split (λ byte. byte == 32) text
 abbrev pub is_colon : ℕ → Bool
 is_colon byte = byte == 58
 
-unfoldable pub row_of : List ℕ → Option (List ℕ × ℕ)
-row_of word =
+unfoldable pub factor_row_of : List ℕ → Option (List ℕ × ℕ)
+factor_row_of word =
     let dc = before_first is_colon word in
     if is_name dc then option_map (λ n. (dc, n)) (factor_of (after_first is_colon word)) else None
 
--- words DC:RF, each of them
+-- the rows of the words, if each word has the form DC:RF
 unfoldable pub rows_of : List (List ℕ) → Option (List (List ℕ × ℕ))
-rows_of words = if list_all (λ word. is_some (row_of word)) words then Some (filter_map row_of words) else None
+rows_of words = if list_all (λ word. is_some (factor_row_of word)) words then Some (filter_map factor_row_of words) else None
 
--- the factors with some rows, if they make factors
+-- the factors with these rows, if the rows make up factors
 abbrev pub factors_of : List (List ℕ × ℕ) → Option (List (List ℕ × ℕ))
 factors_of rows = if are_factors rows then Some (ascending by_name rows) else None
 
@@ -43,7 +43,7 @@ replication_of_words (word ∷ words) =
     else if bytes_eq word (codes "topology") then option_map Topology (option_and_then factors_of (rows_of words))
     else None
 
--- the replication that a text writes
+-- the replication that a text stands for, if any
 abbrev pub replication_of : List ℕ → Option Replication
 replication_of text = replication_of_words (words_of text)
 

@@ -6,12 +6,12 @@ use Rattle.cluster_terms.specs.declared.row.TokenRange.{TokenRange}
 use Rattle.cluster_terms.specs.declared.token.RightEnd.{RightEnd}
 use Rattle.cluster_terms.specs.declared.token.RightEnd.TheVariants.{At, Max}
 
--- whether no token is past this left end
+-- whether no token comes after this left end
 abbrev pub is_last : Option ℤ → Bool
 is_last None = false
 is_last (Some t) = int_eq t greatest_token
 
--- the rows from this left end on: one up to each cut, and one past the last cut where a token is left
+-- the rows after this left end: one up to each cut, and one for the tokens after the last cut, if any
 abbrev pub rows_from : Option ℤ → List ℤ → List TokenRange
 rows_from left [] = if is_last left then [] else (record { left = left; right = Max }) ∷ []
 rows_from left (cut ∷ cuts) = (record { left = left; right = At cut }) ∷ rows_from (Some cut) cuts

@@ -1,4 +1,4 @@
-//! Tokens, nodes, names, replications, and the placement that a ring gives to them.
+//! Tokens, nodes, names, replications, and the definition of where a ring places replicas.
 #![tactic(auto)]
 
 pub mod ascending;
@@ -13,6 +13,7 @@ pub mod rf;
 pub mod row;
 pub mod steps;
 pub mod token;
+pub mod validity;
 
 pub use ascending::{Ordered, put_in_order};
 pub use factors::Factors;

@@ -8,9 +8,9 @@ use crate::token::{Pair, Token};
 use std::alloc::Global;
 use std::marker::Model;
 
-/// A value that can be copied where memory is found.
+/// A value that can be copied if there is enough memory.
 pub trait TryCopy {
-    /// An equal value.
+    /// An equal value, or `Memory` if memory runs out.
     fn copy(&self) -> Result<Self, Memory>
         ensures { IfOk result (λ copied. copied ≡ self.now) };
 }
@@ -39,17 +39,17 @@ impl<T> Model for SmallList<T> {
     ghost view = { λ list. list.items.items };
 }
 
-/// Tokens in a row.
+/// A list of tokens.
 pub type TokenList = SmallList<Token>;
 
-/// Pairs in a row.
+/// A list of pairs.
 pub type PairList = SmallList<Pair>;
 
-/// Bytes in a row.
+/// A list of bytes.
 pub type ByteText = SmallList<u8>;
 
 impl<T> SmallList<T> {
-    /// The list of nothing.
+    /// The empty list.
     pub fn empty(alloc: Global) -> Self
         ensures { result ≡ [] }
     {
@@ -65,9 +65,10 @@ impl<T> SmallList<T> {
         SmallList { items }
     }
 
-    /// Adds an item at the end. Want of memory hands the item back and changes nothing.
+    /// Adds an item at the end. If memory runs out, returns the item and leaves the list unchanged.
     pub fn push(&mut self, item: T) -> Result<(), (T, Memory)>
-        ensures { MatchResult result (λ _. self.new ≡ self.old ++ item ∷ []) (λ e. (self.new ≡ self.old) × (e.0 ≡ item)) }
+        ensures { MatchResult result (λ _. self.new ≡ self.old ++ item ∷ [])
+            (λ e. (self.new ≡ self.old) × (e.0 ≡ item)) }
     {
         match self.items.push(item) {
             Ok(()) => Ok(()),
@@ -75,10 +76,12 @@ impl<T> SmallList<T> {
         }
     }
 
-    /// Puts an item before the one at a place, or at the end. Want of memory hands the item back and changes nothing.
+    /// Inserts an item at position `at`, which is at most the length, and moves each later item. If memory runs out,
+    /// returns the item and leaves the list unchanged.
     pub fn insert(&mut self, at: usize, item: T) -> Result<(), (T, Memory)>
         requires { at ≤ length self.old }
-        ensures { MatchResult result (λ _. self.new ≡ insert self.old at item) (λ e. (self.new ≡ self.old) × (e.0 ≡ item)) }
+        ensures { MatchResult result (λ _. self.new ≡ insert self.old at item)
+            (λ e. (self.new ≡ self.old) × (e.0 ≡ item)) }
     {
         match self.items.insert(at, item) {
             Ok(()) => Ok(()),
@@ -95,7 +98,7 @@ impl<T> SmallList<T> {
 }
 
 impl<T: Drop> SmallList<T> {
-    /// Puts an item in the place of another one.
+    /// Replaces the item at position `at`, which is below the length.
     pub fn replace(&mut self, at: usize, item: T)
         requires { at < length self.old }
         ensures { self.new ≡ slice_set self.old at item }
@@ -113,7 +116,7 @@ impl<T: Drop> SmallList<T> {
 }
 
 impl<T: Copy> SmallList<T> {
-    /// Adds copies of some items at the end. Want of memory changes nothing.
+    /// Adds copies of these items at the end. If memory runs out, leaves the list unchanged.
     pub fn extend(&mut self, items: &[T]) -> Result<(), Memory>
         ensures { MatchResult result (λ _. self.new ≡ self.old ++ items.now) (λ _. self.new ≡ self.old) }
     {
@@ -123,7 +126,7 @@ impl<T: Copy> SmallList<T> {
 }
 
 impl<T: TryCopy + Drop> SmallList<T> {
-    /// An equal list.
+    /// An equal list, or `Memory` if memory runs out.
     pub fn copy(&self) -> Result<Self, Memory>
         ensures { IfOk result (λ copied. copied ≡ self.now) }
     {
@@ -132,20 +135,5 @@ impl<T: TryCopy + Drop> SmallList<T> {
             items.push(item.copy()?)?;
         }
         Ok(SmallList { items })
-    }
-}
-
-#[cfg(test)]
-mod tests {
-    use super::*;
-    use std::test::Fail;
-
-    #[test]
-    fn tokens_are_copied(rt: HostRuntime) -> Result<(), Fail> {
-        let mut tokens = TokenList::empty(rt.alloc());
-        assert!(rt; tokens.push(Token::new(7)).is_ok());
-        let copied = tokens.copy();
-        assert!(rt; copied.is_ok());
-        Ok(())
     }
 }

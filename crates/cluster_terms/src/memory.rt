@@ -1,6 +1,6 @@
 use std::alloc::{AllocError, AllocFailed};
 
-/// Want of memory: what was asked for could not be allocated.
+/// Memory ran out: an allocation failed.
 #[derive(Clone, Copy, Debug, PartialEq, Eq)]
 pub struct Memory;
 

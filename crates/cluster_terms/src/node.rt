@@ -23,7 +23,7 @@ impl TryCopy for NodeId {
     }
 }
 
-/// A registered node: its id, its name, where it stands, and whether it has left the cluster.
+/// A registered node: its id, name, datacenter and rack, and whether it has left the cluster.
 #[derive(Debug, Drop)]
 pub struct NodeRow {
     pub id: NodeId,

@@ -5,7 +5,7 @@ use crate::list::{ByteText, TryCopy};
 use crate::memory::Memory;
 use std::marker::Model;
 
-/// A replication factor: how many replicas there are to be, from 1 to 16.
+/// A replication factor: the number of replicas asked for, from 1 to 16.
 #[derive(Clone, Copy, Debug, PartialEq, Eq, PartialOrd, Ord)]
 pub struct Rf {
     value: u8,
@@ -24,7 +24,7 @@ impl Model for Rf {
 }
 
 impl Rf {
-    /// The factor of a number. `None` comes exactly outside 1 to 16.
+    /// The factor with this number. Returns `None` if and only if the number is not from 1 to 16.
     pub fn new(n: u8) -> Option<Rf>
         ensures valid { IsSome result ↔ ((1 ≤ n) × (n ≤ 16)) }
         ensures value { IfSome result (λ rf. rf ≡ n) }
@@ -36,8 +36,7 @@ impl Rf {
         }
     }
 
-    /// The factor that a text writes: a number from 1 to 16 in decimal digits, without a leading zero. `None` comes
-    /// exactly for any other text.
+    /// Parses a number from 1 to 16 in decimal digits, without a leading zero. Returns `None` for any other text.
     #[tactic(auto, using(crate::proofs::FactorTexts::no_factor))]
     pub fn from_text(text: &[u8]) -> Option<Rf>
         ensures { result ≡ factor_of text.now }
@@ -53,7 +52,7 @@ impl Rf {
         }
     }
 
-    /// Adds the factor's text. Want of memory changes nothing.
+    /// Appends the factor in decimal digits. If memory runs out, leaves `out` unchanged.
     #[tactic(auto, using(crate::proofs::FactorTexts::two_digits, std::proofs::lemmas::Fmt::decimal_digit))]
     pub fn write(self, out: &mut ByteText) -> Result<(), Memory>
         ensures text { MatchResult result (λ _. out.new ≡ out.old ++ decimal self) (λ _. out.new ≡ out.old) }

@@ -1,21 +1,22 @@
-ghost use Rattle.std.specs.Prelude.{◌≡◌, IfOk};
-ghost use Rattle.cluster_terms.specs.Arc.{greatest_token as greatest};
-ghost use Rattle.cluster_terms.specs.Row.{is_last as is_last_end, last_token as last_in, rows_between as rows_of};
+ghost use Rattle.std.specs.Prelude.{◌≡◌, IfOk, OnOk};
+ghost use Rattle.std.specs.List.{AllByRecursion};
+ghost use Rattle.cluster_terms.specs.Arc.{IsToken, greatest_token};
+ghost use Rattle.cluster_terms.specs.Row as spec;
 
 use crate::list::{SmallList, TryCopy};
 use crate::memory::Memory;
 use crate::token::{RightEnd, Token};
 use std::alloc::Global;
 
-/// A range of tokens, without its left end and with its right end. No left end stands for the place before the
-/// least token.
+/// A range of tokens that excludes `left` and includes `right`. If `left` is `None`, the range begins with the least
+/// token.
 #[derive(Clone, Copy, Debug, PartialEq, Eq)]
 pub struct TokenRange {
     pub left: Option<Token>,
     pub right: RightEnd,
 }
 
-/// Ranges in a row.
+/// A list of ranges.
 pub type Rows = SmallList<TokenRange>;
 
 impl TryCopy for TokenRange {
@@ -25,9 +26,9 @@ impl TryCopy for TokenRange {
 }
 
 impl TokenRange {
-    /// The last token of the row.
+    /// The last token of the range. It is 2^63 - 1 if the right end is `Max`.
     pub fn last_token(&self) -> Token
-        ensures { result ≡ last_in self.now.right }
+        ensures { result ≡ spec.last_token self.now.right }
     {
         match self.right {
             RightEnd::At(token) => token,
@@ -38,14 +39,14 @@ impl TokenRange {
 
 /// The greatest token, 2^63 - 1.
 fn greatest_token() -> Token
-    ensures { result ≡ greatest }
+    ensures { result ≡ greatest_token }
 {
     Token::new(i64::MAX)
 }
 
-/// Whether no token is past a left end.
+/// Whether no token comes after this left end.
 fn is_last(left: &Option<Token>) -> bool
-    ensures { result ≡ is_last_end left.now }
+    ensures { result ≡ spec.is_last left.now }
 {
     match left {
         None => false,
@@ -53,14 +54,15 @@ fn is_last(left: &Option<Token>) -> bool
     }
 }
 
-/// The rows between ascending cuts: one up to each cut, and one past the last cut where a token is left.
+/// The ranges between ascending cuts: one up to each cut, and one for the tokens after the last cut, if any.
 pub fn rows_between(alloc: Global, cuts: &[Token]) -> Result<Rows, Memory>
-    ensures { IfOk result (λ rows. rows ≡ rows_of cuts.now) }
+    ensures rows { IfOk result (λ rows. rows ≡ spec.rows_between cuts.now) }
+    ensures tokens { OnOk result (AllByRecursion IsToken cuts.now) }
 {
     let mut rows = Rows::empty(alloc);
     let mut left = None;
     for cut in cuts {
-        let right = RightEnd::At(*cut);
+        let right = RightEnd::At(cut.copy()?);
         rows.push(TokenRange { left, right })?;
         left = Some(*cut);
     }
@@ -69,19 +71,4 @@ pub fn rows_between(alloc: Global, cuts: &[Token]) -> Result<Rows, Memory>
         rows.push(TokenRange { left, right })?;
     }
     Ok(rows)
-}
-
-#[cfg(test)]
-mod tests {
-    use super::*;
-    use std::test::Fail;
-
-    #[test]
-    fn rows_end_at_the_greatest_token(rt: HostRuntime) -> Result<(), Fail> {
-        for (cut, want) in [(0, 2), (i64::MIN, 2), (i64::MAX, 1)] {
-            let rows = rows_between(rt.alloc(), &[Token::new(cut)])?;
-            assert_eq!(rt; rows.as_slice().len(), want, "cut at {cut}");
-        }
-        Ok(())
-    }
 }

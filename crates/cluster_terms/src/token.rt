@@ -22,7 +22,7 @@ impl Model for Token {
 }
 
 impl Token {
-    /// The token of a number. Every `i64` is a token.
+    /// The token with this number. Every `i64` is a token.
     pub fn new(v: i64) -> Token
         ensures { result ≡ v }
     {
@@ -38,12 +38,15 @@ impl Token {
 }
 
 impl TryCopy for Token {
-    fn copy(&self) -> Result<Token, Memory> {
-        Ok(*self)
+    fn copy(&self) -> Result<Token, Memory>
+        ensures copied { IfOk result (λ copied. copied ≡ self.now) }
+        ensures token { IsToken self.now }
+    {
+        Ok(Token { value: self.value })
     }
 }
 
-/// Looks at each of some tokens: each is a number from -2^63 to 2^63 - 1.
+/// States that each token is a number from -2^63 to 2^63 - 1. The cost is one pass over the tokens.
 pub fn tokens_in_range(tokens: &[Token])
     ensures { AllByRecursion IsToken tokens.now }
 {
@@ -52,7 +55,7 @@ pub fn tokens_in_range(tokens: &[Token])
     }
 }
 
-/// A token of a node.
+/// A token and the node that has it.
 #[derive(Clone, Copy, Debug, PartialEq, Eq)]
 pub struct Pair {
     pub token: Token,
@@ -65,7 +68,7 @@ impl TryCopy for Pair {
     }
 }
 
-/// The right end of a row: a token, or the place past the greatest token.
+/// The right end of a range: a token, or the place past the greatest token.
 #[derive(Clone, Copy, Debug, PartialEq, Eq)]
 pub enum RightEnd {
     At(Token),

@@ -8,7 +8,7 @@ use Rattle.indexmap.specs.Layout.{set_value_at}
 use Rattle.cluster_terms.specs.declared.node.NodeRow.{NodeRow}
 use Rattle.node_directory.specs.Directory.{Registry, are_ascending, are_distinct, ids_of, names_of, is_directory, node_named, registered, without, with_left}
 use Rattle.node_directory.specs.Kept.{AreNamed, IsKept, IsPlace}
-use Rattle.node_directory.proofs.RowLemmas.{ascending_lower, directory_from, directory-registered, directory-without, directory-with_left, absent-from_free}
+use Rattle.node_directory.proofs.NodeRows.{ascending_lower, directory_from, directory-registered, directory-without, directory-with_left, absent-from_free}
 use Rattle.node_directory.proofs.KeptLemmas.{AreNamed-insert, values-insert, AreNamed-remove, values-remove, values-set, AreNamed-with_left}
 use Rattle.node_directory.proofs.SearchLemmas.{without-place, with_left-place}
 

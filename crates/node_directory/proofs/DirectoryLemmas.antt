@@ -9,7 +9,7 @@ use Rattle.std.specs.Set.{is_member}
 use Rattle.std.specs.Str.{bytes_eq}
 use Rattle.std.specs.declared.cmp.Ordering.TheVariants.{Less}
 use Rattle.cluster_terms.specs.declared.node.NodeRow.{NodeRow}
-use Rattle.node_directory.proofs.RowLemmas.{ascending_cons, directory_from}
+use Rattle.node_directory.proofs.NodeRows.{ascending_cons, directory_from}
 use Rattle.node_directory.specs.Directory.{are_ascending, are_distinct, ids_of, is_directory, names_of}
 
 -- ---- names

@@ -11,7 +11,7 @@ use Rattle.indexmap.specs.Layout.{set_value_at}
 use Rattle.cluster_terms.specs.declared.node.NodeRow.{NodeRow}
 use Rattle.node_directory.specs.Directory.{Registry, names_of, node_named, with_left}
 use Rattle.node_directory.specs.Kept.{AreNamed}
-use Rattle.node_directory.proofs.RowLemmas.{is_some-named, names-with_left}
+use Rattle.node_directory.proofs.NodeRows.{is_some-named, names-with_left}
 
 module _ {Y : Type 0} where
   first_name : (e : String Y × NodeRow) (es : List (String Y × NodeRow)) → AreNamed (e ∷ es) → string_bytes e.0 ≡ e.1.name

@@ -1,5 +1,7 @@
-pub mod RowLemmas
-pub mod KeptLemmas
-pub mod SearchLemmas
 pub mod ChangeLemmas
 pub mod DirectoryLemmas
+pub mod KeptLemmas
+pub mod MetLists
+pub mod NodeRows
+pub mod SearchLemmas
+pub mod TallyLemmas

@@ -14,7 +14,7 @@ use Rattle.cluster_terms.specs.NodeRow.{row_of}
 use Rattle.cluster_terms.specs.declared.node.NodeRow.{NodeRow}
 use Rattle.node_directory.specs.Directory.{are_ascending, ids_of, is_directory, without, with_left}
 use Rattle.node_directory.specs.Kept.{IsPlace, IsPlaceOf}
-use Rattle.node_directory.proofs.RowLemmas.{ascends, id_at, ids-ascend, row_of-at, without-at, with_left-at}
+use Rattle.node_directory.proofs.NodeRows.{ascends, id_at, ids-ascend, row_of-at, without-at, with_left-at}
 
 -- the ids at two places are in the order of the places
 id-le : (least : ℕ) (rows : List NodeRow) (next : ℕ) → are_ascending least (ids_of rows) next ≡ true → (i j : ℕ) (d : NodeRow) → i ≤ j → j < length rows → (get_or rows i d).id ≤ (get_or rows j d).id

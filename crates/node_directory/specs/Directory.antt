@@ -17,7 +17,7 @@ ids_of rows = map (λ row. row.id) rows
 abbrev pub names_of : List NodeRow → List (List ℕ)
 names_of rows = map (λ row. row.name) rows
 
--- whether some ids ascend, the first of them not below `least`, and are below `next`
+-- whether ids ascend, the first id not below `least`, and all are below `next`
 abbrev pub are_ascending : ℕ → List ℕ → ℕ → Bool
 are_ascending least [] next = true
 are_ascending least (id ∷ ids) next = nat_le least id && nat_lt id next && are_ascending (id + 1) ids next
@@ -27,21 +27,21 @@ abbrev pub are_distinct : List (List ℕ) → Bool
 are_distinct [] = true
 are_distinct (name ∷ names) = not (is_member bytes_eq names name) && are_distinct names
 
--- whether these may be the rows of a directory: ids ascend from `least` or more and are below the next one, and no
+-- whether these can be the rows of a directory: the ids ascend, begin at `least` or more and are below `next`, and no
 -- name comes twice
 abbrev pub is_directory : ℕ → List NodeRow → ℕ → Bool
 is_directory least rows next = are_ascending least (ids_of rows) next && are_distinct (names_of rows)
 
--- the node with a name, nodes that left included; none where no node has it
+-- the node with this name, which may be a node that left; None if no node has the name
 abbrev pub node_named : List NodeRow → List ℕ → Option ℕ
 node_named rows name = option_map (λ row. row.id) (find (λ row. bytes_eq name row.name) rows)
 
--- the datacenter and the rack of a node; none where it is not registered
+-- the datacenter and the rack of a node; None if the node is not registered
 abbrev pub place_in : List NodeRow → ℕ → Option (List ℕ × List ℕ)
 place_in rows n =
     let place : NodeRow → List ℕ × List ℕ = λ row. (row.dc, row.rack) in option_map place (row_of rows n)
 
--- the directory after a node is registered: its row comes last, with the next id
+-- the directory after a registration: the row of the new node is last and has the next id
 abbrev pub registered : Registry → List ℕ → List ℕ → List ℕ → Registry
 registered old name dc rack =
     let row : NodeRow = record { id = old.next; name = name; dc = dc; rack = rack; left = false } in
@@ -51,10 +51,10 @@ registered old name dc rack =
 abbrev pub without : List NodeRow → ℕ → List NodeRow
 without rows n = filter (λ row. not (row.id == n)) rows
 
--- a row, marked where it is that of the node n
+-- the row, marked as left if it is the row of the node n
 abbrev pub marked : ℕ → NodeRow → NodeRow
 marked n row = let left : NodeRow = record row { left = true } in if row.id == n then left else row
 
--- the rows once a node is marked: it has left
+-- the rows after the node n is marked as left
 abbrev pub with_left : List NodeRow → ℕ → List NodeRow
 with_left rows n = map (marked n) rows

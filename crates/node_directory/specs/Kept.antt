@@ -1,4 +1,4 @@
--- How a directory keeps its rows: under their names, in order of id.
+-- How a directory stores its rows: under their names, in order of id.
 use Rattle.std.specs.Prelude.{◌≡◌, ℕ, ◌<◌, List, length, map, HoldsAt, Option, None, MatchOption, string_bytes, slice_get, IsTrue}
 use Rattle.std.specs.Map.{keys_of, values_of}
 use Rattle.std.specs.declared.string.String.{String}
@@ -7,20 +7,20 @@ use Rattle.cluster_terms.specs.declared.node.NodeRow.{NodeRow}
 use Rattle.node_directory.specs.Directory.{names_of, is_directory}
 
 module _ {Y : Type 0} where
-  -- each row is kept under its node's name
+  -- each row is stored under its node's name
   abbrev pub AreNamed : List (String Y × NodeRow) → Type 0
   AreNamed entries = map string_bytes (keys_of entries) ≡ names_of (values_of entries)
 
-  -- each row is kept under its node's name, and the rows are those of a directory
+  -- each row is stored under its node's name, and the rows are those of a directory
   abbrev pub IsKept : List (String Y × NodeRow) → ℕ → Type 0
   IsKept entries next = AreNamed entries × IsTrue (is_directory 0 (values_of entries) next)
 
--- the row of a node is the one at this place
+-- the row of the node n is at position `at`
 pub record IsPlace (rows : List NodeRow) (n at : ℕ) : Type 0 where
   pub in_range : at < length rows
   pub row : slice_get rows at ≡ row_of rows n
   pub id : HoldsAt (λ row. row.id ≡ n) rows at
 
--- where the row of a node stands; none where the node is not registered
+-- the position of a node's row; None if the node is not registered
 abbrev pub IsPlaceOf : List NodeRow → ℕ → Option ℕ → Type 0
 IsPlaceOf rows n found = MatchOption found (row_of rows n ≡ None) (IsPlace rows n)

@@ -1,2 +1,5 @@
 pub mod Directory
 pub mod Kept
+pub mod Members
+pub mod Shape
+pub mod Tally

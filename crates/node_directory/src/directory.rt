@@ -11,10 +11,10 @@ use indexmap::IndexMap;
 use std::alloc::Global;
 use std::marker::Model;
 
-/// The nodes that are registered, in order of registration, and so in order of their ids.
+/// The registered nodes in order of registration, which is also the order of their ids.
 ///
-/// No two nodes have the same name, nodes that left included. The next id is above all ids, and only goes up: no id
-/// is used again.
+/// No two nodes have the same name, including nodes that left. The next id is above all ids and never decreases, so no
+/// id is used again.
 #[derive(Debug, Drop)]
 pub struct Directory {
     /// The rows by name, in order of id.
@@ -35,9 +35,8 @@ impl Model for Directory {
 }
 
 impl Directory {
-    /// The directory of these rows and of the id that the next node gets. `None` comes exactly where the ids do not
-    /// ascend from 1 or more, one of them is not below the next one, or a name comes twice. With no rows the next id
-    /// may be any number.
+    /// The directory with these rows, where `next` is the id of the next node. Returns `None` unless the ids ascend,
+    /// begin at 1 or more and are below `next`, and no name comes twice. Without rows, `next` may be any number.
     pub fn from_rows(
         alloc: Global,
         rows: &[NodeRow],
@@ -55,8 +54,8 @@ impl Directory {
         }
     }
 
-    /// The directory of these rows and of the id that the next node gets. The ids ascend from 1 or more, all of them are
-    /// below the next one, and no name comes twice.
+    /// The directory with these rows, where `next` is the id of the next node. The ids ascend, begin at 1 or more and
+    /// are below `next`, and no name comes twice.
     pub fn from_valid(alloc: Global, rows: &[NodeRow], next: u32) -> Result<Directory, Memory>
         requires { IsTrue (is_directory 1 rows.now next) }
         ensures { IfOk result (λ d. d ≡ record { rows = rows.now; next = next }) }
@@ -67,9 +66,9 @@ impl Directory {
         }
     }
 
-    /// Registers a node in a datacenter and a rack, and answers its id. No node has the name, nodes that left
-    /// included, and the next id is not the greatest number of 32 bits. Want of memory hands the names back and changes
-    /// nothing.
+    /// Registers a node in a datacenter and a rack, and returns its id. The name is free: no node has it, not even a
+    /// node that left. The next id is below 2^32 - 1. If memory runs out, returns the names and leaves the directory
+    /// unchanged.
     pub fn register(
         &mut self,
         name: Name,
@@ -124,7 +123,7 @@ impl Directory {
         let _removed = self.nodes.shift_remove_index(at);
     }
 
-    /// Marks a registered node: it has left the cluster. Its name stays taken. The cost is a binary search.
+    /// Marks a registered node as having left the cluster. Its name stays taken. The cost is a binary search.
     pub fn mark_left(&mut self, n: NodeId)
         requires { IsSome (row_of self.old.rows n) }
         ensures rows { self.new.rows ≡ with_left self.old.rows n }
@@ -134,16 +133,16 @@ impl Directory {
         self.nodes[at].left = true;
     }
 
-    /// The node with this name, nodes that left included. `None` comes exactly where no node has the name. The cost is
-    /// one look-up by hash.
+    /// The node with this name, which may be a node that left. Returns `None` if and only if no node has this name. The
+    /// cost is a look-up by hash.
     pub fn find(&self, name: &Name) -> Option<NodeId>
         ensures { result ≡ node_named self.now.rows name.now }
     {
         self.nodes.get(name.as_str()).map(|row| row.id)
     }
 
-    /// The datacenter and the rack of a node. `None` comes exactly where it is not registered. The cost is a binary
-    /// search.
+    /// The datacenter and the rack of a node. Returns `None` if and only if the node is not registered. The cost is a
+    /// binary search.
     pub fn place_of(&self, n: NodeId) -> Option<(&Name, &Name)>
         ensures { option_map (λ place. (place.0.now, place.1.now)) result ≡ place_in self.now.rows n }
     {
@@ -151,8 +150,8 @@ impl Directory {
         Some((&row.dc, &row.rack))
     }
 
-    /// The rack of a node that stands in a datacenter. `None` comes exactly where it is not registered, or stands in
-    /// another one. A binary search.
+    /// The rack of a node in this datacenter. Returns `None` if and only if the node is not registered or is in another
+    /// datacenter. The cost is a binary search.
     pub fn rack_in(&self, dc: &Name, n: NodeId) -> Option<&Name>
         ensures { option_copied result ≡ rack_within dc.now (row_of self.now.rows n) }
     {
@@ -172,7 +171,7 @@ impl Directory {
         self.next
     }
 
-    /// How many nodes are registered, nodes that left included.
+    /// The number of registered nodes, including nodes that left.
     pub fn len(&self) -> usize
         ensures len { result ≡ length self.now.rows }
         ensures valid { IsTrue (is_directory 0 self.now.rows self.now.next) }
@@ -187,7 +186,7 @@ impl Directory {
         self.nodes.is_empty()
     }
 
-    /// The row at a place in order of registration. `None` comes exactly past the end.
+    /// The row at a position in order of registration. Returns `None` if and only if the position is past the end.
     pub fn row(&self, at: usize) -> Option<&NodeRow>
         ensures { option_copied result ≡ slice_get self.now.rows at }
     {
@@ -195,7 +194,7 @@ impl Directory {
         Some(row)
     }
 
-    /// Where the row of a node stands. `None` comes exactly where the node is not registered.
+    /// The position of a node's row. Returns `None` if and only if the node is not registered.
     fn place(&self, n: NodeId) -> Option<usize>
         ensures { IsPlaceOf self.now.rows n result }
     {
@@ -215,107 +214,5 @@ impl TryCopy for Directory {
             nodes,
             next: self.next,
         })
-    }
-}
-
-#[cfg(test)]
-mod tests {
-    use super::*;
-    use std::process::Abort;
-
-    fn named(rt: &impl Abort, alloc: Global, text: &str) -> Name {
-        match Name::from_text(alloc, text) {
-            Ok(Some(name)) => name,
-            _ => panic!(rt; "no name"),
-        }
-    }
-
-    fn row(rt: &impl Abort, alloc: Global, id: u32, name: &str) -> NodeRow {
-        NodeRow {
-            id: NodeId(id),
-            name: named(rt, alloc, name),
-            dc: named(rt, alloc, "dc1"),
-            rack: named(rt, alloc, "r1"),
-            left: false,
-        }
-    }
-
-    fn made(rt: &impl Abort, alloc: Global, rows: &[NodeRow], next: u32) -> Option<Directory> {
-        match Directory::from_rows(alloc, rows, next) {
-            Ok(found) => found,
-            Err(_) => panic!(rt; "no memory"),
-        }
-    }
-
-    #[test]
-    fn rows_of_a_directory(rt: HostRuntime) {
-        for (first, second, name, good) in [
-            (1, 3, "b", true),
-            (0, 3, "b", false),
-            (3, 3, "b", false),
-            (3, 1, "b", false),
-            (1, 4, "b", false),
-            (1, 3, "a", false),
-        ] {
-            let rows = [
-                row(&rt, rt.alloc(), first, "a"),
-                row(&rt, rt.alloc(), second, name),
-            ];
-            let found = made(&rt, rt.alloc(), &rows, 4);
-            assert_eq!(rt; found.is_some(), good, "{first} {second} {name}");
-        }
-    }
-
-    #[test]
-    fn racks_in_a_datacenter(rt: HostRuntime) {
-        let rows = [row(&rt, rt.alloc(), 2, "a")];
-        let nodes = made(&rt, rt.alloc(), &rows, 3).expect(&rt, "a directory");
-        for (dc, n, found) in [("dc1", 2, true), ("dc1", 1, false), ("r1", 2, false)] {
-            let dc = named(&rt, rt.alloc(), dc);
-            match nodes.rack_in(&dc, NodeId(n)) {
-                Some(rack) => assert_eq!(rt; rack.as_str(), "r1"),
-                None => assert!(rt; !found),
-            }
-            assert_eq!(rt; nodes.rack_in(&dc, NodeId(n)).is_some(), found);
-        }
-    }
-
-    fn add(rt: &impl Abort, alloc: Global, nodes: &mut Directory, name: &str) -> u32 {
-        let name = named(rt, alloc, name);
-        assert!(rt; nodes.find(&name).is_none());
-        assert!(rt; nodes.next_id() < 9);
-        match nodes.register(name, named(rt, alloc, "dc1"), named(rt, alloc, "r1")) {
-            Ok(id) => id.0,
-            Err(_) => panic!(rt; "no memory"),
-        }
-    }
-
-    fn leave(rt: &impl Abort, nodes: &mut Directory, n: NodeId) {
-        assert!(rt; nodes.place_of(n).is_some());
-        nodes.mark_left(n);
-    }
-
-    fn remove(rt: &impl Abort, nodes: &mut Directory, n: NodeId) {
-        assert!(rt; nodes.place_of(n).is_some());
-        nodes.unregister(n);
-    }
-
-    fn find(rt: &impl Abort, alloc: Global, nodes: &Directory, name: &str) -> Option<NodeId> {
-        nodes.find(&named(rt, alloc, name))
-    }
-
-    #[test]
-    fn ids_are_not_used_again(rt: HostRuntime) {
-        let mut nodes = made(&rt, rt.alloc(), &[], 1).expect(&rt, "a directory");
-        assert_eq!(rt; add(&rt, rt.alloc(), &mut nodes, "a"), 1);
-        assert_eq!(rt; add(&rt, rt.alloc(), &mut nodes, "b"), 2);
-        leave(&rt, &mut nodes, NodeId(1));
-        remove(&rt, &mut nodes, NodeId(2));
-        assert_eq!(rt; add(&rt, rt.alloc(), &mut nodes, "b"), 3);
-        let copied = nodes.copy().expect(&rt, "a copy");
-        assert_eq!(rt; find(&rt, rt.alloc(), &copied, "a"), Some(NodeId(1)));
-        assert_eq!(rt; find(&rt, rt.alloc(), &copied, "b"), Some(NodeId(3)));
-        assert_eq!(rt; copied.row(0).map(|row| row.left), Some(true));
-        assert_eq!(rt; copied.len(), 2);
     }
 }

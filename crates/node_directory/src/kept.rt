@@ -1,4 +1,4 @@
-//! Rows that are kept under their nodes' names.
+//! Rows stored under the names of their nodes.
 ghost use Rattle.std.specs.Prelude.{◌≡◌, false, ◌++◌, [], ◌∷◌, ◌↔◌, IsTrue, IsSome, IfSome, IfOk, OnOk};
 ghost use Rattle.std.specs.Map.{values_of};
 ghost use Rattle.std.specs.Set.{is_member};
@@ -10,8 +10,8 @@ use cluster_terms::{Memory, Name, NodeRow, TryCopy};
 use indexmap::IndexMap;
 use std::alloc::Global;
 
-/// Whether ids ascend from 1 or more and are below the next one.
-#[tactic(auto, using(crate::proofs::RowLemmas::ascending_more))]
+/// Whether the ids ascend, begin at 1 or more, and are below `next`.
+#[tactic(auto, using(crate::proofs::NodeRows::ascending_more))]
 pub(crate) fn ids_ascend(rows: &[NodeRow], next: u32) -> bool
     ensures { result ≡ are_ascending 1 (ids_of rows.now) next }
 {
@@ -26,7 +26,7 @@ pub(crate) fn ids_ascend(rows: &[NodeRow], next: u32) -> bool
     true
 }
 
-/// Puts a copy of a row last, under its name, which no row has.
+/// Adds a copy of a row at the end, under its name. No row has this name yet.
 pub(crate) fn push_copy(nodes: &mut IndexMap<String, NodeRow>, row: &NodeRow) -> Result<(), Memory>
     requires named { AreNamed nodes.old.entries }
     requires free { is_member bytes_eq (names_of (values_of nodes.old.entries)) row.now.name ≡ false }
@@ -46,8 +46,8 @@ fn has_name(nodes: &IndexMap<String, NodeRow>, name: &Name) -> bool
     nodes.contains_key(name.as_str())
 }
 
-/// Copies of some rows by name. `None` comes exactly where a name comes twice.
-#[tactic(auto, using(crate::proofs::RowLemmas::row_steps))]
+/// Copies of the rows, by name. Returns `None` if and only if two rows have the same name.
+#[tactic(auto, using(crate::proofs::NodeRows::row_steps))]
 pub(crate) fn by_name(
     alloc: Global,
     rows: &[NodeRow],

@@ -1,7 +1,13 @@
-//! The nodes of a cluster that are registered, in order of registration.
+//! The registered nodes of a cluster, in order of registration, and the groups of nodes that have replicas.
 #![tactic(auto)]
 
 pub mod directory;
 mod kept;
+mod members;
+mod shape;
+mod tally;
 
 pub use directory::Directory;
+pub use members::Members;
+pub use shape::{Shape, shape_of};
+pub use tally::{Tally, has_rack};

@@ -1,4 +1,4 @@
-//! What a movement changes of the placements, as it is known when the movement is prepared.
+//! The plan of a movement: its ranges, where it may change placements, and the ranges of the other movements.
 #![tactic(auto)]
 
 pub mod plan;

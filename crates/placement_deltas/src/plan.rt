@@ -2,8 +2,8 @@ use cluster_terms::TokenList;
 use token_ring::{LockRows, RangeBook};
 use transformations::SeqRow;
 
-/// What is known of a movement when it is prepared: its row, the cuts of the image with it, its ranges under each
-/// replication, and the ranges of all other movements there.
+/// The plan of a movement, made when it is prepared: its row, the cuts of the image with this row, its ranges under
+/// each replication, and the ranges of all other movements (`wide`).
 #[derive(Drop)]
 pub struct Plan {
     pub row: SeqRow,

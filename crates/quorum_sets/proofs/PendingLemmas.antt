@@ -5,11 +5,14 @@ use Rattle.std.proofs.lemmas.List.Filters.{length-filter_both}
 use Rattle.std.proofs.lemmas.List.Kept.{IsStrictlySortedBy-filter}
 use Rattle.std.proofs.lemmas.Map.Keys.{sorted_from_strictly_increasing}
 use Rattle.std.proofs.lemmas.Slice.Eq.{bytes_eq-Decides}
+use Rattle.std.specs.Cmp.{nat_cmp_total}
 use Rattle.std.specs.List.Sorted.{IsStrictlyIncreasing, IsStrictlySortedBy}
 use Rattle.std.specs.Ordering.{nat_cmp}
 use Rattle.std.specs.Str.{bytes_eq}
 use Rattle.std.specs.Set.{is_member}
+use Rattle.cluster_terms.proofs.AscendingLemmas.{ascending_same}
 use Rattle.cluster_terms.proofs.QuorumLemmas.{has_filter, quorums_exist}
+use Rattle.cluster_terms.specs.Ascending.{ascending}
 use Rattle.cluster_terms.specs.NodeRow.{row_of}
 use Rattle.cluster_terms.specs.Quorum.{datacenter_of, local_sets, pending, quorum_of, within, write_need}
 use Rattle.cluster_terms.specs.Replication.{rack_within}
@@ -28,22 +31,25 @@ module _ (test : ℕ → Bool) (reads : List ℕ) where
   has_kept : (w : ℕ) → test w ≡ true → is_member nat_eq (filter test reads) w ≡ is_member nat_eq reads w
   has_kept w e = has_filter test reads w ∙ ap (λ x. is_member nat_eq reads w && x) e ∙ and-true (is_member nat_eq reads w)
 
-  pending_kept : (writes : List ℕ) → pending (filter test reads) (filter test writes) ≡ filter (λ n. test n && not (is_member nat_eq reads n)) writes
+  pending_kept : (writes : List ℕ) → pending (filter test reads) (filter test writes) ≡ pending reads (filter test writes)
   pending_kept [] = refl
   pending_kept (w ∷ ws) = by (test w) refl (pending_kept ws)
     where
-      both : List ℕ
-      both = filter (λ n. test n && not (is_member nat_eq reads n)) ws
+      by : (b : Bool) → test w ≡ b → pending (filter test reads) (filter test ws) ≡ pending reads (filter test ws)
+          → pending (filter test reads) (cond b (w ∷ filter test ws) (filter test ws)) ≡ pending reads (cond b (w ∷ filter test ws) (filter test ws))
+      by true e more = (λ i. cond (not (has_kept w e i)) (w ∷ more i) (more i))
+      by false e more = more
 
-      by : (b : Bool) → test w ≡ b → pending (filter test reads) (filter test ws) ≡ both
-          → filter (λ n. not (is_member nat_eq (filter test reads) n)) (cond (test w) (w ∷ filter test ws) (filter test ws)) ≡ cond (test w && not (is_member nat_eq reads w)) (w ∷ both) both
-      by true e more = rw e (λ i. cond (not (has_kept w e i)) (w ∷ more i) (more i))
-      by false e more = rw e more
-
--- a node that is written and pending in a datacenter stands there and isn't among those that are read
-pub pending_within : (nodes : List NodeRow) (dc reads writes : List ℕ)
-    → pending (within nodes dc reads) (within nodes dc writes) ≡ filter (λ n. is_some (rack_within dc (row_of nodes n)) && not (is_member nat_eq reads n)) writes
+-- among the nodes of a datacenter those are pending that aren't read at all
+pending_within : (nodes : List NodeRow) (dc reads writes : List ℕ) → pending (within nodes dc reads) (within nodes dc writes) ≡ pending reads (within nodes dc writes)
 pending_within nodes dc reads writes = pending_kept (λ n. is_some (rack_within dc (row_of nodes n))) reads writes
+
+-- ascending nodes that are cut down to a datacenter still ascend
+within_ascends : (nodes : List NodeRow) (dc ns : List ℕ) → IsStrictlyIncreasing ns → IsStrictlySortedBy nat_cmp (within nodes dc ns)
+within_ascends nodes dc ns up = IsStrictlySortedBy-filter nat_cmp (λ n. is_some (rack_within dc (row_of nodes n))) ns (sorted_from_strictly_increasing ns up)
+
+pub within_in_order : (nodes : List NodeRow) (dc ns : List ℕ) → IsStrictlyIncreasing ns → ascending nat_cmp (within nodes dc ns) ≡ within nodes dc ns
+within_in_order nodes dc ns up = ascending_same nat_cmp nat_cmp_total (within nodes dc ns) (within_ascends nodes dc ns up)
 
 -- a datacenter that is found has the name that is looked for
 pub found_name : (factors : List (List ℕ × ℕ)) (dc : List ℕ) → IfSome (datacenter_of factors dc) (λ f. f.0 ≡ dc)
@@ -57,7 +63,7 @@ found_name (f ∷ fs) dc = by (bytes_eq f.0 dc) refl (found_name fs dc)
 -- the need of writes in a datacenter
 module _ (nodes : List NodeRow) (factors : List (List ℕ × ℕ)) (dc reads writes : List ℕ) (need count : ℕ) where
   pub local_write : IfSome (datacenter_of factors dc) (λ f. need ≡ f.1)
-      → count ≡ length (filter (λ n. is_some (rack_within dc (row_of nodes n)) && not (is_member nat_eq reads n)) writes)
+      → count ≡ length (pending reads (within nodes dc writes))
       → IfSome (datacenter_of factors dc) (λ f. quorum_of need + count ≡ write_need (local_sets nodes f reads writes))
   local_write factor counted = by (datacenter_of factors dc) (found_name factors dc) factor
     where
@@ -76,13 +82,10 @@ module _ (total : ℕ) (reads writes : List ℕ) (read write : ℕ) where
 
 -- and those of LOCAL_QUORUM, which asks for a factor
 module _ (nodes : List NodeRow) (dc reads writes : List ℕ) (factor read count : ℕ) where
-  kept_ascend : (ns : List ℕ) → IsStrictlyIncreasing ns → IsStrictlySortedBy nat_cmp (within nodes dc ns)
-  kept_ascend ns up = IsStrictlySortedBy-filter nat_cmp (λ n. is_some (rack_within dc (row_of nodes n))) ns (sorted_from_strictly_increasing ns up)
-
   pub exist_local : IsStrictlyIncreasing reads → IsStrictlyIncreasing writes → read ≡ quorum_of factor
-      → count ≡ length (filter (λ n. is_some (rack_within dc (row_of nodes n)) && not (is_member nat_eq reads n)) writes)
+      → count ≡ length (pending reads (within nodes dc writes))
       → ExistTogether (within nodes dc reads) read (within nodes dc writes) (read + count)
   exist_local up_reads up_writes is counted = λ among.
-      let same = quorums_exist factor (within nodes dc reads) (within nodes dc writes) (kept_ascend reads up_reads) (kept_ascend writes up_writes) among in
+      let same = quorums_exist factor (within nodes dc reads) (within nodes dc writes) (within_ascends nodes dc reads up_reads) (within_ascends nodes dc writes up_writes) among in
       let pending_is : count ≡ length (pending (within nodes dc reads) (within nodes dc writes)) = counted ∙ ap length (sym (pending_within nodes dc reads writes)) in
       rw (is, pending_is) same

@@ -1,10 +1,10 @@
--- Sets of which some nodes have none in common.
+-- Sets with quorums that have no node in common.
 use Rattle.std.specs.Prelude.{◌≡◌, ℕ, false, List, nat_eq}
 use Rattle.std.specs.List.{list_any}
 use Rattle.std.specs.Set.{is_member}
 use Rattle.cluster_terms.specs.Quorum.{AreSome}
 
--- some a of these nodes and some b of the others have none in common
+-- there are a or more different nodes of the first and b or more of the second that have no node in common
 pub record ArePartable (a : ℕ) (ns : List ℕ) (b : ℕ) (ms : List ℕ) : Type 0 where
   pub some : List ℕ
   pub others : List ℕ

@@ -1,24 +1,24 @@
-ghost use Rattle.std.specs.Prelude.{◌≡◌, ◌≤◌, ◌&&◌, not, filter, length, is_some, IfSome, IsSome};
+ghost use Rattle.std.specs.Prelude.{◌≡◌, ◌≤◌, length, is_some, IfSome, IsSome};
 ghost use Rattle.std.specs.Option.{option_copied};
-ghost use Rattle.cluster_terms.specs.NodeRow.{row_of};
 ghost use Rattle.cluster_terms.specs.Quorum.{datacenter_of, local_sets, pending, quorum_of, read_need, within, write_need};
-ghost use Rattle.cluster_terms.specs.Replication.{rack_within, total_of};
-ghost use Rattle.node_sets.specs.NodeSets.{IsNodeSet, has_node};
+ghost use Rattle.cluster_terms.specs.Replication.{total_of};
+ghost use Rattle.node_sets.specs.NodeSets.{IsNodeSet};
 ghost use Rattle.quorum_sets.specs.Existing.{ExistTogether};
 
+use crate::datacenter::is_within;
 use crate::needs::Quorum;
 use cluster_terms::{Factors, Name, NodeId, Replication, Rf};
 use node_directory::Directory;
 use node_sets::NodeSet;
 
-/// Half of the replicas that are asked for, rounded down, and one.
+/// Half of the replicas that are asked for, rounded down, plus one.
 fn quorum_of(total: u32) -> u32
     ensures { result ≡ quorum_of total }
 {
     total / 2 + 1
 }
 
-/// How many of the nodes that are written are pending: they aren't read.
+/// The number of pending nodes: the nodes that are written and not read.
 fn count_pending(reads: &NodeSet, writes: &NodeSet) -> usize
     ensures count { result ≡ length (pending reads.now writes.now) }
     ensures reads { IsNodeSet reads.now }
@@ -28,13 +28,13 @@ fn count_pending(reads: &NodeSet, writes: &NodeSet) -> usize
     writes.ids().iter().filter(|n| !reads.has(**n)).count()
 }
 
-/// The needs of QUORUM: of the reads half of all replicas that the replication asks for, rounded down, and one; of the
-/// writes as many, and the pending ones besides, which are written and not read (CEP-21's pending replicas).
+/// The needs of QUORUM. A read needs half of the replicas that the replication asks for, rounded down, plus one. A
+/// write needs this number plus the number of pending nodes, which are written and not read (CEP-21's pending
+/// replicas).
 ///
-/// Where each node that is read is written, there are as many nodes to write as a write needs exactly where there are as
-/// many to read as a read needs.
+/// If each node that is read is written, there are enough nodes to write if and only if there are enough to read.
 ///
-/// Takes no memory, and makes a binary search for each node that is written.
+/// Allocates no memory. Cost: a binary search for each node that is written.
 #[tactic(auto, using(crate::proofs::PendingLemmas::few_pending))]
 pub fn quorum(reads: &NodeSet, writes: &NodeSet, replication: &Replication) -> Quorum
     requires { length writes.now ≤ 1024 }
@@ -50,9 +50,9 @@ pub fn quorum(reads: &NodeSet, writes: &NodeSet, replication: &Replication) -> Q
     }
 }
 
-/// How many of the nodes that are written stand in a datacenter and are pending.
+/// The number of pending nodes of a datacenter: the nodes that are written and not read.
 fn count_local_pending(reads: &NodeSet, writes: &NodeSet, dir: &Directory, dc: &Name) -> usize
-    ensures count { result ≡ length (filter (λ n. is_some (rack_within dc.now (row_of dir.now.rows n)) && not (has_node reads.now n)) writes.now) }
+    ensures count { result ≡ length (pending reads.now (within dir.now.rows dc.now writes.now)) }
     ensures reads { IsNodeSet reads.now }
     ensures writes { IsNodeSet writes.now }
 {
@@ -60,11 +60,12 @@ fn count_local_pending(reads: &NodeSet, writes: &NodeSet, dir: &Directory, dc: &
     writes
         .ids()
         .iter()
-        .filter(|n| dir.rack_in(dc, **n).is_some() && !reads.has(**n))
+        .filter(|n| is_within(dir, dc, **n))
+        .filter(|n| !reads.has(**n))
         .count()
 }
 
-/// The row of a datacenter, where it is named.
+/// The row of a datacenter, if the factors name it.
 fn row_of_datacenter<'a>(factors: &'a Factors, dc: &Name) -> Option<&'a (Name, Rf)>
     ensures { option_copied result ≡ datacenter_of factors.now dc.now }
 {
@@ -74,14 +75,14 @@ fn row_of_datacenter<'a>(factors: &'a Factors, dc: &Name) -> Option<&'a (Name, R
         .find(|row| row.0.as_str() == dc.as_str())
 }
 
-/// Whether a replication's factors name a datacenter.
+/// Whether a replication's factors name a datacenter. Cost: one pass over the factors.
 pub fn names_datacenter(factors: &Factors, dc: &Name) -> bool
     ensures { result ≡ is_some (datacenter_of factors.now dc.now) }
 {
     row_of_datacenter(factors, dc).is_some()
 }
 
-/// The factor of a datacenter that is named.
+/// The factor of a datacenter that the factors name.
 fn factor_of(factors: &Factors, dc: &Name) -> Rf
     requires { IsSome (datacenter_of factors.now dc.now) }
     ensures { IfSome (datacenter_of factors.now dc.now) (λ f. result ≡ f.1) }
@@ -92,12 +93,12 @@ fn factor_of(factors: &Factors, dc: &Name) -> Rf
     }
 }
 
-/// The needs of LOCAL_QUORUM in a datacenter: those of its own factor, among its own nodes that are read and written.
+/// The needs of LOCAL_QUORUM in a datacenter. They are computed as `quorum` does, from the datacenter's own factor and
+/// from its own nodes among those that are read and written.
 ///
-/// Where each of its nodes that is read is written, there are as many of them to write as a write needs exactly where
-/// there are as many to read as a read needs.
+/// If each of its nodes that is read is written, it has enough nodes to write if and only if it has enough to read.
 ///
-/// Takes no memory. Each node that is written costs a look-up of its row and a binary search.
+/// Allocates no memory. Cost: a look-up of the row and a binary search for each node that is written.
 #[tactic(auto, using(crate::proofs::PendingLemmas::few_kept))]
 pub fn local_quorum(
     reads: &NodeSet,

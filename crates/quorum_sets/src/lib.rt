@@ -1,12 +1,12 @@
-//! How many replicas the quorums of reads and writes need.
+//! The number of replicas that read quorums and write quorums need.
 #![tactic(auto)]
 
 mod counting;
+mod datacenter;
 mod needs;
-#[cfg(test)]
-mod tests;
 mod validity;
 
 pub use counting::{local_quorum, names_datacenter, quorum};
+pub use datacenter::within;
 pub use needs::Quorum;
 pub use validity::counting_tells;

@@ -13,13 +13,12 @@ use Rattle.std.proofs.lemmas.Map.Keys.{sorted_head, sorted_tail}
 use Rattle.cluster_terms.proofs.PairLemmas.{any_from_pair}
 use Rattle.cluster_terms.proofs.RowLemmas.{past_cuts}
 use Rattle.cluster_terms.specs.Arc.{IsToken, greatest_token}
-use Rattle.cluster_terms.specs.Pair.{has_pair}
+use Rattle.cluster_terms.specs.Pair.{has_pair, tokens_of}
 use Rattle.cluster_terms.specs.Row.{is_last, is_past, last_token, rows_from}
 use Rattle.cluster_terms.specs.declared.row.TokenRange.{TokenRange}
 use Rattle.cluster_terms.specs.declared.token.Pair.{Pair}
 use Rattle.cluster_terms.specs.declared.token.RightEnd.TheVariants.{Max}
-use Rattle.token_ring.specs.Ring.{tokens_of}
-use Rattle.ring_reach.proofs.ListLemmas.{member_of_mapped}
+use Rattle.node_directory.proofs.MetLists.{member_of_mapped}
 use Rattle.ring_reach.specs.Moved.{AreEnds}
 
 abbrev pub ends_from : Option ℤ → List ℤ → List ℤ

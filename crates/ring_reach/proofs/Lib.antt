@@ -1,10 +1,9 @@
 pub mod EndLemmas
-pub mod ListLemmas
+pub mod MappedItems
 pub mod MarkLemmas
 pub mod NodeAt
 pub mod PassLemmas
 pub mod ReachedLemmas
 pub mod SweepLemmas
-pub mod TallyLemmas
+pub mod SweepOrder
 pub mod TokenLemmas
-pub mod WalkLemmas

@@ -21,12 +21,12 @@ use Rattle.cluster_terms.specs.declared.node.NodeRow.{NodeRow}
 use Rattle.cluster_terms.specs.declared.token.Pair.{Pair}
 use Rattle.token_ring.specs.Ring.{IsRing}
 use Rattle.ring_reach.proofs.SweepLemmas.{IsSwept, IsWalk, has-tokens_in, marked_walk}
-use Rattle.ring_reach.proofs.WalkLemmas.{round_walk}
+use Rattle.ring_reach.proofs.SweepOrder.{round_walk}
 use Rattle.ring_reach.specs.Moved.{AreEnds, tokens_in}
-use Rattle.ring_reach.specs.Shape.{shape_of}
+use Rattle.node_directory.specs.Shape.{shape_of}
 use Rattle.ring_reach.specs.Sweep.{Course, swept, lacking, marked_from, either}
-use Rattle.ring_reach.specs.Tally.{Tallied, nothing}
-use Rattle.ring_reach.specs.declared.shape.Shape.{Shape}
+use Rattle.node_directory.specs.Tally.{Tallied, nothing}
+use Rattle.node_directory.specs.declared.shape.Shape.{Shape}
 
 -- ---- marks
 

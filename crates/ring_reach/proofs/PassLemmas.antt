@@ -1,7 +1,7 @@
 -- A sweep, token by token.
 use Rattle.std.proofs.Common.{◌≡◌, ℕ, suc, zero, ◌<◌, Bool, false, ◌||◌, ℤ, List, [], ◌∷◌, ◌++◌, length, get_or, take, drop, set, refl, ap, ◌∙◌, arith}
 use Rattle.ring_reach.specs.Sweep.{Course, stepped, swept, lacking, either}
-use Rattle.ring_reach.specs.Tally.{Tallied, lacks}
+use Rattle.node_directory.specs.Tally.{Tallied, lacks}
 
 module _ (c : Course) where
   -- the last of some tokens is passed first

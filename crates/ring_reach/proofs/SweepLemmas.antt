@@ -18,12 +18,12 @@ use Rattle.cluster_terms.specs.Pair.{has_pair}
 use Rattle.cluster_terms.specs.Reach.{same_shape, is_open, reaches, is_reached_in}
 use Rattle.cluster_terms.specs.declared.token.Pair.{Pair}
 use Rattle.token_ring.specs.Ring.{IsRing}
-use Rattle.ring_reach.proofs.ListLemmas.{member_of_mapped}
+use Rattle.node_directory.proofs.MetLists.{member_of_mapped}
 use Rattle.ring_reach.proofs.NodeAt.{is_node, node-at}
-use Rattle.ring_reach.proofs.TallyLemmas.{tally_of, tally_of-met, lacks-tally_of}
+use Rattle.node_directory.proofs.TallyLemmas.{tally_of, tally_of-met, lacks-tally_of}
 use Rattle.ring_reach.specs.Moved.{tokens_in}
 use Rattle.ring_reach.specs.Sweep.{Course, node_at, met_at, stepped, swept, lacking}
-use Rattle.ring_reach.specs.Tally.{Tallied, nothing, lacks}
+use Rattle.node_directory.specs.Tally.{Tallied, nothing, lacks}
 
 -- ---- tests of pairs
 

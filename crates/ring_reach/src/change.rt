@@ -2,19 +2,19 @@ ghost use Rattle.std.specs.Prelude.{◌≡◌, ℤ, IfOk, OnOk, length, map, tru
 ghost use Rattle.std.specs.Ordering.{int_eq};
 ghost use Rattle.std.specs.Set.{is_member};
 ghost use Rattle.cluster_terms.specs.Reach.{is_reached_in};
-ghost use Rattle.ring_reach.specs.Members.{group_of};
+ghost use Rattle.node_directory.specs.Members.{group_of};
 ghost use Rattle.ring_reach.specs.Moved.{AreEnds, tokens_in};
 ghost use Rattle.ring_reach.specs.Sweep.{either};
 
-use crate::members::Members;
 use crate::shape::common_shape;
 use crate::sweep::Sweep;
 use crate::token_set::TokenSet;
 use cluster_terms::{Memory, Pair, Token};
+use node_directory::Members;
 use std::alloc::Global;
 use token_ring::Ring;
 
-/// A change of a ring: the pairs that stay whatever comes, the widest set of pairs, and those that come or go.
+/// A change of a ring: the pairs that stay in any case, the widest set of pairs, and the pairs that come or go.
 #[derive(Drop)]
 pub struct Change<'a> {
     pub fixed: &'a Ring,
@@ -22,7 +22,7 @@ pub struct Change<'a> {
     pub moved: &'a [Pair],
 }
 
-/// The tokens that nodes of a group have among some pairs.
+/// The tokens of those pairs whose node is in the group.
 fn tokens_of(alloc: Global, members: &Members, pairs: &[Pair]) -> Result<TokenSet, Memory>
     ensures { IfOk result (λ set. (t : ℤ) → is_member int_eq set t ≡ is_member int_eq (tokens_in (group_of members.now) pairs.now) t) }
 {
@@ -45,7 +45,8 @@ fn mark_all(marks: &mut [bool])
 }
 
 impl<'a> Change<'a> {
-    /// Marks the rows that the change reaches in a group, each given by its last token.
+    /// Marks the rows that the change reaches in a group. `ends` has the last token of each row. Earlier marks stay. If
+    /// memory runs out, some rows may be marked.
     pub fn mark_reached(
         &self,
         alloc: Global,

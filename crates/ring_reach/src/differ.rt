@@ -2,16 +2,15 @@ ghost use Rattle.std.specs.Prelude.{◌≡◌, not, ◌&&◌, is_some, map, IfOk
 ghost use Rattle.std.specs.List.{list_any};
 ghost use Rattle.cluster_terms.specs.Reach.{same_shape};
 ghost use Rattle.cluster_terms.specs.Replication.{datacenter_group, groups_of};
-ghost use Rattle.ring_reach.specs.Members.{group_of};
+ghost use Rattle.node_directory.specs.Members.{group_of};
 
-use crate::members::Members;
 use crate::shape::common_shape;
 use cluster_terms::{Memory, Name, NodeId, Pair, Replication, Rf};
-use node_directory::Directory;
+use node_directory::{Directory, Members};
 use std::alloc::Global;
 use token_ring::Ring;
 
-/// Whether a node is in a group, and the group's shape in the fixed ring differs from that in the widest set of pairs.
+/// Whether a node is in a group whose shape differs between the fixed ring and the widest set of pairs.
 fn differs_in(
     alloc: Global,
     fixed: &Ring,
@@ -28,7 +27,7 @@ fn differs_in(
     Ok(common.is_none())
 }
 
-/// Whether this is so in one of some datacenters.
+/// Whether `differs_in` holds for any of these datacenters.
 fn differs_in_datacenters(
     alloc: Global,
     fixed: &Ring,
@@ -48,11 +47,11 @@ fn differs_in_datacenters(
     Ok(false)
 }
 
-/// Whether a node is in a group of the replication whose shape isn't settled: the group wants more or fewer replicas in
-/// the widest set of pairs than in the fixed ring, or more or fewer of them may stand in a rack that has one.
+/// Whether a node is in a group of the replication whose shape isn't settled: the fixed ring and the widest set of
+/// pairs differ in how many replicas the group wants, or in how many of them may stand in a rack that already has one.
 ///
-/// Costs one pass over the fixed and the widest pairs for each group that the node is in. A pair costs a look-up in the
-/// directory, and a look at no more nodes and racks than there are to be replicas.
+/// Costs one pass over the fixed and the widest pairs for each group that the node is in. A pair costs a look at no
+/// more nodes and racks than there are to be replicas, and in a datacenter a look-up in the directory.
 pub fn shape_differs(
     alloc: Global,
     fixed: &Ring,

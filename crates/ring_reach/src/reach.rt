@@ -5,7 +5,7 @@ ghost use Rattle.cluster_terms.specs.Reach.{DifferWithin, IsBetween, is_reached}
 ghost use Rattle.cluster_terms.specs.Replication.{groups_of};
 ghost use Rattle.cluster_terms.specs.declared.token.Pair.{Pair};
 ghost use Rattle.token_ring.specs.Ranges.{AreCutOut, HaveTokens, have_token};
-ghost use Rattle.token_ring.specs.Ring.{tokens_of};
+ghost use Rattle.cluster_terms.specs.Pair.{tokens_of};
 
 use crate::change::Change;
 use crate::rows::{reached_rows, tokens_of_both};
@@ -14,19 +14,19 @@ use node_directory::Directory;
 use std::alloc::Global;
 use token_ring::{RangeList, Ring};
 
-/// The tokens whose placement may see that pairs come or go (CEP-21's locked ranges, by a rule of this project).
+/// The tokens whose placement may change when pairs come or go (CEP-21's locked ranges, by this project's rule).
 ///
-/// The ring is at any time between the fixed ring and the widest set of pairs. Where a group of the replication has
-/// different shapes in these two, the pairs of its nodes that move reach all tokens. Else such a pair reaches a token
-/// where fewer replicas than wanted are found for certain before it: too few of the group's fixed nodes are met
-/// clockwise from the token before the pair, or these stand in too few racks.
+/// At any time the ring lies between the fixed ring and the widest set of pairs. If a group of the replication has
+/// different shapes in these two, the moved pairs of its nodes reach all tokens. Otherwise such a pair reaches a token
+/// if fewer replicas than wanted are sure to be found before the pair: clockwise from the token, too few of the group's
+/// fixed nodes are met before the pair, or these stand in too few racks.
 ///
-/// The bounds of the ranges are tokens of fixed pairs or of moved ones. Two rings between the fixed ring and the widest
-/// set of pairs that differ in moved pairs alone place a token outside the ranges alike.
+/// The bounds of the ranges are tokens of fixed or moved pairs. Outside the ranges, two rings between the fixed ring
+/// and the widest set of pairs place a token alike if they differ only in moved pairs.
 ///
-/// For `k` moved pairs and a ring of `n` pairs, the cost in each group is about `n + k` times the factor, and a search
-/// for each of the `n + k` tokens; and `(n + k) log (n + k)` once, for putting the tokens into order. A group that no
-/// moved pair's node is in costs `k` look-ups.
+/// For `k` moved pairs and a ring of `n` pairs, sorting the tokens costs about `(n + k) log (n + k)`. Each group costs
+/// about `n + k` times the factor, and a search for each of the `n + k` tokens. A group without a node of a moved pair
+/// costs only `k` look-ups.
 pub fn reached(
     alloc: Global,
     fixed: &Ring,

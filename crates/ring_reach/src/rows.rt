@@ -8,16 +8,15 @@ ghost use Rattle.cluster_terms.specs.Replication.{datacenter_group, groups_of};
 ghost use Rattle.cluster_terms.specs.Row.{last_token as last_in, rows_between as rows_of};
 ghost use Rattle.ring_reach.specs.Moved.{AreEnds};
 ghost use Rattle.ring_reach.specs.Sweep.{either};
-ghost use Rattle.token_ring.specs.Ring.{tokens_of};
+ghost use Rattle.cluster_terms.specs.Pair.{tokens_of};
 
 use crate::change::Change;
-use crate::members::Members;
 use crate::token_set::TokenSet;
 use cluster_terms::{Memory, Name, Pair, Replication, Rf, Token, rows_between, tokens_in_range};
-use node_directory::Directory;
+use node_directory::{Directory, Members};
 use std::alloc::Global;
 
-/// Adds the tokens of some pairs.
+/// Adds the tokens of the pairs.
 fn push_tokens(tokens: &mut Vec<Token>, pairs: &[Pair]) -> Result<(), Memory>
     ensures { OnOk result (tokens.new.items ≡ tokens.old.items ++ tokens_of pairs.now) }
 {
@@ -27,7 +26,7 @@ fn push_tokens(tokens: &mut Vec<Token>, pairs: &[Pair]) -> Result<(), Memory>
     Ok(())
 }
 
-/// The tokens of both.
+/// The tokens of both lists of pairs.
 pub fn tokens_of_both(alloc: Global, pairs: &[Pair], more: &[Pair]) -> Result<TokenSet, Memory>
     ensures { IfOk result (λ set. (t : ℤ) → is_member int_eq set t ≡ is_member int_eq (tokens_of pairs.now ++ tokens_of more.now) t) }
 {
@@ -49,7 +48,7 @@ fn ends_between(alloc: Global, cuts: &[Token]) -> Result<Vec<Token>, Memory>
     Ok(ends)
 }
 
-/// Marks the rows that a change reaches in one of some datacenters, each row given by its last token.
+/// Marks the rows that a change reaches in any of these datacenters. `ends` has the last token of each row.
 fn mark_in_datacenters<'a>(
     alloc: Global,
     change: &Change<'a>,
@@ -68,7 +67,7 @@ fn mark_in_datacenters<'a>(
     Ok(())
 }
 
-/// Marks the rows that a change reaches in one of a replication's groups, each row given by its last token.
+/// Marks the rows that a change reaches in any group of a replication. `ends` has the last token of each row.
 fn mark_in_all<'a>(
     alloc: Global,
     change: &Change<'a>,
@@ -89,7 +88,7 @@ fn mark_in_all<'a>(
     }
 }
 
-/// The rows between ascending cuts that a change reaches, each as a bool: true where it is reached.
+/// For each row between ascending cuts, whether the change reaches it.
 pub fn reached_rows(
     alloc: Global,
     change: &Change,

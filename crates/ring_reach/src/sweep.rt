@@ -4,16 +4,13 @@ ghost use Rattle.std.specs.Ordering.{int_eq};
 ghost use Rattle.std.specs.Set.{is_member};
 ghost use Rattle.ring_reach.specs.Sweep.{course_of, either, lacking, lacking_round, marked_from, node_at as node_with, stepped, swept};
 
-use crate::members::Members;
-use crate::shape::Shape;
-use crate::tally::Tally;
 use crate::token_set::TokenSet;
 use cluster_terms::{Memory, NodeId, Token};
+use node_directory::{Members, Shape, Tally};
 use std::alloc::Global;
 use token_ring::Ring;
 
-/// What a sweep over the ring looks at, in one group: the pairs that stay, the group's nodes, and the tokens of the
-/// group that come or go.
+/// A sweep over the ring in one group: the pairs that stay, the group, and the tokens of the group that come or go.
 #[derive(Drop)]
 pub struct Sweep<'a> {
     pub fixed: &'a Ring,
@@ -21,7 +18,7 @@ pub struct Sweep<'a> {
     pub moved: TokenSet,
 }
 
-/// The node that has a token in a ring: a binary search.
+/// The node that has a token in a ring, if any. The cost is a binary search.
 fn node_at(ring: &Ring, t: Token) -> Option<NodeId>
     ensures { result ≡ node_with ring.now t }
 {
@@ -35,7 +32,7 @@ fn node_at(ring: &Ring, t: Token) -> Option<NodeId>
 }
 
 impl<'a> Sweep<'a> {
-    /// Passes one token: one that comes or goes empties the tally, and at any other one its fixed node is met.
+    /// Passes one token: a token that comes or goes empties the tally, and at any other token its fixed node is met.
     fn pass(&self, t: Token, tally: &mut Tally<'a>) -> Result<(), Memory>
         ensures { OnOk result (tally.new ≡ stepped (course_of self.now) t tally.old) }
     {
@@ -49,7 +46,7 @@ impl<'a> Sweep<'a> {
         }
     }
 
-    /// Passes some tokens, the last one first, and marks each where the tally lacks nodes or racks.
+    /// Passes the tokens from the last to the first, and marks each token at which the tally lacks nodes or racks.
     fn pass_all(
         &self,
         tokens: &[Token],
@@ -67,8 +64,8 @@ impl<'a> Sweep<'a> {
         Ok(())
     }
 
-    /// Passes all tokens once, going round from one of them down to the one after it, and marks each where the tally
-    /// lacks nodes or racks.
+    /// Passes all tokens once round the ring, from the position `begin` down to the position after it, and marks each
+    /// token at which the tally lacks nodes or racks.
     fn pass_round(
         &self,
         begin: usize,
@@ -86,18 +83,19 @@ impl<'a> Sweep<'a> {
         self.pass_all(rest, tally, rest_marks)
     }
 
-    /// The first place of a token that comes or goes. `None` comes exactly where all tokens stay.
+    /// The first position of a token that comes or goes. Returns `None` if and only if all tokens stay.
     fn begin(&self, tokens: &[Token]) -> Option<usize>
         ensures { result ≡ position (is_member int_eq self.now.moved) tokens.now }
     {
         tokens.iter().position(|token| self.moved.has(*token))
     }
 
-    /// Passes ascending tokens once round the ring, beginning at one that comes or goes, and marks those that are
-    /// reached in a group of this shape: where fewer nodes or racks than are wanted are met clockwise before the
-    /// nearest token that comes or goes.
+    /// Passes ascending tokens once round the ring, from a token that comes or goes. Marks the tokens that are reached
+    /// in a group of this shape: clockwise from the token, fewer nodes or racks than wanted are met before the nearest
+    /// token that comes or goes. Earlier marks stay. If all tokens stay, marks no token.
     ///
-    /// A token costs a search in the ring and one among the tokens that come or go, a look-up in the directory, and a
+    /// If memory runs out, some tokens may be marked.
+    /// A token costs a search in the ring, a search among the tokens that come or go, a look-up in the directory, and a
     /// look at no more nodes and racks than there are to be replicas.
     pub fn mark(
         &self,

@@ -12,35 +12,10 @@ use Rattle.cluster_terms.specs.Ascending.{ascending}
 use Rattle.cluster_terms.specs.Factors.{IsFactorRow, IsFactors, are_factors, by_name, names_of}
 use Rattle.cluster_terms.specs.Name.{is_name}
 use Rattle.cluster_terms.specs.Replication.{IsReplication}
-use Rattle.cluster_terms.specs.ReplicationText.{factors_of, is_colon, replication_of_words, row_of, rows_of, simple_of}
+use Rattle.cluster_terms.specs.ReplicationText.{factors_of, is_colon, replication_of_words, factor_row_of, rows_of, simple_of}
 use Rattle.cluster_terms.specs.Rf.{IsFactor, factor_of}
 use Rattle.cluster_terms.specs.declared.replication.Replication.TheVariants.{Simple, Topology}
-
--- ---- what holds of the value in an option
-
-pub mapped : {X Y : Type 0} (f : X → Y) (Q : Y → Type 0) (o : Option X) → IfSome o (λ x. Q (f x)) → IfSome (option_map f o) Q
-mapped f Q None h = tt
-mapped f Q (Some x) h = h
-
-pub each_mapped : {X Y : Type 0} (f : X → Y) (Q : Y → Type 0) → ((x : X) → Q (f x)) → (o : Option X) → IfSome (option_map f o) Q
-each_mapped f Q all None = tt
-each_mapped f Q all (Some x) = all x
-
-pub chained : {X Y : Type 0} (f : X → Option Y) (P : X → Type 0) (Q : Y → Type 0) → ((x : X) → P x → IfSome (f x) Q) → (o : Option X) → IfSome o P → IfSome (option_and_then f o) Q
-chained f P Q all None h = tt
-chained f P Q all (Some x) h = all x h
-
-pub each_chained : {X Y : Type 0} (f : X → Option Y) (Q : Y → Type 0) → ((x : X) → IfSome (f x) Q) → (o : Option X) → IfSome (option_and_then f o) Q
-each_chained f Q all None = tt
-each_chained f Q all (Some x) = all x
-
-pub either : {X : Type 0} (Q : X → Type 0) (b : Bool) (o p : Option X) → IfSome o Q → IfSome p Q → IfSome (if b then o else p) Q
-either Q true o p h k = h
-either Q false o p h k = k
-
-pub where_true : {X : Type 0} (Q : X → Type 0) (b : Bool) (x : X) → (b ≡ true → Q x) → IfSome (if b then Some x else None) Q
-where_true Q true x h = h refl
-where_true Q false x h = tt
+use Rattle.script_lang.proofs.OptionValues.{chained, either, mapped, where_true}
 
 -- ---- factors
 
@@ -50,8 +25,8 @@ of_factor text =
     let n = digits_value 10 text in
     where_true IsFactor (bytes_eq text (decimal n) && (nat_le 1 n && nat_le n 16)) n (λ e. (grind (arith, nat_tests, e), grind (arith, nat_tests, e)))
 
-of_row : (word : List ℕ) → IfSome (row_of word) IsFactorRow
-unfolding row_of
+of_row : (word : List ℕ) → IfSome (factor_row_of word) IsFactorRow
+unfolding factor_row_of
 of_row word = by (is_name (before_first is_colon word)) refl
   where
     by : (b : Bool) → is_name (before_first is_colon word) ≡ b
@@ -63,17 +38,17 @@ of_row word = by (is_name (before_first is_colon word)) refl
         within None h = tt
         within (Some n) h = record { name = e; factor = h }
 
-of_each_row : (words : List (List ℕ)) → AllByRecursion IsFactorRow (filter_map row_of words)
+of_each_row : (words : List (List ℕ)) → AllByRecursion IsFactorRow (filter_map factor_row_of words)
 of_each_row [] = tt
-of_each_row (word ∷ words) = by (row_of word) (of_row word) (of_each_row words)
+of_each_row (word ∷ words) = by (factor_row_of word) (of_row word) (of_each_row words)
   where
-    by : (o : Option (List ℕ × ℕ)) → IfSome o IsFactorRow → AllByRecursion IsFactorRow (filter_map row_of words) → AllByRecursion IsFactorRow (cons_option o (filter_map row_of words))
+    by : (o : Option (List ℕ × ℕ)) → IfSome o IsFactorRow → AllByRecursion IsFactorRow (filter_map factor_row_of words) → AllByRecursion IsFactorRow (cons_option o (filter_map factor_row_of words))
     by None h rest = rest
     by (Some row) h rest = (h, rest)
 
 of_rows : (words : List (List ℕ)) → IfSome (rows_of words) (AllByRecursion IsFactorRow)
 unfolding rows_of
-of_rows words = where_true (AllByRecursion IsFactorRow) (list_all (λ word. is_some (row_of word)) words) (filter_map row_of words) (λ e. of_each_row words)
+of_rows words = where_true (AllByRecursion IsFactorRow) (list_all (λ word. is_some (factor_row_of word)) words) (filter_map factor_row_of words) (λ e. of_each_row words)
 
 of_factors : (rows : List (List ℕ × ℕ)) → AllByRecursion IsFactorRow rows → IfSome (factors_of rows) IsFactors
 of_factors rows all = where_true IsFactors (are_factors rows) (ascending by_name rows) (λ e.

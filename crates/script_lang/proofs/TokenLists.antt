@@ -11,16 +11,16 @@ use Rattle.std.proofs.lemmas.List.Elements.{filter_map-append}
 use Rattle.std.proofs.lemmas.Map.Made.{distinct_count-le}
 use Rattle.cluster_terms.specs.Ascending.{ascending}
 use Rattle.cluster_terms.proofs.AscendingLemmas.{length-ascending}
-use Rattle.script_lang.specs.Grammar.{token_of, each_token_of, are_tokens}
+use Rattle.script_lang.specs.Grammar.{token_of, each_token_in_words, are_unordered_tokens}
 
 -- the tokens of the first words of a list: each of these is a token
-pub record AreTokens {B : Type 0} (word : B → List ℕ) (words : List B) (i : ℕ) (tokens : List ℤ) : Type 0 where
+pub record AreFirstTokens {B : Type 0} (word : B → List ℕ) (words : List B) (i : ℕ) (tokens : List ℤ) : Type 0 where
   pub all : list_all (λ (text : List ℕ). is_some (token_of text)) (map word (take i words)) ≡ true
   pub found : tokens ≡ filter_map token_of (map word (take i words))
 
 -- where a word is no token
-pub no_tokens : {B : Type 0} (word : B → List ℕ) (words : List B) (i : ℕ) (d : B) → i < length words → token_of (word (get_or words i d)) ≡ None → each_token_of (map word words) ≡ None
-unfolding each_token_of
+pub no_tokens : {B : Type 0} (word : B → List ℕ) (words : List B) (i : ℕ) (d : B) → i < length words → token_of (word (get_or words i d)) ≡ None → each_token_in_words (map word words) ≡ None
+unfolding each_token_in_words
 no_tokens word words i d within none =
     let split : words ≡ take i words ++ (get_or words i d ∷ drop (i + 1) words) = sym (take-append-drop i words) ∙ ap (λ rest. take i words ++ rest) (drop_more words i d within) in
     let texts : map word words ≡ map word (take i words) ++ (word (get_or words i d) ∷ map word (drop (i + 1) words)) = ap (map word) split ∙ map-append word (take i words) (get_or words i d ∷ drop (i + 1) words) in
@@ -29,8 +29,8 @@ no_tokens word words i d within none =
     grind arith
 
 -- where one more word is a token
-pub AreTokens-more : {B : Type 0} (word : B → List ℕ) (words : List B) (i : ℕ) (d : B) (token : ℤ) (tokens new : List ℤ) → i < length words → token_of (word (get_or words i d)) ≡ Some token → AreTokens word words i tokens → new ≡ tokens ++ token ∷ [] → AreTokens word words (i + 1) new
-AreTokens-more word words i d token tokens new within some so_far added =
+pub AreFirstTokens-more : {B : Type 0} (word : B → List ℕ) (words : List B) (i : ℕ) (d : B) (token : ℤ) (tokens new : List ℤ) → i < length words → token_of (word (get_or words i d)) ≡ Some token → AreFirstTokens word words i tokens → new ≡ tokens ++ token ∷ [] → AreFirstTokens word words (i + 1) new
+AreFirstTokens-more word words i d token tokens new within some so_far added =
     let texts : map word (take (i + 1) words) ≡ map word (take i words) ++ (word (get_or words i d) ∷ []) = ap (map word) (take_more words i d within) ∙ map-append word (take i words) (get_or words i d ∷ []) in
     let both = list_all-append (λ (text : List ℕ). is_some (token_of text)) (map word (take i words)) (word (get_or words i d) ∷ []) in
     let mapped = filter_map-append token_of (map word (take i words)) (word (get_or words i d) ∷ []) in
@@ -40,9 +40,9 @@ AreTokens-more word words i d token tokens new within some so_far added =
     }
 
 -- where all words are tokens
-pub AreTokens-all : {B : Type 0} (word : B → List ℕ) (words : List B) (i : ℕ) (tokens : List ℤ) → length words ≤ i → AreTokens word words i tokens → each_token_of (map word words) ≡ Some tokens
-unfolding each_token_of
-AreTokens-all word words i tokens past are =
+pub AreFirstTokens-all : {B : Type 0} (word : B → List ℕ) (words : List B) (i : ℕ) (tokens : List ℤ) → length words ≤ i → AreFirstTokens word words i tokens → each_token_in_words (map word words) ≡ Some tokens
+unfolding each_token_in_words
+AreFirstTokens-all word words i tokens past are =
     let whole : take i words ≡ words = take_all i words past in
     let all : list_all (λ (text : List ℕ). is_some (token_of text)) (map word words) ≡ true = ap (λ ws. list_all (λ (text : List ℕ). is_some (token_of text)) (map word ws)) (sym whole) ∙ are.all in
     let found : tokens ≡ filter_map token_of (map word words) = are.found ∙ ap (λ ws. filter_map token_of (map word ws)) whole in
@@ -53,12 +53,12 @@ pub length-in_order : (tokens : List ℤ) → length (ascending int_cmp tokens) 
 length-in_order tokens = length-ascending int_cmp int_cmp_total tokens
 
 -- tokens are a command's where there are 1 to 256 and all of them stand in ascending order
-pub are_tokens-all : (tokens : List ℤ) → 1 ≤ length tokens → length tokens ≤ 256 → length tokens ≤ length (ascending int_cmp tokens) → are_tokens tokens ≡ true
-are_tokens-all tokens some few all =
+pub are_unordered_tokens-all : (tokens : List ℤ) → 1 ≤ length tokens → length tokens ≤ 256 → length tokens ≤ length (ascending int_cmp tokens) → are_unordered_tokens tokens ≡ true
+are_unordered_tokens-all tokens some few all =
     let count = length-in_order tokens in
     let most = distinct_count-le int_eq tokens in
     grind (arith, nat_tests)
 
 -- and they are none where fewer of them do
-pub are_tokens-fewer : (tokens : List ℤ) → length (ascending int_cmp tokens) < length tokens → are_tokens tokens ≡ false
-are_tokens-fewer tokens fewer = (let count = length-in_order tokens in grind (arith, nat_tests))
+pub are_unordered_tokens-fewer : (tokens : List ℤ) → length (ascending int_cmp tokens) < length tokens → are_unordered_tokens tokens ≡ false
+are_unordered_tokens-fewer tokens fewer = (let count = length-in_order tokens in grind (arith, nat_tests))

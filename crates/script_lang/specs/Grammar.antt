@@ -1,13 +1,13 @@
 -- The grammar of script lines.
 use Rattle.std.specs.Prelude.{ℕ, ◌+◌, ◌^◌, Bool, ◌&&◌, if◌then◌else◌, ℤ, pos, neg_ℤ, List, [], ◌∷◌, length, filter_map, Option, Some, None, is_some, option_map, option_and_then, nat_lt, nat_le, ◌==◌, codes, decimal, IsTrue}
-use Rattle.std.specs.List.{list_all, find, slice_split}
+use Rattle.std.specs.List.{list_all, find}
 use Rattle.std.specs.Ordering.{int_cmp, int_eq}
 use Rattle.std.specs.Set.{distinct_count}
 use Rattle.std.specs.Str.{bytes_eq}
 use Rattle.std.specs.Str.Parse.{digits_value}
 use Rattle.cluster_terms.specs.Ascending.{ascending}
 use Rattle.cluster_terms.specs.Name.{is_name}
-use Rattle.cluster_terms.specs.ReplicationText.{replication_of_words}
+use Rattle.cluster_terms.specs.ReplicationText.{words_of, replication_of_words}
 use Rattle.transformations.specs.declared.command.Command.{Command}
 use Rattle.transformations.specs.declared.command.Command.TheVariants.{Register, Unregister, UnsafeJoin, Keyspace, DropKeyspace, PrepareJoin, PrepareMove, PrepareLeave, PrepareReplace, Step, Cancel}
 use Rattle.transformations.specs.declared.sequence.Goal.TheVariants.{Start, Mid, Finish}
@@ -17,10 +17,6 @@ use Rattle.script_lang.specs.declared.script_line.ScriptLine.{ScriptLine}
 use Rattle.script_lang.specs.declared.script_line.ScriptLine.TheVariants.{Commit, Place, Nodes, Quorum, Local}
 use Rattle.script_lang.specs.declared.script_line.Target.{Target}
 use Rattle.script_lang.specs.declared.script_line.Target.TheVariants.{Epoch}
-
--- the words of a line, which are parted by single spaces
-abbrev pub words_of : List ℕ → List (List ℕ)
-words_of bytes = slice_split (λ byte. byte == 32) bytes
 
 -- a number below a limit, in decimal digits without a sign or leading zeros
 unfoldable pub number_below : ℕ → List ℕ → Option ℕ
@@ -36,64 +32,64 @@ token_of (c ∷ cs) =
     then option_and_then (λ n. if nat_le 1 n then Some (neg_ℤ (pos n)) else None) (number_below (2 ^ 63 + 1) cs)
     else option_map pos (number_below (2 ^ 63) (c ∷ cs))
 
--- whether tokens make a command's: there are 1 to 256, and none comes twice
-abbrev pub are_tokens : List ℤ → Bool
-are_tokens tokens = nat_le 1 (length tokens) && nat_le (length tokens) 256 && (distinct_count int_eq tokens == length tokens)
+-- whether a command may list these tokens, in any order: there are 1 to 256, and none comes twice
+abbrev pub are_unordered_tokens : List ℤ → Bool
+are_unordered_tokens tokens = nat_le 1 (length tokens) && nat_le (length tokens) 256 && (distinct_count int_eq tokens == length tokens)
 
--- a command's tokens: they come in any order, and are kept ascending
+-- the tokens of a command: a line lists them in any order, and they are kept in ascending order
 abbrev pub kept_tokens : List ℤ → Option (List ℤ)
-kept_tokens tokens = if are_tokens tokens then Some (ascending int_cmp tokens) else None
+kept_tokens tokens = if are_unordered_tokens tokens then Some (ascending int_cmp tokens) else None
 
--- words TOKEN, each of them
-unfoldable pub each_token_of : List (List ℕ) → Option (List ℤ)
-each_token_of words = if list_all (λ word. is_some (token_of word)) words then Some (filter_map token_of words) else None
+-- the tokens in words, if each word is a TOKEN
+unfoldable pub each_token_in_words : List (List ℕ) → Option (List ℤ)
+each_token_in_words words = if list_all (λ word. is_some (token_of word)) words then Some (filter_map token_of words) else None
 
 -- TOKEN ..
-abbrev pub tokens_of : List (List ℕ) → Option (List ℤ)
-tokens_of words = option_and_then kept_tokens (each_token_of words)
+abbrev pub tokens_in_words : List (List ℕ) → Option (List ℤ)
+tokens_in_words words = option_and_then kept_tokens (each_token_in_words words)
 
 -- a node: a number below 2^32
 abbrev pub node_of : List ℕ → Option ℕ
 node_of text = number_below (2 ^ 32) text
 
 -- NAME DC RACK
-unfoldable pub register_of : List (List ℕ) → Option Command
-register_of (name ∷ dc ∷ rack ∷ []) = if is_name name && is_name dc && is_name rack then Some (Register name dc rack) else None
-register_of _ = None
+unfoldable pub register_command : List (List ℕ) → Option Command
+register_command (name ∷ dc ∷ rack ∷ []) = if is_name name && is_name dc && is_name rack then Some (Register name dc rack) else None
+register_command _ = None
 
 -- NODE TOKEN ..
 unfoldable pub node_and_tokens : List (List ℕ) → Option (ℕ × List ℤ)
 node_and_tokens [] = None
-node_and_tokens (node ∷ tokens) = option_and_then (λ n. option_map (λ ts. (n, ts)) (tokens_of tokens)) (node_of node)
+node_and_tokens (node ∷ tokens) = option_and_then (λ n. option_map (λ ts. (n, ts)) (tokens_in_words tokens)) (node_of node)
 
--- the commands that give a node tokens at once, and that prepare a join
-unfoldable pub unsafe_join_of : List (List ℕ) → Option Command
-unsafe_join_of words = option_map (λ (node, tokens). UnsafeJoin node tokens) (node_and_tokens words)
+-- the commands `unsafe-join` and `prepare-join`
+unfoldable pub unsafe_join_command : List (List ℕ) → Option Command
+unsafe_join_command words = option_map (λ (node, tokens). UnsafeJoin node tokens) (node_and_tokens words)
 
-unfoldable pub prepare_join_of : List (List ℕ) → Option Command
-prepare_join_of words = option_map (λ (node, tokens). PrepareJoin node tokens) (node_and_tokens words)
+unfoldable pub prepare_join_command : List (List ℕ) → Option Command
+prepare_join_command words = option_map (λ (node, tokens). PrepareJoin node tokens) (node_and_tokens words)
 
 -- NODE TOKEN
-unfoldable pub prepare_move_of : List (List ℕ) → Option Command
-prepare_move_of (node ∷ token ∷ []) = option_and_then (λ n. option_map (PrepareMove n) (token_of token)) (node_of node)
-prepare_move_of _ = None
+unfoldable pub prepare_move_command : List (List ℕ) → Option Command
+prepare_move_command (node ∷ token ∷ []) = option_and_then (λ n. option_map (PrepareMove n) (token_of token)) (node_of node)
+prepare_move_command _ = None
 
 -- NODE GONE
-unfoldable pub prepare_replace_of : List (List ℕ) → Option Command
-prepare_replace_of (node ∷ gone ∷ []) = option_and_then (λ n. option_map (PrepareReplace n) (node_of gone)) (node_of node)
-prepare_replace_of _ = None
+unfoldable pub prepare_replace_command : List (List ℕ) → Option Command
+prepare_replace_command (node ∷ gone ∷ []) = option_and_then (λ n. option_map (PrepareReplace n) (node_of gone)) (node_of node)
+prepare_replace_command _ = None
 
 -- NAME REPLICATION
-unfoldable pub keyspace_of : List (List ℕ) → Option Command
-keyspace_of [] = None
-keyspace_of (name ∷ replication) = if is_name name then option_map (Keyspace name) (replication_of_words replication) else None
+unfoldable pub keyspace_command : List (List ℕ) → Option Command
+keyspace_command [] = None
+keyspace_command (name ∷ replication) = if is_name name then option_map (Keyspace name) (replication_of_words replication) else None
 
 -- NAME
-unfoldable pub drop_keyspace_of : List (List ℕ) → Option Command
-drop_keyspace_of (name ∷ []) = if is_name name then Some (DropKeyspace name) else None
-drop_keyspace_of _ = None
+unfoldable pub drop_keyspace_command : List (List ℕ) → Option Command
+drop_keyspace_command (name ∷ []) = if is_name name then Some (DropKeyspace name) else None
+drop_keyspace_command _ = None
 
--- the words of the commands that have a node alone, each with what it makes of the node
+-- the words of the commands whose only argument is a node, each with the command that it makes of the node
 abbrev pub node_commands : List (List ℕ × (ℕ → Command))
 node_commands =
     (codes "unregister", Unregister) ∷ (codes "prepare-leave", PrepareLeave) ∷ (codes "cancel", Cancel)
@@ -103,35 +99,35 @@ node_commands =
     ∷ (codes "start-replace", Step Start Replace) ∷ (codes "mid-replace", Step Mid Replace) ∷ (codes "finish-replace", Step Finish Replace)
     ∷ []
 
--- what such a word makes of a node
+-- the command that such a word makes of a node
 abbrev pub command_on : List ℕ → ℕ → Option Command
 command_on word node = option_map (λ row. row.1 node) (find (λ row. bytes_eq word row.0) node_commands)
 
 -- such a word, and NODE
-unfoldable pub node_command_of : List ℕ → List (List ℕ) → Option Command
-node_command_of word (node ∷ []) = option_and_then (command_on word) (node_of node)
-node_command_of word _ = None
+unfoldable pub node_only_command : List ℕ → List (List ℕ) → Option Command
+node_only_command word (node ∷ []) = option_and_then (command_on word) (node_of node)
+node_only_command word _ = None
 
--- a command: its first word, and what that word asks for
+-- a command: its first word, and the words that this first word requires
 unfoldable pub command_named : List ℕ → List (List ℕ) → Option Command
 command_named word words =
-    if bytes_eq word (codes "register") then register_of words
-    else if bytes_eq word (codes "unsafe-join") then unsafe_join_of words
-    else if bytes_eq word (codes "keyspace") then keyspace_of words
-    else if bytes_eq word (codes "drop-keyspace") then drop_keyspace_of words
-    else if bytes_eq word (codes "prepare-join") then prepare_join_of words
-    else if bytes_eq word (codes "prepare-move") then prepare_move_of words
-    else if bytes_eq word (codes "prepare-replace") then prepare_replace_of words
-    else node_command_of word words
+    if bytes_eq word (codes "register") then register_command words
+    else if bytes_eq word (codes "unsafe-join") then unsafe_join_command words
+    else if bytes_eq word (codes "keyspace") then keyspace_command words
+    else if bytes_eq word (codes "drop-keyspace") then drop_keyspace_command words
+    else if bytes_eq word (codes "prepare-join") then prepare_join_command words
+    else if bytes_eq word (codes "prepare-move") then prepare_move_command words
+    else if bytes_eq word (codes "prepare-replace") then prepare_replace_command words
+    else node_only_command word words
 
 unfoldable pub command_of : List (List ℕ) → Option Command
 command_of [] = None
 command_of (word ∷ words) = command_named word words
 
 -- ID COMMAND
-unfoldable pub commit_of : List (List ℕ) → Option ScriptLine
-commit_of [] = None
-commit_of (id ∷ command) = option_and_then (λ n. option_map (Commit n) (command_of command)) (number_below (2 ^ 64) id)
+unfoldable pub commit_line : List (List ℕ) → Option ScriptLine
+commit_line [] = None
+commit_line (id ∷ command) = option_and_then (λ n. option_map (Commit n) (command_of command)) (number_below (2 ^ 64) id)
 
 -- a target: @ and an epoch
 unfoldable pub target_of : List ℕ → Option Target
@@ -139,43 +135,43 @@ target_of [] = None
 target_of (c ∷ cs) = if c == 64 then option_map Epoch (number_below (2 ^ 64) cs) else None
 
 -- TARGET KS
-unfoldable pub place_of : List (List ℕ) → Option ScriptLine
-place_of (target ∷ keyspace ∷ []) = if is_name keyspace then option_map (λ t. Place t keyspace) (target_of target) else None
-place_of _ = None
+unfoldable pub place_line : List (List ℕ) → Option ScriptLine
+place_line (target ∷ keyspace ∷ []) = if is_name keyspace then option_map (λ t. Place t keyspace) (target_of target) else None
+place_line _ = None
 
 -- TARGET
-unfoldable pub nodes_of : List (List ℕ) → Option ScriptLine
-nodes_of (target ∷ []) = option_map Nodes (target_of target)
-nodes_of _ = None
+unfoldable pub nodes_line : List (List ℕ) → Option ScriptLine
+nodes_line (target ∷ []) = option_map Nodes (target_of target)
+nodes_line _ = None
 
 -- TARGET KS TOKEN
-unfoldable pub quorum_of : List (List ℕ) → Option ScriptLine
-quorum_of (target ∷ keyspace ∷ token ∷ []) =
+unfoldable pub quorum_line : List (List ℕ) → Option ScriptLine
+quorum_line (target ∷ keyspace ∷ token ∷ []) =
     if is_name keyspace then option_and_then (λ t. option_map (Quorum t keyspace) (token_of token)) (target_of target) else None
-quorum_of _ = None
+quorum_line _ = None
 
 -- TARGET KS DC TOKEN
-unfoldable pub local_of : List (List ℕ) → Option ScriptLine
-local_of (target ∷ keyspace ∷ dc ∷ token ∷ []) =
+unfoldable pub local_line : List (List ℕ) → Option ScriptLine
+local_line (target ∷ keyspace ∷ dc ∷ token ∷ []) =
     if is_name keyspace && is_name dc then option_and_then (λ t. option_map (Local t keyspace dc) (token_of token)) (target_of target) else None
-local_of _ = None
+local_line _ = None
 
--- a line: its first word, and what that word asks for
+-- a line: its first word, and the words that this first word requires
 unfoldable pub line_of_words : List (List ℕ) → Option ScriptLine
 line_of_words [] = None
 line_of_words (word ∷ words) =
-    if bytes_eq word (codes "commit") then commit_of words
-    else if bytes_eq word (codes "place") then place_of words
-    else if bytes_eq word (codes "nodes") then nodes_of words
-    else if bytes_eq word (codes "quorum") then quorum_of words
-    else if bytes_eq word (codes "local") then local_of words
+    if bytes_eq word (codes "commit") then commit_line words
+    else if bytes_eq word (codes "place") then place_line words
+    else if bytes_eq word (codes "nodes") then nodes_line words
+    else if bytes_eq word (codes "quorum") then quorum_line words
+    else if bytes_eq word (codes "local") then local_line words
     else None
 
--- what a line says, if it is in the grammar; a line has at most 16,384 bytes
+-- the content of a line, if the line is in the grammar and has at most 16,384 bytes
 unfoldable pub line_of : List ℕ → Option ScriptLine
 line_of bytes = if nat_le (length bytes) 16384 then line_of_words (words_of bytes) else None
 
--- where a line commits a command with tokens, there are 1 to 256 of them, and they ascend
+-- if a line commits a command that lists tokens, they are 1 to 256 and ascend
 abbrev pub HasTokens : ScriptLine → Type 0
 HasTokens (Commit id command) = IsTrue (is_command command)
 HasTokens _ = Unit {0}

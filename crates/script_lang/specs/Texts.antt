@@ -27,7 +27,7 @@ use Rattle.transformations.specs.declared.state.NodeState.TheVariants as state
 abbrev pub line : List ℕ → List ℕ
 line text = text ++ 10 ∷ []
 
--- texts of some items parted by commas, or a dash where there are none
+-- the texts of the items, separated by commas, or a dash if there are no items
 abbrev pub listed : {X : Type 0} → (X → List ℕ) → List X → List ℕ
 listed text [] = codes "-"
 listed text (x ∷ xs) = text x ++ flat_map (λ y. codes "," ++ text y) xs
@@ -66,7 +66,7 @@ phase_text phase.Prepared = codes "PREPARED"
 phase_text phase.Started = codes "STARTED"
 phase_text phase.Mid = codes "MID"
 
--- how far a movement of a kind has come
+-- the kind and the phase of a movement
 abbrev pub progress_text : Kind × Phase → List ℕ
 progress_text p = kind_text p.0 ++ codes " " ++ phase_text p.1
 
@@ -79,11 +79,11 @@ abbrev pub right_text : RightEnd → List ℕ
 right_text (At t) = signed_decimal t
 right_text Max = codes "max"
 
--- the node whose ranges are locked, and the right end of the first row that is shared
+-- the node whose ranges are locked, and the right end of the first row that both movements share
 abbrev pub locked_text : ℕ × RightEnd → List ℕ
 locked_text p = decimal p.0 ++ codes " " ++ right_text p.1
 
--- why a command was refused
+-- the text of a refusal
 unfoldable pub refusal_text : Refusal → List ℕ
 refusal_text (NameTaken n) = codes "NAME-TAKEN " ++ decimal n
 refusal_text NodesFull = codes "NODES-FULL"
@@ -111,13 +111,13 @@ ok_text epoch = line (codes "OK " ++ decimal epoch)
 abbrev pub no_text : List ℕ → List ℕ
 no_text reason = line (codes "NO " ++ reason)
 
--- a row with the nodes that are read and written in it
+-- a row with its read replicas and its write replicas
 unfoldable pub placed_text : TokenRange → List ℕ → List ℕ → List ℕ
 placed_text row reads writes =
     line (codes "(" ++ left_text row.left ++ codes "," ++ right_text row.right
     ++ codes "] read " ++ list_text reads ++ codes " write " ++ list_text writes)
 
--- a row, and the nodes that are read and written at its last token
+-- a row, with the read replicas and the write replicas at its last token
 abbrev pub row_text : Image → Replication → TokenRange → List ℕ
 row_text image replication row =
     let x = last_token row.right in
@@ -132,13 +132,14 @@ place_text image keyspace =
     let rows = rows_between (cuts image) in
     place_head image.epoch keyspace.name (length rows) ++ flat_map (row_text image keyspace.replication) rows
 
--- an answer to a query of quorums: its word, the epoch, how many of the reads and of the writes are needed, and both sets
+-- the answer to a quorum query: its word, the epoch, how many replicas a read needs, the read replicas, and the same
+-- for writes
 unfoldable pub sets_text : List ℕ → ℕ → ℕ × List ℕ → ℕ × List ℕ → List ℕ
 sets_text word epoch reads writes =
     line (word ++ codes " " ++ decimal epoch ++ codes " read " ++ decimal reads.0 ++ codes " of " ++ list_text reads.1
     ++ codes " write " ++ decimal writes.0 ++ codes " of " ++ list_text writes.1)
 
--- the answer where these are the sets
+-- the answer to a quorum query with these sets
 abbrev pub quorum_text : List ℕ → ℕ → Sets → List ℕ
 quorum_text word epoch s = sets_text word epoch (read_need s, s.reads) (write_need s, s.writes)
 
@@ -146,7 +147,7 @@ quorum_text word epoch s = sets_text word epoch (read_need s, s.reads) (write_ne
 abbrev pub named_text : NodeRow → List ℕ
 named_text row = decimal row.id ++ codes " " ++ row.name ++ codes " " ++ row.dc ++ codes " " ++ row.rack
 
--- the same with its state and its tokens
+-- the line of a node: the same, with its state and its tokens
 unfoldable pub node_text : Image → NodeRow → List ℕ
 node_text image row =
     line (named_text row ++ codes " " ++ state_text (state_of_row image row) ++ codes " " ++ tokens_text (node_tokens image row.id))
@@ -157,7 +158,7 @@ sequence_text s =
     line (codes "SEQ " ++ decimal s.node ++ codes " " ++ kind_text s.kind ++ codes " " ++ phase_text s.phase
     ++ codes " out " ++ pairs_text s.out_pairs ++ codes " in " ++ pairs_text s.in_pairs)
 
--- the nodes of a cluster: a head with how many nodes and movements there are, the nodes and the movements
+-- the nodes of a cluster: a head with the number of nodes and the number of movements, the nodes, and the movements
 abbrev pub nodes_head : Image → List ℕ
 nodes_head image =
     line (codes "NODES " ++ decimal image.epoch ++ codes " " ++ decimal (length image.nodes) ++ codes " " ++ decimal (length image.sequences))

@@ -1,17 +1,18 @@
-//! What the words of a command say.
+//! Reads commands from the words of a line.
 
 ghost use Rattle.std.specs.Prelude.{◌≡◌, map, Some, IfOk};
 ghost use Rattle.transformations.specs.declared.command.Command.TheVariants.{Step};
 ghost use Rattle.script_lang.specs.Grammar as spec;
 
 use crate::number::node_of;
-use crate::tokens::{token_of, tokens_of};
+use crate::tokens::{token_of, tokens_in_words};
 use crate::words::is_word;
 use cluster_terms::{Memory, Name, NodeId, Replication, TokenList};
 use std::alloc::Global;
 use transformations::{Command, Goal, Kind};
 
-/// The command that some words say: the first word names it.
+/// The command in these words, or `None` if they are not a command. The first word names the command. Fails only if
+/// memory runs out.
 #[tactic(auto, unfolding(crate::specs::Grammar::command_of))]
 pub fn command_of(alloc: Global, words: &[&[u8]]) -> Result<Option<Command>, Memory>
     ensures { IfOk result (λ found. found ≡ spec.command_of (map (λ word. word.now) words.now)) }
@@ -22,27 +23,27 @@ pub fn command_of(alloc: Global, words: &[&[u8]]) -> Result<Option<Command>, Mem
     }
 }
 
-// What the first word of a command asks for.
+// The command with this first word and these further words.
 #[tactic(auto, unfolding(crate::specs::Grammar::command_named))]
 fn command_named(alloc: Global, word: &[u8], words: &[&[u8]]) -> Result<Option<Command>, Memory>
     ensures { IfOk result (λ found. found ≡ spec.command_named word.now (map (λ word. word.now) words.now)) }
 {
     match word {
-        _ if is_word(word, b"register") => register_of(alloc, words),
-        _ if is_word(word, b"unsafe-join") => unsafe_join_of(alloc, words),
-        _ if is_word(word, b"keyspace") => keyspace_of(alloc, words),
-        _ if is_word(word, b"drop-keyspace") => drop_keyspace_of(alloc, words),
-        _ if is_word(word, b"prepare-join") => prepare_join_of(alloc, words),
-        _ if is_word(word, b"prepare-move") => Ok(prepare_move_of(words)),
-        _ if is_word(word, b"prepare-replace") => Ok(prepare_replace_of(words)),
-        _ => Ok(node_command_of(word, words)),
+        _ if is_word(word, b"register") => register_command(alloc, words),
+        _ if is_word(word, b"unsafe-join") => unsafe_join_command(alloc, words),
+        _ if is_word(word, b"keyspace") => keyspace_command(alloc, words),
+        _ if is_word(word, b"drop-keyspace") => drop_keyspace_command(alloc, words),
+        _ if is_word(word, b"prepare-join") => prepare_join_command(alloc, words),
+        _ if is_word(word, b"prepare-move") => Ok(prepare_move_command(words)),
+        _ if is_word(word, b"prepare-replace") => Ok(prepare_replace_command(words)),
+        _ => Ok(node_only_command(word, words)),
     }
 }
 
 // NAME DC RACK
-#[tactic(auto, unfolding(crate::specs::Grammar::register_of))]
-fn register_of(alloc: Global, words: &[&[u8]]) -> Result<Option<Command>, Memory>
-    ensures { IfOk result (λ found. found ≡ spec.register_of (map (λ word. word.now) words.now)) }
+#[tactic(auto, unfolding(crate::specs::Grammar::register_command))]
+fn register_command(alloc: Global, words: &[&[u8]]) -> Result<Option<Command>, Memory>
+    ensures { IfOk result (λ found. found ≡ spec.register_command (map (λ word. word.now) words.now)) }
 {
     let [name, dc, rack] = words else {
         return Ok(None);
@@ -70,30 +71,30 @@ fn node_and_tokens(alloc: Global, words: &[&[u8]]) -> Result<Option<(NodeId, Tok
     let Some(node) = node_of(node) else {
         return Ok(None);
     };
-    let tokens = tokens_of(alloc, tokens)?;
+    let tokens = tokens_in_words(alloc, tokens)?;
     Ok(tokens.map(|tokens| (node, tokens)))
 }
 
-#[tactic(auto, unfolding(crate::specs::Grammar::unsafe_join_of))]
-fn unsafe_join_of(alloc: Global, words: &[&[u8]]) -> Result<Option<Command>, Memory>
-    ensures { IfOk result (λ found. found ≡ spec.unsafe_join_of (map (λ word. word.now) words.now)) }
+#[tactic(auto, unfolding(crate::specs::Grammar::unsafe_join_command))]
+fn unsafe_join_command(alloc: Global, words: &[&[u8]]) -> Result<Option<Command>, Memory>
+    ensures { IfOk result (λ found. found ≡ spec.unsafe_join_command (map (λ word. word.now) words.now)) }
 {
     let found = node_and_tokens(alloc, words)?;
     Ok(found.map(|(node, tokens)| Command::UnsafeJoin { node, tokens }))
 }
 
-#[tactic(auto, unfolding(crate::specs::Grammar::prepare_join_of))]
-fn prepare_join_of(alloc: Global, words: &[&[u8]]) -> Result<Option<Command>, Memory>
-    ensures { IfOk result (λ found. found ≡ spec.prepare_join_of (map (λ word. word.now) words.now)) }
+#[tactic(auto, unfolding(crate::specs::Grammar::prepare_join_command))]
+fn prepare_join_command(alloc: Global, words: &[&[u8]]) -> Result<Option<Command>, Memory>
+    ensures { IfOk result (λ found. found ≡ spec.prepare_join_command (map (λ word. word.now) words.now)) }
 {
     let found = node_and_tokens(alloc, words)?;
     Ok(found.map(|(node, tokens)| Command::PrepareJoin { node, tokens }))
 }
 
 // NODE TOKEN
-#[tactic(auto, unfolding(crate::specs::Grammar::prepare_move_of))]
-fn prepare_move_of(words: &[&[u8]]) -> Option<Command>
-    ensures { result ≡ spec.prepare_move_of (map (λ word. word.now) words.now) }
+#[tactic(auto, unfolding(crate::specs::Grammar::prepare_move_command))]
+fn prepare_move_command(words: &[&[u8]]) -> Option<Command>
+    ensures { result ≡ spec.prepare_move_command (map (λ word. word.now) words.now) }
 {
     let [node, token] = words else {
         return None;
@@ -104,9 +105,9 @@ fn prepare_move_of(words: &[&[u8]]) -> Option<Command>
 }
 
 // NODE GONE
-#[tactic(auto, unfolding(crate::specs::Grammar::prepare_replace_of))]
-fn prepare_replace_of(words: &[&[u8]]) -> Option<Command>
-    ensures { result ≡ spec.prepare_replace_of (map (λ word. word.now) words.now) }
+#[tactic(auto, unfolding(crate::specs::Grammar::prepare_replace_command))]
+fn prepare_replace_command(words: &[&[u8]]) -> Option<Command>
+    ensures { result ≡ spec.prepare_replace_command (map (λ word. word.now) words.now) }
 {
     let [node, gone] = words else {
         return None;
@@ -117,9 +118,9 @@ fn prepare_replace_of(words: &[&[u8]]) -> Option<Command>
 }
 
 // NAME REPLICATION
-#[tactic(auto, unfolding(crate::specs::Grammar::keyspace_of))]
-fn keyspace_of(alloc: Global, words: &[&[u8]]) -> Result<Option<Command>, Memory>
-    ensures { IfOk result (λ found. found ≡ spec.keyspace_of (map (λ word. word.now) words.now)) }
+#[tactic(auto, unfolding(crate::specs::Grammar::keyspace_command))]
+fn keyspace_command(alloc: Global, words: &[&[u8]]) -> Result<Option<Command>, Memory>
+    ensures { IfOk result (λ found. found ≡ spec.keyspace_command (map (λ word. word.now) words.now)) }
 {
     let [name, replication @ ..] = words else {
         return Ok(None);
@@ -134,15 +135,17 @@ fn keyspace_of(alloc: Global, words: &[&[u8]]) -> Result<Option<Command>, Memory
 }
 
 // NAME
-#[tactic(auto, unfolding(crate::specs::Grammar::drop_keyspace_of))]
-fn drop_keyspace_of(alloc: Global, words: &[&[u8]]) -> Result<Option<Command>, Memory>
-    ensures { IfOk result (λ found. found ≡ spec.drop_keyspace_of (map (λ word. word.now) words.now)) }
+#[tactic(auto, unfolding(crate::specs::Grammar::drop_keyspace_command))]
+fn drop_keyspace_command(alloc: Global, words: &[&[u8]]) -> Result<Option<Command>, Memory>
+    ensures { IfOk result (λ found. found ≡ spec.drop_keyspace_command (map (λ word. word.now) words.now)) }
 {
     let [name] = words else {
         return Ok(None);
     };
-    let name = Name::from_bytes(alloc, name)?;
-    Ok(name.map(|name| Command::DropKeyspace { name }))
+    let Some(name) = Name::from_bytes(alloc, name)? else {
+        return Ok(None);
+    };
+    Ok(Some(Command::DropKeyspace { name }))
 }
 
 // A step of the movement of a node.
@@ -152,7 +155,7 @@ fn step(goal: Goal, kind: Kind, node: NodeId) -> Option<Command>
     Some(Command::Step { goal, kind, node })
 }
 
-// What a word makes of a node, if it is that of a command that has a node alone.
+// The command with this word and this node, if its only argument is a node.
 fn command_on(word: &[u8], node: NodeId) -> Option<Command>
     ensures { result ≡ spec.command_on word.now node }
 {
@@ -176,10 +179,10 @@ fn command_on(word: &[u8], node: NodeId) -> Option<Command>
     }
 }
 
-// A word of a command that has a node alone, and NODE
-#[tactic(auto, unfolding(crate::specs::Grammar::node_command_of))]
-fn node_command_of(word: &[u8], words: &[&[u8]]) -> Option<Command>
-    ensures { result ≡ spec.node_command_of word.now (map (λ word. word.now) words.now) }
+// NODE, after the word of a command whose only argument is a node
+#[tactic(auto, unfolding(crate::specs::Grammar::node_only_command))]
+fn node_only_command(word: &[u8], words: &[&[u8]]) -> Option<Command>
+    ensures { result ≡ spec.node_only_command word.now (map (λ word. word.now) words.now) }
 {
     match words {
         [node] => command_on(word, node_of(node)?),

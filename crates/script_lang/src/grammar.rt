@@ -1,4 +1,4 @@
-//! The grammar of script lines: what a line says, and which bytes are no line.
+//! The grammar of script lines.
 
 ghost use Rattle.std.specs.Prelude.{◌≡◌, ◌<◌, length, map, IfOk, IfSome, IsOk};
 ghost use Rattle.script_lang.specs.Grammar as spec;
@@ -11,11 +11,13 @@ use crate::words::{is_word, words_of};
 use cluster_terms::{Memory, Name};
 use std::alloc::Global;
 
-/// The most bytes that a line has.
+/// The most bytes of a line.
 const LINE_LIMIT: usize = 16_384;
 
-/// What a line says. `None` comes exactly for a line that is not in the grammar, and for one of more than
-/// 16,384 bytes, for which no memory is taken. A command that has tokens has 1 to 256 of them, ascending.
+/// Reads a line of a script; `bytes` is the line without its line feed. Returns `None` if and only if the line isn't in
+/// the grammar or has more than 16,384 bytes. A command that lists tokens has 1 to 256 of them, in ascending order.
+///
+/// Fails only if memory runs out. A line that is too long takes no memory.
 #[tactic(auto, unfolding(crate::specs::Grammar::line_of))]
 pub fn parse_line(alloc: Global, bytes: &[u8]) -> Result<Option<ScriptLine>, Memory>
     ensures meaning { IfOk result (λ found. found ≡ spec.line_of bytes.now) }
@@ -34,19 +36,19 @@ fn line_of_words(alloc: Global, words: &[&[u8]]) -> Result<Option<ScriptLine>, M
     ensures { IfOk result (λ found. found ≡ spec.line_of_words (map (λ word. word.now) words.now)) }
 {
     match words {
-        [word, words @ ..] if is_word(word, b"commit") => commit_of(alloc, words),
-        [word, words @ ..] if is_word(word, b"place") => place_of(alloc, words),
-        [word, words @ ..] if is_word(word, b"nodes") => Ok(nodes_of(words)),
-        [word, words @ ..] if is_word(word, b"quorum") => quorum_of(alloc, words),
-        [word, words @ ..] if is_word(word, b"local") => local_of(alloc, words),
+        [word, words @ ..] if is_word(word, b"commit") => commit_line(alloc, words),
+        [word, words @ ..] if is_word(word, b"place") => place_line(alloc, words),
+        [word, words @ ..] if is_word(word, b"nodes") => Ok(nodes_line(words)),
+        [word, words @ ..] if is_word(word, b"quorum") => quorum_line(alloc, words),
+        [word, words @ ..] if is_word(word, b"local") => local_line(alloc, words),
         _ => Ok(None),
     }
 }
 
 // ID COMMAND
-#[tactic(auto, unfolding(crate::specs::Grammar::commit_of))]
-fn commit_of(alloc: Global, words: &[&[u8]]) -> Result<Option<ScriptLine>, Memory>
-    ensures { IfOk result (λ found. found ≡ spec.commit_of (map (λ word. word.now) words.now)) }
+#[tactic(auto, unfolding(crate::specs::Grammar::commit_line))]
+fn commit_line(alloc: Global, words: &[&[u8]]) -> Result<Option<ScriptLine>, Memory>
+    ensures { IfOk result (λ found. found ≡ spec.commit_line (map (λ word. word.now) words.now)) }
 {
     let [id, command @ ..] = words else {
         return Ok(None);
@@ -59,9 +61,9 @@ fn commit_of(alloc: Global, words: &[&[u8]]) -> Result<Option<ScriptLine>, Memor
 }
 
 // TARGET KS
-#[tactic(auto, unfolding(crate::specs::Grammar::place_of))]
-fn place_of(alloc: Global, words: &[&[u8]]) -> Result<Option<ScriptLine>, Memory>
-    ensures { IfOk result (λ found. found ≡ spec.place_of (map (λ word. word.now) words.now)) }
+#[tactic(auto, unfolding(crate::specs::Grammar::place_line))]
+fn place_line(alloc: Global, words: &[&[u8]]) -> Result<Option<ScriptLine>, Memory>
+    ensures { IfOk result (λ found. found ≡ spec.place_line (map (λ word. word.now) words.now)) }
 {
     let [target, keyspace] = words else {
         return Ok(None);
@@ -74,9 +76,9 @@ fn place_of(alloc: Global, words: &[&[u8]]) -> Result<Option<ScriptLine>, Memory
 }
 
 // TARGET
-#[tactic(auto, unfolding(crate::specs::Grammar::nodes_of))]
-fn nodes_of(words: &[&[u8]]) -> Option<ScriptLine>
-    ensures { result ≡ spec.nodes_of (map (λ word. word.now) words.now) }
+#[tactic(auto, unfolding(crate::specs::Grammar::nodes_line))]
+fn nodes_line(words: &[&[u8]]) -> Option<ScriptLine>
+    ensures { result ≡ spec.nodes_line (map (λ word. word.now) words.now) }
 {
     match words {
         [target] => target_of(target).map(ScriptLine::Nodes),
@@ -85,9 +87,9 @@ fn nodes_of(words: &[&[u8]]) -> Option<ScriptLine>
 }
 
 // TARGET KS TOKEN
-#[tactic(auto, unfolding(crate::specs::Grammar::quorum_of))]
-fn quorum_of(alloc: Global, words: &[&[u8]]) -> Result<Option<ScriptLine>, Memory>
-    ensures { IfOk result (λ found. found ≡ spec.quorum_of (map (λ word. word.now) words.now)) }
+#[tactic(auto, unfolding(crate::specs::Grammar::quorum_line))]
+fn quorum_line(alloc: Global, words: &[&[u8]]) -> Result<Option<ScriptLine>, Memory>
+    ensures { IfOk result (λ found. found ≡ spec.quorum_line (map (λ word. word.now) words.now)) }
 {
     let [target, keyspace, token] = words else {
         return Ok(None);
@@ -103,9 +105,9 @@ fn quorum_of(alloc: Global, words: &[&[u8]]) -> Result<Option<ScriptLine>, Memor
 }
 
 // TARGET KS DC TOKEN
-#[tactic(auto, unfolding(crate::specs::Grammar::local_of))]
-fn local_of(alloc: Global, words: &[&[u8]]) -> Result<Option<ScriptLine>, Memory>
-    ensures { IfOk result (λ found. found ≡ spec.local_of (map (λ word. word.now) words.now)) }
+#[tactic(auto, unfolding(crate::specs::Grammar::local_line))]
+fn local_line(alloc: Global, words: &[&[u8]]) -> Result<Option<ScriptLine>, Memory>
+    ensures { IfOk result (λ found. found ≡ spec.local_line (map (λ word. word.now) words.now)) }
 {
     let [target, keyspace, dc, token] = words else {
         return Ok(None);
@@ -133,6 +135,3 @@ fn target_of(text: &[u8]) -> Option<Target>
         _ => None,
     }
 }
-
-#[cfg(test)]
-mod tests;

@@ -1,4 +1,4 @@
-//! The language of scripts: what a line says, and the texts that answer it.
+//! The language of scripts: reads its lines, and writes the texts of answers.
 #![tactic(auto)]
 
 mod answers;

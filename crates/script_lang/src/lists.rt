@@ -1,4 +1,4 @@
-//! Lists in answers: texts parted by commas, or a dash where there are none.
+//! Lists in answers: texts separated by commas, or a dash for an empty list.
 
 ghost use Rattle.std.specs.Prelude.{◌≡◌, ◌++◌, codes, take, length, OnOk};
 ghost use Rattle.std.specs.List.{flat_map};
@@ -7,8 +7,8 @@ ghost use Rattle.script_lang.specs.Texts as spec;
 use crate::shown::Shown;
 use cluster_terms::{ByteText, Memory};
 
-/// Adds the texts of some items parted by commas, or a dash where there are none. After want of memory the output
-/// begins with what it held.
+/// Adds the texts of the items, separated by commas, or a dash if there are no items. If memory runs out, `out` still
+/// begins with its old content.
 pub fn list_text<T: Shown>(items: &[T], out: &mut ByteText) -> Result<(), Memory>
     ensures added { OnOk result (out.new ≡ out.old ++ spec.listed T.text items.now) }
     ensures kept { take (length out.old) out.new ≡ out.old }
@@ -22,7 +22,7 @@ pub fn list_text<T: Shown>(items: &[T], out: &mut ByteText) -> Result<(), Memory
     }
 }
 
-// Adds the texts of some items, each after a comma.
+// Adds the texts of the items, each after a comma.
 fn add_others<T: Shown>(items: &[T], out: &mut ByteText) -> Result<(), Memory>
     ensures added { OnOk result (out.new ≡ out.old ++ flat_map (λ item. codes "," ++ T.text item) items.now) }
     ensures kept { take (length out.old) out.new ≡ out.old }

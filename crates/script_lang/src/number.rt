@@ -7,8 +7,8 @@ ghost use Rattle.script_lang.specs.Grammar as spec;
 
 use cluster_terms::NodeId;
 
-/// The number below 2^64 that a text writes in decimal digits. `None` comes exactly for any other text: signs and
-/// leading zeros are refused.
+/// The number below 2^64 that a text writes in decimal digits. Returns `None` if and only if the text is anything else;
+/// a sign or a leading zero is refused.
 pub fn number_of(text: &[u8]) -> Option<u64>
     ensures { result ≡ spec.number_below (2 ^ 64) text.now }
 {
@@ -21,9 +21,10 @@ pub fn number_of(text: &[u8]) -> Option<u64>
     digits.parse().ok()
 }
 
-// Whether a text begins as no number does here, though `parse` reads it.
+// Whether a text begins with a plus sign or a leading zero, which `parse` would accept.
 fn has_plus_or_leading_zero(text: &[u8]) -> bool
-    ensures { result ≡ (slice_index text.now 0 == 43) || ((slice_index text.now 0 == 48) && nat_le 2 (length text.now)) }
+    ensures { result ≡ (slice_index text.now 0 == 43)
+        || ((slice_index text.now 0 == 48) && nat_le 2 (length text.now)) }
 {
     matches!(text, [b'+', ..] | [b'0', _, ..])
 }
@@ -37,8 +38,10 @@ pub fn node_of(text: &[u8]) -> Option<NodeId>
     Some(NodeId(id))
 }
 
-/// What the definitions say of numbers and tokens: each is written in one way, which is how it is printed.
+/// Scripts write each number below 2^64 and each token in exactly one way: as answers print it.
 pub fn one_spelling()
-    ensures number { (limit n : ℕ) (text : List ℕ) → limit ≤ 2 ^ 64 → (spec.number_below limit text ≡ Some n) ↔ ((text ≡ decimal n) × (n < limit)) }
-    ensures token { (t : ℤ) (text : List ℕ) → (spec.token_of text ≡ Some t) ↔ ((text ≡ signed_decimal t) × IsToken t) }
+    ensures number { (limit n : ℕ) (text : List ℕ) → limit ≤ 2 ^ 64
+        → (spec.number_below limit text ≡ Some n) ↔ ((text ≡ decimal n) × (n < limit)) }
+    ensures token { (t : ℤ) (text : List ℕ)
+        → (spec.token_of text ≡ Some t) ↔ ((text ≡ signed_decimal t) × IsToken t) }
 {}

@@ -8,8 +8,8 @@ use crate::shown::{Shown, labelled};
 use cluster_terms::{ByteText, Memory, Name, NodeId, RightEnd, Token, TokenRange};
 use node_sets::NodeSet;
 
-/// Adds the head of the placements of a keyspace, with the number of rows. After want of memory the output begins with
-/// what it held.
+/// Adds the head of the placements of a keyspace, with the number of rows. If memory runs out, `out` still begins with
+/// its old content.
 pub fn place_head_text(
     epoch: u64,
     keyspace: &Name,
@@ -25,8 +25,8 @@ pub fn place_head_text(
     out.extend(b"\n")
 }
 
-/// Adds a row, and the nodes that are read and those that are written in it. After want of memory the output begins
-/// with what it held.
+/// Adds the line of a row, with its read replicas and its write replicas. If memory runs out, `out` still begins with
+/// its old content.
 #[tactic(auto, unfolding(crate::specs::Texts::placed_text))]
 pub fn placed_text(
     row: &TokenRange,
@@ -63,10 +63,11 @@ fn add_left(left: Option<Token>, out: &mut ByteText) -> Result<(), Memory>
     }
 }
 
-// Closes a row, and adds the nodes that are read and those that are written there.
+// Closes the interval of a row, adds its read replicas and its write replicas, and ends the line.
 fn add_nodes(reads: &[NodeId], writes: &[NodeId], out: &mut ByteText) -> Result<(), Memory>
     ensures added { OnOk result (out.new ≡ out.old
-        ++ spec.line (codes "] read " ++ spec.list_text reads.now ++ codes " write " ++ spec.list_text writes.now)) }
+        ++ spec.line (codes "] read " ++ spec.list_text reads.now
+        ++ codes " write " ++ spec.list_text writes.now)) }
     ensures kept { take (length out.old) out.new ≡ out.old }
 {
     out.extend(b"] read ")?;
@@ -74,43 +75,4 @@ fn add_nodes(reads: &[NodeId], writes: &[NodeId], out: &mut ByteText) -> Result<
     out.extend(b" write ")?;
     list_text(writes, out)?;
     out.extend(b"\n")
-}
-
-#[cfg(test)]
-mod tests {
-    use super::*;
-    use std::alloc::Global;
-    use std::test::Fail;
-
-    fn set_of(alloc: Global, ids: &[u32]) -> Result<NodeSet, Fail> {
-        let mut nodes = Vec::new(alloc);
-        for id in ids {
-            nodes.push(NodeId(*id))?;
-        }
-        let set = NodeSet::from_ids(alloc, nodes.as_slice())?;
-        Ok(set)
-    }
-
-    #[test]
-    fn rows_follow_the_head(rt: HostRuntime) -> Result<(), Fail> {
-        let ks = Name::from_text(rt.alloc(), "ks")?.ok_or("no name")?;
-        let some = set_of(rt.alloc(), &[3, 1, 20])?;
-        let none = set_of(rt.alloc(), &[])?;
-        let cut = Token::new(-7);
-        let first = TokenRange {
-            left: None,
-            right: RightEnd::At(cut),
-        };
-        let last = TokenRange {
-            left: Some(cut),
-            right: RightEnd::Max,
-        };
-        let mut out = ByteText::empty(rt.alloc());
-        place_head_text(4, &ks, 2, &mut out)?;
-        placed_text(&first, &some, &none, &mut out)?;
-        placed_text(&last, &none, &some, &mut out)?;
-        let text = b"PLACE 4 ks 2\n(min,-7] read 1,3,20 write -\n(-7,max] read - write 1,3,20\n";
-        assert_eq!(rt; out.as_slice(), text.as_slice());
-        Ok(())
-    }
 }

@@ -1,4 +1,4 @@
-//! Why a command was refused.
+//! The texts of refusals.
 
 ghost use Rattle.std.specs.Prelude.{◌≡◌, ◌++◌, codes, take, length, OnOk};
 ghost use Rattle.script_lang.specs.Texts as spec;
@@ -7,7 +7,8 @@ use crate::shown::labelled;
 use cluster_terms::{ByteText, Memory, Name};
 use transformations::Refusal;
 
-/// Adds why a command was refused. After want of memory the output begins with what it held.
+/// Adds the text of a refusal: its word, and the values that explain it. If memory runs out, `out` still begins with
+/// its old content.
 #[tactic(auto, unfolding(crate::specs::Texts::refusal_text))]
 pub fn refusal_text(refusal: &Refusal, out: &mut ByteText) -> Result<(), Memory>
     ensures added { OnOk result (out.new ≡ out.old ++ spec.refusal_text refusal.now) }
@@ -35,9 +36,10 @@ pub fn refusal_text(refusal: &Refusal, out: &mut ByteText) -> Result<(), Memory>
     }
 }
 
-// Adds that a node stands in another rack than this one of a datacenter.
+// Adds `OTHER-RACK`, with the datacenter and the rack of the node to be replaced.
 fn other_rack_text(dc: &Name, rack: &Name, out: &mut ByteText) -> Result<(), Memory>
-    ensures added { OnOk result (out.new ≡ out.old ++ (codes "OTHER-RACK " ++ dc.now ++ codes " " ++ rack.now)) }
+    ensures added { OnOk result (out.new ≡ out.old
+        ++ (codes "OTHER-RACK " ++ dc.now ++ codes " " ++ rack.now)) }
     ensures kept { take (length out.old) out.new ≡ out.old }
 {
     labelled(b"OTHER-RACK ", dc, out)?;

@@ -1,14 +1,14 @@
 use cluster_terms::{Name, Token};
 use transformations::Command;
 
-/// The state that a query asks for.
+/// The state that a query is about.
 #[derive(Debug, Drop)]
 pub enum Target {
-    /// The state after the first so many entries of the log: `@E`.
+    /// `@E`: the state at epoch E, after the first E entries of the log.
     Epoch(u64),
 }
 
-/// What a line of a script says.
+/// A line of a script.
 #[derive(Debug, Drop)]
 pub enum ScriptLine {
     /// `commit ID COMMAND`

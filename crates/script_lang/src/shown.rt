@@ -1,4 +1,4 @@
-//! The texts of single things: numbers, tokens, pairs, and the words of states, kinds and phases.
+//! The texts of single values: numbers, names, tokens, pairs, and the words of states, kinds and phases.
 
 ghost use Rattle.std.specs.Prelude.{◌≡◌, ◌++◌, ℕ, List, decimal, take, length, OnOk};
 ghost use Rattle.std.specs.Fmt.{signed_decimal};
@@ -8,17 +8,17 @@ use cluster_terms::{ByteText, Memory, Name, NodeId, Pair, RightEnd, Token};
 use itoa::Buffer;
 use transformations::{Kind, NodeState, Phase};
 
-/// What has one text in answers.
+/// A value that has exactly one text in answers.
 pub trait Shown {
     ghost text: { Self → List ℕ };
 
-    /// Adds the text. After want of memory the output begins with what it held.
+    /// Adds the text of the value. If memory runs out, `out` still begins with its old content.
     fn show(&self, out: &mut ByteText) -> Result<(), Memory>
         ensures added { OnOk result (out.new ≡ out.old ++ text self.now) }
         ensures kept { take (length out.old) out.new ≡ out.old };
 }
 
-/// Adds a label and a text.
+/// Adds a label and the text of a value. If memory runs out, `out` still begins with its old content.
 pub fn labelled<T: Shown>(label: &[u8], item: &T, out: &mut ByteText) -> Result<(), Memory>
     ensures added { OnOk result (out.new ≡ out.old ++ (label.now ++ T.text item.now)) }
     ensures kept { take (length out.old) out.new ≡ out.old }
@@ -139,7 +139,7 @@ impl Shown for Phase {
     }
 }
 
-// A kind, and how far the movement has come.
+// The kind and the phase of a movement.
 impl Shown for (Kind, Phase) {
     ghost text = { spec.progress_text };
 

@@ -7,7 +7,7 @@ use crate::number::number_of;
 use cluster_terms::{Memory, Token, TokenList};
 use std::alloc::Global;
 
-/// The most tokens that a command gives to a node.
+/// The most tokens that a command may give to a node.
 const MOST_TOKENS: usize = 256;
 
 /// The token that a text writes: a number below 2^63, or a minus sign and a number from 1 to 2^63.
@@ -37,20 +37,20 @@ fn below_zero(n: u64) -> Option<Token>
     Some(Token::new(-1 - past_one))
 }
 
-/// The tokens that some words write, which may come in any order, ascending. `None` comes exactly where a word is no
-/// token, there are no words or more than 256, or a token comes twice.
-pub fn tokens_of(alloc: Global, words: &[&[u8]]) -> Result<Option<TokenList>, Memory>
-    ensures { IfOk result (λ found. found ≡ spec.tokens_of (map (λ word. word.now) words.now)) }
+/// The tokens in these words, in ascending order; the words may come in any order. Returns `None` if and only if a word
+/// isn't a token, a token comes twice, or there are no words or more than 256. Fails only if memory runs out.
+pub fn tokens_in_words(alloc: Global, words: &[&[u8]]) -> Result<Option<TokenList>, Memory>
+    ensures { IfOk result (λ found. found ≡ spec.tokens_in_words (map (λ word. word.now) words.now)) }
 {
-    match each_token_of(alloc, words)? {
+    match each_token_in_words(alloc, words)? {
         Some(tokens) => kept_tokens(alloc, tokens.as_slice()),
         None => Ok(None),
     }
 }
 
-// The tokens of some words in the order read, if each word is a token.
-fn each_token_of(alloc: Global, words: &[&[u8]]) -> Result<Option<TokenList>, Memory>
-    ensures { IfOk result (λ found. found ≡ spec.each_token_of (map (λ word. word.now) words.now)) }
+// The tokens in these words, in the order of the words, if each word is a token.
+fn each_token_in_words(alloc: Global, words: &[&[u8]]) -> Result<Option<TokenList>, Memory>
+    ensures { IfOk result (λ found. found ≡ spec.each_token_in_words (map (λ word. word.now) words.now)) }
 {
     let mut tokens = TokenList::empty(alloc);
     for word in words {

@@ -2,12 +2,12 @@
 
 ghost use Rattle.std.specs.Prelude.{◌≡◌, map, IfOk};
 ghost use Rattle.std.specs.Str.{bytes_eq};
-ghost use Rattle.script_lang.specs.Grammar as spec;
+ghost use Rattle.cluster_terms.specs.ReplicationText as spec;
 
 use cluster_terms::Memory;
 use std::alloc::Global;
 
-/// The words of a line, which are parted by single spaces.
+/// The words of a line, separated by single spaces. Fails only if memory runs out.
 pub fn words_of(alloc: Global, bytes: &[u8]) -> Result<Vec<&[u8]>, Memory>
     ensures { IfOk result (λ words. map (λ word. word.now) words.items ≡ spec.words_of bytes.now) }
 {
@@ -15,7 +15,7 @@ pub fn words_of(alloc: Global, bytes: &[u8]) -> Result<Vec<&[u8]>, Memory>
     Ok(words)
 }
 
-/// Whether a word is the wanted one.
+/// Whether a word equals `wanted`.
 pub fn is_word(word: &[u8], wanted: &[u8]) -> bool
     ensures { result ≡ bytes_eq word.now wanted.now }
 {

@@ -9,10 +9,10 @@ pub trait AtPhase {
 /// Prepared: reads and writes do not see the movement yet.
 pub enum Prepared {}
 
-/// Started: writes see it as done, too.
+/// Started: writes go by the ring before the movement and by the ring after it. Reads don't see it as done.
 pub enum Started {}
 
-/// Half way: reads see it as done, and writes still see both.
+/// Half way: reads see the movement as done, and writes still go by both rings.
 pub enum Mid {}
 
 impl AtPhase for Prepared {

@@ -5,11 +5,11 @@ use crate::phase::{AtPhase, Mid, Prepared, Started};
 use std::marker::{Model, PhantomData};
 use transformations::{Phase, SeqRow};
 
-/// A movement in flight at a phase, as one of CEP-21's multi-step operations: it is prepared, started, brought half
-/// way and finished, in this order, or cancelled. It is seen as its row, which is at the phase of the type.
+/// A movement in flight at a phase (CEP-21's multi-step operations). It is prepared, started, brought half way and
+/// finished, in this order, or cancelled. Contracts see it as its row, which is at the phase of the type.
 ///
-/// The value has to be spent. A `Seq` that is dropped doesn't compile, nor does one that is used twice, nor a step out
-/// of turn, as a `finish` of a `Seq<Started>`.
+/// The value must be consumed. Code doesn't compile if it drops a `Seq`, uses a `Seq` twice, or takes a step out of
+/// order, such as `finish` of a `Seq<Started>`.
 pub struct Seq<P: AtPhase> {
     row: SeqRow,
     at: PhantomData<P>,
@@ -35,7 +35,7 @@ impl<P: AtPhase> Seq<P> {
         &self.row
     }
 
-    /// The row of a movement that is spent.
+    /// Consumes the movement and returns its row.
     fn into_row(self) -> SeqRow
         ensures row { result ≡ self }
         ensures phase { result.phase ≡ P.phase }
@@ -46,7 +46,7 @@ impl<P: AtPhase> Seq<P> {
 }
 
 impl Seq<Prepared> {
-    /// The movement of a row that is prepared.
+    /// The movement of a row at `Prepared`.
     pub fn begin(row: SeqRow) -> Seq<Prepared>
         requires { row.phase ≡ phase.Prepared }
         ensures { result ≡ row }
@@ -57,7 +57,7 @@ impl Seq<Prepared> {
         }
     }
 
-    /// Cancels the movement, which ends it, and gives back its row as it is.
+    /// Cancels the movement, which ends it, and returns its row unchanged.
     pub fn cancel(self) -> SeqRow
         ensures row { result ≡ self }
         ensures phase { result.phase ≡ phase.Prepared }
@@ -65,7 +65,7 @@ impl Seq<Prepared> {
         self.into_row()
     }
 
-    /// Starts the movement: nothing else of it changes.
+    /// Starts the movement. Only its phase changes.
     pub fn start(self) -> Seq<Started>
         ensures { result ≡ record self { phase = phase.Started } }
     {
@@ -79,7 +79,7 @@ impl Seq<Prepared> {
 }
 
 impl Seq<Started> {
-    /// Cancels the movement, which ends it, and gives back its row as it is.
+    /// Cancels the movement, which ends it, and returns its row unchanged.
     pub fn cancel(self) -> SeqRow
         ensures row { result ≡ self }
         ensures phase { result.phase ≡ phase.Started }
@@ -87,7 +87,7 @@ impl Seq<Started> {
         self.into_row()
     }
 
-    /// Brings the movement half way: nothing else of it changes.
+    /// Brings the movement half way. Only its phase changes.
     pub fn mid(self) -> Seq<Mid>
         ensures { result ≡ record self { phase = phase.Mid } }
     {
@@ -101,8 +101,8 @@ impl Seq<Started> {
 }
 
 impl Seq<Mid> {
-    /// Cancels the last step: the movement goes back to where it had started, and nothing else of it changes. With one
-    /// epoch for both ways back, quorums of adjacent epochs need not meet.
+    /// Cancels the last step: the movement goes back to `Started`. Only its phase changes. If one epoch ended the
+    /// movement from here, quorums of adjacent epochs might not meet.
     pub fn cancel(self) -> Seq<Started>
         ensures { result ≡ record self { phase = phase.Started } }
     {
@@ -114,7 +114,7 @@ impl Seq<Mid> {
         }
     }
 
-    /// Finishes the movement, and gives back its row as it is.
+    /// Finishes the movement, and returns its row unchanged.
     pub fn finish(self) -> SeqRow
         ensures row { result ≡ self }
         ensures phase { result.phase ≡ phase.Mid }

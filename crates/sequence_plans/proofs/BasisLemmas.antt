@@ -1,5 +1,5 @@
 -- What the ranges of a sound image's movements are taken from, and that they are its ranges.
-use Rattle.std.proofs.Common.{◌≡◌, Bool, true, not, ℤ, List, ◌++◌, IsTrue, sym, ap, ◌∙◌}
+use Rattle.std.proofs.Common.{◌≡◌, Bool, true, ℤ, List, ◌++◌, IsTrue, sym, ap, ◌∙◌}
 use Rattle.std.proofs.lemmas.Bool.Decides.{Decides-int_eq}
 use Rattle.std.proofs.lemmas.Cmp.{int_cmp_total, int_eq_equiv}
 use Rattle.std.proofs.lemmas.List.Folds.{list_any-append}
@@ -11,7 +11,7 @@ use Rattle.std.specs.Set.{is_member}
 use Rattle.cluster_terms.proofs.AscendingLemmas.{member-ascending}
 use Rattle.cluster_terms.proofs.GroupLemmas.{or_elim}
 use Rattle.cluster_terms.proofs.ReachSame.{reached-same}
-use Rattle.cluster_terms.specs.Pair.{has_pair, same_pair}
+use Rattle.cluster_terms.specs.Pair.{has_pair, same_pair, tokens_of}
 use Rattle.cluster_terms.specs.Reach.{is_reached}
 use Rattle.cluster_terms.specs.Replication.{groups_of}
 use Rattle.cluster_terms.specs.declared.node.NodeRow.{NodeRow}
@@ -24,9 +24,9 @@ use Rattle.token_ring.proofs.BoundLemmas.{out_more}
 use Rattle.token_ring.proofs.DistinctLemmas.{distinct_tokens}
 use Rattle.token_ring.proofs.OrderLemmas.{has_token-IsPermutation}
 use Rattle.token_ring.specs.Ranges.{AreCutOut, HaveTokens}
-use Rattle.token_ring.specs.Ring.{are_distinct, tokens_of}
-use Rattle.transformations.proofs.ListLemmas.{IsPart, all_from_map, all_map, all_members, member_holds, part_all_of, part_distinct, part_filter, part_front, part_map, part_trans}
-use Rattle.transformations.proofs.RangeLemmas.{fixed_part, moved_hold}
+use Rattle.token_ring.specs.Ring.{are_distinct}
+use Rattle.transformations.proofs.lists.ListLemmas.{IsPart, all_from_map, all_map, all_members, member_holds, part_all_of, part_distinct, part_front, part_map, part_trans, part_without_pairs}
+use Rattle.transformations.proofs.ranges.MovementRanges.{fixed_part, moved_hold}
 use Rattle.transformations.specs.Ranges.{in_ranges, moved_by}
 use Rattle.transformations.specs.Rings.{cuts, fixed_ring, outgoing, widest}
 use Rattle.transformations.specs.Valid.{IsSound, brought}
@@ -40,7 +40,7 @@ use Rattle.sequence_plans.specs.Basis.{MovesWithin}
 pub fixed_tokens : (image : Image) → IsSound image → are_distinct (tokens_of (fixed_ring image)) ≡ true
 fixed_tokens image sound =
     let stays : IsPart (fixed_ring image) (image.tokens ++ brought image.sequences) =
-    part_trans (part_filter (λ p. not (is_member same_pair (outgoing image.sequences) p)) image.tokens) (part_front image.tokens (brought image.sequences)) in
+    part_trans (part_without_pairs image.tokens (outgoing image.sequences)) (part_front image.tokens (brought image.sequences)) in
     distinct_tokens (tokens_of (fixed_ring image)) (part_distinct int_eq (part_map (λ (p : Pair). p.token) stays) sound.fresh)
 
 -- its nodes make a directory

@@ -11,7 +11,7 @@ use Rattle.cluster_terms.specs.declared.replication.Replication.{Replication}
 use Rattle.token_ring.specs.Ranges.{AreCutOut, HaveTokens}
 use Rattle.token_ring.specs.declared.book.LockRow.{LockRow}
 use Rattle.token_ring.specs.declared.book.RangeRow.{RangeRow}
-use Rattle.transformations.proofs.RangeLemmas.{moved_within}
+use Rattle.transformations.proofs.ranges.MovementRanges.{moved_within}
 use Rattle.transformations.specs.Orders.{by_node}
 use Rattle.transformations.specs.Ranges.{in_ranges}
 use Rattle.transformations.specs.Refusals.{with_movement}

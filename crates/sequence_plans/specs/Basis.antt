@@ -1,4 +1,5 @@
--- What the ranges of an image's movements are taken from.
+-- The values from which the ranges of an image's movements are computed.
+-- Of the code: no promise rests on these.
 use Rattle.std.specs.Prelude.{◌≡◌, true}
 use Rattle.std.specs.List.{AllByRecursion}
 use Rattle.std.specs.List.Sorted.{IsPermutation}
@@ -10,7 +11,8 @@ use Rattle.transformations.specs.declared.sequence.SeqRow.{SeqRow}
 use Rattle.sequence_plans.specs.Plan.{replications_of}
 use Rattle.sequence_plans.specs.declared.basis.Basis.{Basis}
 
--- the fixed ring, by token; the widest set of pairs; the nodes; and the replications of the keyspaces
+-- the basis has the image's fixed ring, by token, its widest set of pairs, its nodes, and the replications of its
+-- keyspaces
 pub record IsBasis (basis : Basis) : Type 0 where
   pub fixed : IsPermutation (fixed_ring basis.image.now) basis.fixed
   pub widest : basis.widest ≡ widest basis.image.now

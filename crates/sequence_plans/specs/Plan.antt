@@ -1,6 +1,7 @@
 -- Plans of movements: their ranges, and those of the movements in flight beside them.
 use Rattle.std.specs.Prelude.{◌≡◌, not, List, [], ◌∷◌, map, filter}
 use Rattle.std.specs.List.{AllByRecursion}
+use Rattle.cluster_terms.specs.Arc.{IsToken}
 use Rattle.cluster_terms.specs.Replication.{same_replication}
 use Rattle.cluster_terms.specs.declared.replication.Replication.{Replication}
 use Rattle.token_ring.specs.Ranges.{AreCutOut, HaveTokens}
@@ -14,7 +15,7 @@ use Rattle.transformations.specs.declared.keyspace.KeyspaceRow.{KeyspaceRow}
 use Rattle.transformations.specs.declared.sequence.SeqRow.{SeqRow}
 use Rattle.placement_deltas.specs.declared.plan.Plan.{Plan}
 
--- the replications of some keyspaces, each once, in the order in which the keyspaces first show it
+-- the replications of these keyspaces, each once, in the order in which they first appear
 abbrev pub replications_of : List KeyspaceRow → List Replication
 replications_of [] = []
 replications_of (k ∷ ks) = k.replication ∷ filter (λ r. not (same_replication k.replication r)) (replications_of ks)
@@ -25,7 +26,7 @@ pub record IsBook (image : Image) (s : SeqRow) (book : List RangeRow) : Type 0 w
   pub ranges : AllByRecursion (λ r. HaveTokens (in_ranges image r.replication s) r.ranges) book
   pub bounds : AllByRecursion (λ r. AreCutOut (cuts image) r.ranges) book
 
--- the ranges of a movement, beside its node; and those of some movements, in their order
+-- the row has a movement's node and its ranges; and the rows of these movements, in their order
 pub record IsLockRow (image : Image) (s : SeqRow) (row : LockRow) : Type 0 where
   pub node : row.node ≡ s.node
   pub ranges : IsBook image s row.ranges
@@ -36,9 +37,10 @@ AreLocks image [] (row ∷ rows) = ⊥
 AreLocks image (s ∷ sequences) [] = ⊥
 AreLocks image (s ∷ sequences) (row ∷ rows) = IsLockRow image s row × AreLocks image sequences rows
 
--- what is known of a movement in the image that has it: its row, the cuts, its ranges, and those of the other movements
+-- the plan of a movement, in the image that has it: its row, the cuts, its ranges, and those of the other movements
 pub record IsPlan (image : Image) (s : SeqRow) (plan : Plan) : Type 0 where
   pub row : plan.row ≡ s
   pub cuts : plan.cuts ≡ cuts image
+  pub tokens : AllByRecursion IsToken plan.cuts
   pub ranges : IsBook image s plan.ranges
   pub wide : AreLocks image (others image.sequences s.node) plan.wide

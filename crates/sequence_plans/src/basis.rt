@@ -15,7 +15,7 @@ use std::alloc::Global;
 use token_ring::{LockRow, LockRows, RangeBook, RangeList, RangeRow, Ring};
 use transformations::{Image, SeqRow, fixed_ring, widest};
 
-/// What the ranges of an image's movements are taken from.
+/// The values from which the ranges of an image's movements are computed. They are the same for all movements.
 #[derive(Drop)]
 pub struct Basis<'a> {
     alloc: Global,
@@ -26,7 +26,7 @@ pub struct Basis<'a> {
     replications: Replications,
 }
 
-/// The pairs that a movement takes out, and those that it puts in.
+/// The pairs that a movement takes out, followed by the pairs that it puts in.
 fn moved_by(row: &SeqRow) -> Result<PairList, Memory>
     ensures { IfOk result (λ pairs. pairs ≡ moved_by row.now) }
 {
@@ -36,7 +36,7 @@ fn moved_by(row: &SeqRow) -> Result<PairList, Memory>
 }
 
 impl<'a> Basis<'a> {
-    /// The basis of an image's ranges.
+    /// The basis of an image's ranges. `Err` means that memory ran out.
     pub fn of_image(alloc: Global, image: &'a Image) -> Result<Basis<'a>, Memory>
         requires { IsSound image.now }
         ensures image { IfOk result (λ basis. basis.image.now ≡ image.now) }
@@ -57,7 +57,8 @@ impl<'a> Basis<'a> {
     fn ranges_of(&self, row: &SeqRow, replication: &Replication) -> Result<RangeList, Memory>
         requires basis { IsBasis self.now }
         requires within { MovesWithin self.now.image.now row.now }
-        ensures ranges { IfOk result (λ ranges. HaveTokens (in_ranges self.now.image.now replication.now row.now) ranges) }
+        ensures ranges { IfOk result
+            (HaveTokens (in_ranges self.now.image.now replication.now row.now)) }
         ensures bounds { IfOk result (λ ranges. AreCutOut (cuts self.now.image.now) ranges) }
     {
         let moved = moved_by(row)?;
@@ -71,7 +72,7 @@ impl<'a> Basis<'a> {
         )
     }
 
-    /// The ranges of a movement under each replication of the keyspaces.
+    /// The ranges of a movement under each replication of the keyspaces. `Err` means that memory ran out.
     pub fn book_of(&self, row: &SeqRow) -> Result<RangeBook, Memory>
         requires basis { IsBasis self.now }
         requires within { MovesWithin self.now.image.now row.now }
@@ -87,7 +88,7 @@ impl<'a> Basis<'a> {
         Ok(book)
     }
 
-    /// The ranges of all movements but that of a node.
+    /// The ranges of all movements, except the movement of a node. `Err` means that memory ran out.
     pub fn locks_beside(&self, node: NodeId) -> Result<LockRows, Memory>
         requires basis { IsBasis self.now }
         requires sound { IsSound self.now.image.now }

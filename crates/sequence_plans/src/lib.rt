@@ -1,10 +1,8 @@
-//! What is known of a movement when it is prepared.
+//! Plans of movements, made when the movements are prepared.
 #![tactic(auto)]
 
 mod basis;
 mod planning;
 mod replications;
-#[cfg(test)]
-mod tests;
 
 pub use planning::plan;

@@ -1,4 +1,6 @@
 ghost use Rattle.std.specs.Prelude.{◌≡◌, IfOk, MatchResult};
+ghost use Rattle.std.specs.List.{AllByRecursion};
+ghost use Rattle.cluster_terms.specs.Arc.{IsToken};
 ghost use Rattle.transformations.specs.Refusals.{with_movement};
 ghost use Rattle.transformations.specs.Rings.{cuts};
 ghost use Rattle.transformations.specs.Steps.{others};
@@ -14,7 +16,7 @@ use std::sync::ledger::Ledger;
 use token_ring::{LockRows, RangeBook};
 use transformations::{Image, SeqRow, cuts};
 
-/// An image with a movement more, or with another row of a node's movement.
+/// A copy of an image with this row: the row of a new movement, or the new row of a node's movement.
 fn with_movement(image: &Image, row: &SeqRow) -> Result<Image, Memory>
     ensures { IfOk result (λ wide. wide ≡ with_movement image.now row.now) }
 {
@@ -23,7 +25,7 @@ fn with_movement(image: &Image, row: &SeqRow) -> Result<Image, Memory>
     Ok(wide)
 }
 
-/// The cuts of an image with a movement more, the ranges of this movement, and those of all others.
+/// The cuts of an image with a new movement, the ranges of this movement, and the ranges of all other movements.
 fn planned(
     alloc: Global,
     image: &Image,
@@ -31,8 +33,10 @@ fn planned(
 ) -> Result<(TokenList, RangeBook, LockRows), Memory>
     requires { IsSound (with_movement image.now row.now) }
     ensures cuts { IfOk result (λ found. found.0 ≡ cuts (with_movement image.now row.now)) }
+    ensures tokens { IfOk result (λ found. AllByRecursion IsToken found.0) }
     ensures ranges { IfOk result (λ found. IsBook (with_movement image.now row.now) row.now found.1) }
-    ensures wide { IfOk result (λ found. AreLocks (with_movement image.now row.now) (others (with_movement image.now row.now).sequences row.now.node) found.2) }
+    ensures wide { IfOk result (λ found. let wide = with_movement image.now row.now in
+        AreLocks wide (others wide.sequences row.now.node) found.2) }
 {
     let wide = with_movement(image, row)?;
     let basis = Basis::of_image(alloc, &wide)?;
@@ -42,14 +46,13 @@ fn planned(
     Ok((cuts, ranges, locks))
 }
 
-/// What is known of a movement that is to be prepared: the image with it gives the cuts, its ranges, and those of the
-/// movements in flight, under each replication that a keyspace has. A book has one row for each of these replications,
-/// however many keyspaces have it. `Err` comes only where memory is wanting, and hands the row back. No strategy is
-/// called.
+/// The plan of a movement that is to be prepared, in the image with this movement: the cuts, its ranges, and the ranges
+/// of the other movements. The ranges are those under each replication that a keyspace has. A book has one row for each
+/// replication, however many keyspaces have it. If memory runs out, `Err` returns the row.
 ///
-/// The image is copied with the row, and its fixed ring, its widest set of pairs and its directory are made once. For n
-/// tokens of the ring and of all movements the cuts take up to n² comparisons. For m movements with the new one and r
-/// replications, `reached` is called m·r times.
+/// Cost: copies the image, and makes its fixed ring, its widest set of pairs and its directory once. For n tokens of
+/// the ring and of all movements, the cuts cost about n log n. For m movements with the new one and r replications,
+/// `reached` is called m·r times. No strategy is called.
 pub fn plan<L: Ledger>(
     alloc: Global,
     image: &Image,

@@ -7,17 +7,18 @@ use cluster_terms::{Memory, Replication, SmallList, TryCopy};
 use std::alloc::Global;
 use transformations::KeyspaceRow;
 
-/// Replications in a row.
+/// A list of replications.
 pub type Replications = SmallList<Replication>;
 
-/// Whether a replication is among some.
+/// Whether a replication is in a list.
 fn has(replications: &[Replication], replication: &Replication) -> bool
     ensures { result ≡ list_any (λ r. same_replication r replication.now) replications.now }
 {
     replications.iter().any(|other| other.same(replication))
 }
 
-/// The replications of some keyspaces, each once, in the order in which the keyspaces first show it.
+/// The replications of these keyspaces, each once, in the order in which they first appear. `Err` means that memory ran
+/// out.
 pub fn replications_of(alloc: Global, keyspaces: &[KeyspaceRow]) -> Result<Replications, Memory>
     ensures { IfOk result (λ list. list ≡ replications_of keyspaces.now) }
 {

@@ -10,7 +10,7 @@ use cluster_terms::{Memory, NodeId, PairList, Token, TokenList};
 use std::alloc::Global;
 use transformations::{Image, Kind, Phase, SeqRow};
 
-/// The row of a join that is prepared.
+/// The row of a prepared join.
 fn join_with(alloc: Global, node: NodeId, tokens: &[Token]) -> Result<SeqRow, Memory>
     ensures { IfOk result (λ row. row ≡ join_of node tokens.now) }
 {
@@ -23,9 +23,8 @@ fn join_with(alloc: Global, node: NodeId, tokens: &[Token]) -> Result<SeqRow, Me
     })
 }
 
-/// The row of a join that is prepared: it takes no pair out, and puts in the node's tokens. The image stays sound with
-/// it, since it refuses the join for its locked ranges at most. `Err` comes only where memory is wanting for the row's
-/// pairs, one for each token.
+/// The row of a prepared join: it takes no pair out, and puts in the node's tokens. The image has no early refusal of
+/// the join, so it stays sound with this row. `Err` means that memory ran out for the pairs, one for each token.
 pub fn join_row(
     alloc: Global,
     image: &Image,

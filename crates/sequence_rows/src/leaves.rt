@@ -9,7 +9,7 @@ use cluster_terms::{Memory, NodeId, Pair, PairList};
 use std::alloc::Global;
 use transformations::{Image, Kind, Phase, SeqRow};
 
-/// The row of a leave that is prepared.
+/// The row of a prepared leave.
 fn leave_with(alloc: Global, ring: &[Pair], node: NodeId) -> Result<SeqRow, Memory>
     ensures { IfOk result (λ row. row ≡ leave_of ring.now node) }
 {
@@ -24,9 +24,9 @@ fn leave_with(alloc: Global, ring: &[Pair], node: NodeId) -> Result<SeqRow, Memo
     })
 }
 
-/// The row of a leave that is prepared: it takes the node's pairs out, and puts none in. The image stays sound with it,
-/// since it refuses the leave for its locked ranges at most. One pass over the ring. `Err` comes only where memory is
-/// wanting for the row's pairs, one for each token of the node.
+/// The row of a prepared leave: it takes the node's pairs out, and puts none in. The image has no early refusal of the
+/// leave, so it stays sound with this row. `Err` means that memory ran out for the pairs, one for each token of the
+/// node. Cost: one pass over the ring.
 pub fn leave_row(alloc: Global, image: &Image, node: NodeId) -> Result<SeqRow, Memory>
     requires sound { IsSound image.now }
     requires early { early_refusal_of image.now (command.PrepareLeave node) ≡ None }

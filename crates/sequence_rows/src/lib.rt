@@ -1,4 +1,4 @@
-//! The rows of movements that are prepared, one for each kind (CEP-21's multi-step operations).
+//! The rows of prepared movements, for each kind of movement (CEP-21's multi-step operations).
 #![tactic(auto)]
 
 pub mod join;

@@ -9,7 +9,7 @@ use cluster_terms::{Memory, NodeId, Pair, Token};
 use std::alloc::Global;
 use transformations::{Image, Kind, Phase, SeqRow};
 
-/// The row of a move that is prepared.
+/// The row of a prepared move.
 fn move_with(alloc: Global, ring: &[Pair], node: NodeId, token: Token) -> Result<SeqRow, Memory>
     ensures { IfOk result (λ row. row ≡ move_of ring.now node token) }
 {
@@ -24,9 +24,9 @@ fn move_with(alloc: Global, ring: &[Pair], node: NodeId, token: Token) -> Result
     })
 }
 
-/// The row of a move that is prepared: it takes the node's one pair out, and puts its new token in. The image stays
-/// sound with it, since it refuses the move for its locked ranges at most. One pass over the ring. `Err` comes only where
-/// memory is wanting for the row's two pairs.
+/// The row of a prepared move: it takes the node's only pair out, and puts in its new token. The image has no early
+/// refusal of the move, so it stays sound with this row. `Err` means that memory ran out for the two pairs. Cost: one
+/// pass over the ring.
 pub fn move_row(alloc: Global, image: &Image, node: NodeId, token: Token) -> Result<SeqRow, Memory>
     requires sound { IsSound image.now }
     requires early { early_refusal_of image.now (command.PrepareMove node token) ≡ None }

@@ -4,7 +4,7 @@ ghost use Rattle.transformations.specs.Steps.{owned, pairs_of};
 use cluster_terms::{Memory, NodeId, Pair, PairList, Token};
 use std::alloc::Global;
 
-/// The pairs of a node and its tokens, in the order of the tokens.
+/// The pairs of a node with each of these tokens, in the same order. `Err` means that memory ran out.
 pub fn pairs_with(alloc: Global, node: NodeId, tokens: &[Token]) -> Result<PairList, Memory>
     ensures { IfOk result (λ pairs. pairs ≡ pairs_of node tokens.now) }
 {
@@ -18,7 +18,7 @@ pub fn pairs_with(alloc: Global, node: NodeId, tokens: &[Token]) -> Result<PairL
     Ok(pairs)
 }
 
-/// The pairs of a node in a ring, in their order.
+/// The pairs of a node in a ring, in the order of the ring.
 pub(crate) fn owned(alloc: Global, ring: &[Pair], node: NodeId) -> Result<PairList, Memory>
     ensures { IfOk result (λ pairs. pairs ≡ owned ring.now node) }
 {
@@ -31,7 +31,7 @@ pub(crate) fn owned(alloc: Global, ring: &[Pair], node: NodeId) -> Result<PairLi
     Ok(pairs)
 }
 
-/// The tokens of some pairs, with another node.
+/// The pairs of another node with the tokens of these pairs, in the same order.
 pub(crate) fn handed_over(alloc: Global, pairs: &[Pair], node: NodeId) -> Result<PairList, Memory>
     ensures { IfOk result (λ handed. handed ≡ pairs_of node (map (λ p. p.token) pairs.now)) }
 {

@@ -9,7 +9,7 @@ use cluster_terms::{Memory, NodeId, Pair};
 use std::alloc::Global;
 use transformations::{Image, Kind, Phase, SeqRow};
 
-/// The row of a replace that is prepared.
+/// The row of a prepared replace.
 fn replace_with(alloc: Global, ring: &[Pair], node: NodeId, gone: NodeId) -> Result<SeqRow, Memory>
     ensures { IfOk result (λ row. row ≡ replace_of ring.now node gone) }
 {
@@ -24,10 +24,9 @@ fn replace_with(alloc: Global, ring: &[Pair], node: NodeId, gone: NodeId) -> Res
     })
 }
 
-/// The row of a replace that is prepared: it takes the pairs of the node that is gone out, and puts the same tokens in
-/// with the new node. The image stays sound with it, since it refuses the replace for its locked ranges at most. One pass
-/// over the ring. `Err` comes only where memory is wanting for the row's pairs, two for each token of the node that is
-/// gone.
+/// The row of a prepared replace: it takes out the pairs of `gone`, and puts in the same tokens with the new node. The
+/// image has no early refusal of the replace, so it stays sound with this row. `Err` means that memory ran out for the
+/// pairs, two for each token of `gone`. Cost: one pass over the ring.
 pub fn replace_row(
     alloc: Global,
     image: &Image,

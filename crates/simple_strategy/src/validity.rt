@@ -1,4 +1,4 @@
-//! What it means that nodes are the placement.
+//! The placement is what SimpleStrategy's walk takes.
 
 ghost use Rattle.std.specs.Prelude.{◌≡◌, ℕ, ◌≤◌, ℤ, List, [], ◌∷◌, ◌++◌, take, drop};
 ghost use Rattle.std.specs.Ordering.{nat_cmp};
@@ -9,10 +9,12 @@ ghost use Rattle.cluster_terms.specs.declared.token.Pair.{Pair};
 ghost use Rattle.token_ring.specs.Ring.{IsFirstAt, IsRing};
 ghost use Rattle.simple_strategy.specs.Walk.{taken_after};
 
-/// The placement of the one group of all nodes, which is defined by counting, is what SimpleStrategy's walk takes: from
-/// the first token at or after `x` round the ring each node that isn't taken yet, until `rf` nodes are.
+/// The placement of the group of all nodes, which is defined by counting, is what SimpleStrategy's walk takes: from the
+/// first token at or after `x` round the ring each node that isn't taken yet, until it has `rf` nodes. In an empty ring
+/// the placement is empty.
 pub fn placement_is_walked()
     ensures walk { (rf i : ℕ) (ring : List Pair) (x : ℤ) → 1 ≤ rf → IsRing ring → IsFirstAt ring x i
-        → place (whole_group rf ∷ []) x ring ≡ ascending nat_cmp (taken_after rf [] (nodes_of (drop i ring ++ take i ring))) }
+        → place (whole_group rf ∷ []) x ring
+        ≡ ascending nat_cmp (taken_after rf [] (nodes_of (drop i ring ++ take i ring))) }
     ensures nowhere { (rf : ℕ) (x : ℤ) → place (whole_group rf ∷ []) x [] ≡ [] }
 {}

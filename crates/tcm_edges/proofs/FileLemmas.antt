@@ -1,5 +1,5 @@
 -- Lemmas on files, and on a list of files as a map.
-use Rattle.std.proofs.Common.{◌≡◌, ◌≢◌, ℕ, suc, ◌+◌, ◌<◌, ◌≤◌, Bool, true, false, cond, not, ◌||◌, ltb, List, [], ◌∷◌, ◌++◌, Option, Some, None, refl, sym, ap, ◌∙◌, subst, length, get_or, set, position, arith, add_comm, add-one, append-nil, take, drop, take-append-drop, inl, inr, Result, Ok, Err, OnOk, IfErr}
+use Rattle.std.proofs.Common.{◌≡◌, ◌≢◌, ℕ, suc, ◌+◌, ◌<◌, ◌≤◌, Bool, true, false, cond, not, ltb, List, [], ◌∷◌, ◌++◌, Option, Some, None, refl, sym, ap, ◌∙◌, subst, length, get_or, set, position, arith, add_comm, add-one, append-nil, take, drop, take-append-drop, inl, inr, Result, Ok, Err, OnOk, IfErr}
 use Rattle.std.specs.List.{list_any, position_or_len}
 use Rattle.std.specs.Ordering.{nat_cmp, eq_by_cmp}
 use Rattle.std.specs.Cmp.Lexicographic.{slice_cmp}
@@ -8,15 +8,16 @@ use Rattle.std.specs.Str.{bytes_eq}
 use Rattle.std.proofs.lemmas.Map.Text.{is_eq-slice_cmp}
 use Rattle.std.proofs.lemmas.Cmp.{nat_list_cmp_total}
 use Rattle.std.proofs.lemmas.Slice.Eq.{bytes_eq-Decides}
-use Rattle.std.proofs.lemmas.Bool.{ltb-true, ltb-false, false≢true}
+use Rattle.std.proofs.lemmas.Bool.{ltb-true, ltb-false, false≢true, false_from_ne_true, or_from, or_parts}
 use Rattle.std.proofs.Math.Seq.{get_or-append_seam, set-append_seam}
 use Rattle.std.specs.Io.KnownBytes.{Appends, Keeps}
 use Rattle.tcm_edges.specs.declared.fault.WriteFault.{WriteFault}
 use Rattle.tcm_edges.specs.declared.fault.WriteFault.TheVariants as write
 use Rattle.tcm_edges.specs.Causes.{OnFailed}
-use Rattle.tcm_edges.specs.Files.{Files, content, file_of, told_content, is_named, ChangesFile, GainsAll, GainsPart, OthersKept}
+use Rattle.tcm_edges.specs.Files.{Files, content, file_of, told_content, ChangesFile, GainsAll, GainsPart, OthersKept}
 use Rattle.tcm_edges.specs.Owed.{WritesPrefix}
 use Rattle.tcm_edges.specs.Writes.{KeptAtMemory}
+use Rattle.tcm_edges.specs.StoredFiles.{is_named}
 use Rattle.tcm_edges.proofs.OwedLemmas.{WritesPrefix-refl, WritesPrefix-whole, WritesPrefix-keep}
 
 -- ---- names
@@ -35,11 +36,7 @@ same_name : (a b : List ℕ) → bytes_eq a b ≡ true → a ≡ b
 same_name a b e = (bytes_eq-Decides a b).0 e
 
 named_other : (a b : List ℕ) → a ≢ b → bytes_eq a b ≡ false
-named_other a b apart = by (bytes_eq a b) refl
-  where
-    by : (t : Bool) → bytes_eq a b ≡ t → bytes_eq a b ≡ false
-    by true e = absurd (apart (same_name a b e))
-    by false e = e
+named_other a b apart = false_from_ne_true (bytes_eq a b) (λ e. apart (same_name a b e))
 
 -- ---- a file put into a map
 
@@ -66,9 +63,6 @@ record Found (name : List ℕ) (files : List File) (at : ℕ) : Type 0 where
   named : is_named name item ≡ true
   before : list_any (is_named name) pre ≡ false
 
-neither : (a b : Bool) → a ≡ false → b ≡ false → (a || b) ≡ false
-neither a b e f = rw (e, f)
-
 found : (name : List ℕ) (files : List File) (at : ℕ) → at ≡ position_or_len (is_named name) files → at < length files → Found name files at
 found name [] at is_at within = absurd (omega arith)
 found name (file ∷ files) at is_at within = by (is_named name file) refl (found name files (position_or_len (is_named name) files) refl)
@@ -93,27 +87,19 @@ found name (file ∷ files) at is_at within = by (is_named name file) refl (foun
           named = it.named;
           whole = ap (λ l. file ∷ l) it.whole;
           place = ap suc it.place ∙ sym (later ∙ add_comm 1 _ ∙ add-one _);
-          before = neither _ _ e it.before;
+          before = or_from _ _ e it.before;
         }
 
 -- in a list, the value of the first file of a name
 abbrev first : List ℕ → List File → Option (List ℕ)
 first name files = map.find (slice_cmp nat_cmp) name files
 
-left_false : (a b : Bool) → (a || b) ≡ false → a ≡ false
-left_false true b e = e
-left_false false b e = refl
-
-right_false : (a b : Bool) → (a || b) ≡ false → b ≡ false
-right_false true b e = absurd (false≢true (sym e))
-right_false false b e = e
-
 first-at : (name : List ℕ) (pre : List File) (item : File) (post : List File) → is_named name item ≡ true → list_any (is_named name) pre ≡ false
     → first name (pre ++ item ∷ post) ≡ Some item.1
 first-at name [] item post is before = ap (λ t. cond t (Some item.1) (first name post)) (same_test name item.0 ∙ is)
 first-at name (file ∷ pre) item post is before =
-    ap (λ t. cond t (Some file.1) (first name (pre ++ item ∷ post))) (same_test name file.0 ∙ left_false _ _ before)
-    ∙ first-at name pre item post is (right_false (is_named name file) _ before)
+    ap (λ t. cond t (Some file.1) (first name (pre ++ item ∷ post))) (same_test name file.0 ∙ (or_parts (is_named name file) (list_any (is_named name) pre) before).0)
+    ∙ first-at name pre item post is (or_parts (is_named name file) (list_any (is_named name) pre) before).1
 
 -- a value that is given twice under one test
 twice : (t : Bool) (x y z : Option (List ℕ)) → cond t x z ≡ cond t x (cond t y z)
@@ -134,14 +120,14 @@ first-changed name [] item post bytes other is before =
     ∙ ap (λ n. cond (same other n) (Some bytes) (cond (same other item.0) (Some item.1) (first other post))) (sym (same_name name item.0 is))
 first-changed name (file ∷ pre) item post bytes other is before =
     let apart : same other file.0 ≡ true → same other name ≡ true → ⊥ =
-    λ e f. false≢true (sym (left_false _ _ before) ∙ ap (λ n. bytes_eq n file.0) (sym (same_name other name (sym (same_test other name) ∙ f))) ∙ sym (same_test other file.0) ∙ e) in
-    ap (λ r. cond (same other file.0) (Some file.1) r) (first-changed name pre item post bytes other is (right_false (is_named name file) _ before))
+    λ e f. false≢true (sym (or_parts (is_named name file) (list_any (is_named name) pre) before).0 ∙ ap (λ n. bytes_eq n file.0) (sym (same_name other name (sym (same_test other name) ∙ f))) ∙ sym (same_test other file.0) ∙ e) in
+    ap (λ r. cond (same other file.0) (Some file.1) r) (first-changed name pre item post bytes other is (or_parts (is_named name file) (list_any (is_named name) pre) before).1)
     ∙ swapped (same other file.0) (same other name) (Some file.1) (Some bytes) (first other (pre ++ item ∷ post)) apart
 
 none_first : (name : List ℕ) (files : List File) → list_any (is_named name) files ≡ false → first name files ≡ None
 none_first name [] none = refl
 none_first name (file ∷ files) none =
-    ap (λ t. cond t (Some file.1) (first name files)) (same_test name file.0 ∙ left_false _ _ none) ∙ none_first name files (right_false (is_named name file) _ none)
+    ap (λ t. cond t (Some file.1) (first name files)) (same_test name file.0 ∙ (or_parts (is_named name file) (list_any (is_named name) files) none).0) ∙ none_first name files (or_parts (is_named name file) (list_any (is_named name) files) none).1
 
 -- ---- the place of a file
 
@@ -161,7 +147,7 @@ none_named name (file ∷ files) h = by (is_named name file) refl (none_named na
   where
     by : (t : Bool) → is_named name file ≡ t → (length files ≤ position_or_len (is_named name) files → list_any (is_named name) files ≡ false) → list_any (is_named name) (file ∷ files) ≡ false
     by true e rest = absurd (omega (arith, h, ap (λ t. cond (not t) (1 + position_or_len (is_named name) files) 0) e))
-    by false e rest = neither _ _ e (rest (omega (arith, h, ap (λ t. cond (not t) (1 + position_or_len (is_named name) files) 0) e)))
+    by false e rest = or_from _ _ e (rest (omega (arith, h, ap (λ t. cond (not t) (1 + position_or_len (is_named name) files) 0) e)))
 
 unplaced : (name : List ℕ) (files : List File) → position (is_named name) files ≡ None → list_any (is_named name) files ≡ false
 unplaced name files e = by (ltb (position_or_len (is_named name) files) (length files)) refl e

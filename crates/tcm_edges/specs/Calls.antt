@@ -9,18 +9,18 @@ pub record Plan : Type 0 where
   pub made : ℕ
   pub faults : ℕ
 
--- no call was made
-abbrev pub begun : List ℕ → Plan
-begun fails = record { fails = fails; made = 0; faults = 0 }
+-- the plan before the first call
+abbrev pub fresh_plan : List ℕ → Plan
+fresh_plan fails = record { fails = fails; made = 0; faults = 0 }
 
 -- whether the next call is to fail; the first call has the number 1
 abbrev pub next_fails : Plan → Bool
 next_fails plan = list_any (λ call. call == one_more plan.made) plan.fails
 
--- a call went well
+-- the plan after a call that succeeded
 abbrev pub passed : Plan → Plan
 passed plan = record plan { made = one_more plan.made }
 
--- a call failed
+-- the plan after a call that failed
 abbrev pub failed : Plan → Plan
 failed plan = record plan { made = one_more plan.made; faults = one_more plan.faults }

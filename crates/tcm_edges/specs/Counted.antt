@@ -1,4 +1,4 @@
--- What stands outside, with a count of its failures.
+-- A reader or a writer with a count of its failures.
 use Rattle.std.specs.Prelude.{ℕ}
 
 -- a reader or a writer, and how many of its calls failed

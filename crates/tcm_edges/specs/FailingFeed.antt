@@ -1,8 +1,8 @@
--- Bytes that are given in pieces, by calls some of which are to fail.
+-- Bytes given in pieces, with a plan of the calls that are to fail.
 use Rattle.tcm_edges.specs.Calls.{Plan}
 use Rattle.tcm_edges.specs.Feed.{Feed}
 
--- the bytes, and the calls
+-- the bytes to give, and the plan of the calls
 pub record FailingFeed : Type 0 where
   pub feed : Feed
   pub plan : Plan

@@ -1,10 +1,9 @@
 -- Files: bytes by name.
-use Rattle.std.specs.Prelude.{◌≡◌, ◌≢◌, ℕ, List, [], ◌++◌, Bool, length, take, ⊤, Option, None, Some, nat_le, if◌then◌else◌, unwrap_or, ◌⊎◌}
+use Rattle.std.specs.Prelude.{◌≡◌, ◌≢◌, ℕ, List, [], ◌++◌, length, take, ⊤, Option, None, Some, nat_le, if◌then◌else◌, unwrap_or, ◌⊎◌}
 use Rattle.std.specs.Ordering.{nat_cmp}
 use Rattle.std.specs.Cmp.Lexicographic.{slice_cmp}
 use Rattle.std.specs.Option.{option_map}
 use Rattle.std.specs.FinMap as map
-use Rattle.std.specs.Str.{bytes_eq}
 use Rattle.tcm_edges.specs.declared.store.Loaded.{Loaded}
 use Rattle.tcm_edges.specs.declared.store.Loaded.TheVariants.{Bytes, Absent, TooLarge}
 
@@ -12,24 +11,24 @@ use Rattle.tcm_edges.specs.declared.store.Loaded.TheVariants.{Bytes, Absent, Too
 abbrev pub Files : Type 0
 Files = map.FinMap (slice_cmp nat_cmp) (List ℕ)
 
--- the file of a name; none where it is absent
+-- the file with this name; None if it is absent
 abbrev pub file_of : Files → List ℕ → Option (List ℕ)
 file_of all name = map.get all name
 
--- what a load answers of a file
+-- the answer of a load of this file, with a limit of bytes
 abbrev pub loaded_of : Option (List ℕ) → ℕ → Loaded
 loaded_of None limit = Absent
 loaded_of (Some bytes) limit = if nat_le (length bytes) limit then Bytes bytes else TooLarge (length bytes)
 
--- what stands in a file, which is nothing where it is absent
+-- the contents of a file, which are empty if it is absent
 abbrev pub content : Option (List ℕ) → List ℕ
 content file = unwrap_or file []
 
--- the bytes of a file, where files are told
+-- the contents of a file, if the store tells its files
 abbrev pub told_content : Option Files → List ℕ → Option (List ℕ)
 told_content all name = option_map (λ all. content (file_of all name)) all
 
--- a file, made where it was absent, has gained the bytes
+-- a file has gained the bytes; an absent file is made
 abbrev pub GainsAll : List ℕ → Option (List ℕ) → Option (List ℕ) → Type 0
 GainsAll bytes old new = new ≡ Some (content old ++ bytes)
 
@@ -37,26 +36,22 @@ GainsAll bytes old new = new ≡ Some (content old ++ bytes)
 abbrev pub GainsPart : List ℕ → Option (List ℕ) → Option (List ℕ) → Type 0
 GainsPart bytes old new = (new ≡ old) ⊎ ((n : ℕ) × (new ≡ Some (content old ++ take n bytes)))
 
--- a file is the bytes
+-- a file consists of the bytes
 abbrev pub IsReplaced : List ℕ → Option (List ℕ) → Option (List ℕ) → Type 0
 IsReplaced bytes old new = new ≡ Some bytes
 
--- a file is the old one or the bytes
+-- a file is as before, or consists of the bytes
 abbrev pub IsOldOrNew : List ℕ → Option (List ℕ) → Option (List ℕ) → Type 0
 IsOldOrNew bytes old new = (new ≡ old) ⊎ (new ≡ Some bytes)
 
--- what a change did to the file of a name, where files are told
+-- how the file with this name changed, if the store tells its files
 abbrev pub ChangesFile : (Option (List ℕ) → Option (List ℕ) → Type 0) → Option Files → Option Files → List ℕ → Type 0
 ChangesFile Change None new name = ⊤
 ChangesFile Change (Some old) None name = ⊥
 ChangesFile Change (Some old) (Some new) name = Change (file_of old name) (file_of new name)
 
--- no file of another name changed, where files are told
+-- no file with another name changed, if the store tells its files
 abbrev pub OthersKept : Option Files → Option Files → List ℕ → Type 0
 OthersKept None new name = ⊤
 OthersKept (Some old) None name = ⊥
 OthersKept (Some old) (Some new) name = (other : List ℕ) → other ≢ name → file_of new other ≡ file_of old other
-
--- whether a file, its name and its bytes, has this name
-abbrev pub is_named : List ℕ → (List ℕ × List ℕ) → Bool
-is_named name file = bytes_eq name file.0

@@ -1,8 +1,8 @@
--- A text that is written in several writes: what is written of it, and what is owed.
+-- A text written in several writes: the part that is written, and the part that is still owed.
 use Rattle.std.specs.Prelude.{◌≡◌, ℕ, List, ◌++◌, Option}
 use Rattle.std.specs.Io.KnownBytes.{Appends}
 
--- of a text a front is written, and `owed` is still to be written
+-- the front of a text is written, and the rest, `owed`, is still to be written
 pub record Owes (old new : Option (List ℕ)) (text owed : List ℕ) : Type 0 where
   pub front : List ℕ
   pub split : text ≡ front ++ owed

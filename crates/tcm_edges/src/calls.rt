@@ -1,10 +1,10 @@
 ghost use Rattle.std.specs.Prelude.{◌≡◌, ◌≤◌};
-ghost use Rattle.tcm_edges.specs.Calls.{begun, next_fails, passed, failed};
+ghost use Rattle.tcm_edges.specs.Calls.{fresh_plan, next_fails, passed, failed};
 
 use cluster_terms::SmallList;
 use std::marker::Model;
 
-/// Numbers of calls that are to fail, counted from 1.
+/// The numbers of the calls that are to fail, counted from 1.
 pub type CallList = SmallList<u64>;
 
 /// Which calls are to fail, how many were made, and how many failed. Both counts stop at the
@@ -25,9 +25,9 @@ impl Model for Calls {
 }
 
 impl Calls {
-    /// No call was made.
+    /// A plan by which these calls fail, before the first call.
     pub(crate) fn new(fails: CallList) -> Calls
-        ensures { result ≡ begun fails }
+        ensures { result ≡ fresh_plan fails }
     {
         Calls {
             fails,
@@ -43,7 +43,7 @@ impl Calls {
         self.fails.as_slice().contains(&self.made.saturating_add(1))
     }
 
-    /// Counts a call that went well.
+    /// Counts a call that succeeded.
     pub(crate) fn pass(&mut self)
         ensures { self.new ≡ passed self.old }
     {

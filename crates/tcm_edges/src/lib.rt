@@ -1,4 +1,4 @@
-//! The outside of the program: where bytes come from, where they go, and the files that last.
+//! Input, output and persistent files: sources of bytes, sinks for bytes, and stores of files.
 #![tactic(auto)]
 
 pub mod calls;

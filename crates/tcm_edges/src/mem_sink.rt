@@ -1,6 +1,6 @@
 ghost use Rattle.std.specs.Prelude.{◌≡◌, ◌<◌, [], ◌++◌, ◌↔◌, Some, length, IfErr, IfOk, IsErrOf, IsTrue, OnOk};
 ghost use Rattle.std.specs.Io.KnownBytes.{WriteAppends};
-ghost use Rattle.tcm_edges.specs.Calls.{begun, next_fails, passed, failed};
+ghost use Rattle.tcm_edges.specs.Calls.{fresh_plan, next_fails, passed, failed};
 ghost use Rattle.tcm_edges.specs.Causes.{HasWriteCause, OnFailed, OnMemory};
 ghost use Rattle.tcm_edges.specs.Writes.{KeptAtMemory, TakesSome, TellsAlike};
 
@@ -11,8 +11,8 @@ use crate::sure_sink::SureSink;
 use std::alloc::Global;
 use std::marker::Model;
 
-/// A sink in memory of which some writes fail: those with the listed numbers, and no other. A write
-/// that finds no memory is not counted.
+/// A sink in memory that fails at the writes with the listed numbers, and otherwise only if memory runs out. A write
+/// that runs out of memory is not counted.
 #[derive(Debug, Drop)]
 pub struct MemSink {
     sink: SureSink,
@@ -28,10 +28,10 @@ impl Model for MemSink {
 }
 
 impl MemSink {
-    /// A sink to which nothing is written, and which fails at the writes with these numbers.
+    /// An empty sink that fails at the writes with these numbers.
     pub fn new(alloc: Global, fails: CallList) -> MemSink
         ensures bytes { result.bytes ≡ [] }
-        ensures plan { result.plan ≡ begun fails }
+        ensures plan { result.plan ≡ fresh_plan fails }
     {
         MemSink {
             sink: SureSink::new(alloc),
@@ -39,7 +39,7 @@ impl MemSink {
         }
     }
 
-    /// What was written.
+    /// The bytes written.
     pub fn bytes(&self) -> &[u8]
         ensures { result.now ≡ self.now.bytes }
     {
@@ -75,23 +75,5 @@ impl Sink for MemSink {
         let taken = self.sink.write(bytes)?;
         self.calls.pass();
         Ok(taken)
-    }
-}
-
-#[cfg(test)]
-mod tests {
-    use super::*;
-    use std::test::Fail;
-
-    #[test]
-    fn the_listed_writes_fail(rt: HostRuntime) -> Result<(), Fail> {
-        let mut fails = CallList::empty(rt.alloc());
-        assert!(rt; fails.push(2).is_ok());
-        let mut sink = MemSink::new(rt.alloc(), fails);
-        for want in [Ok(2), Err(WriteFault::Failed), Ok(2)] {
-            assert_eq!(rt; sink.write(b"ab"), want);
-        }
-        assert_eq!(rt; sink.bytes(), b"abab".as_slice());
-        Ok(())
     }
 }

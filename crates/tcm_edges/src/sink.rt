@@ -8,26 +8,27 @@ use crate::fault::WriteFault;
 
 /// Where bytes go.
 pub trait Sink {
-    /// The bytes that are written, where the sink tells them.
+    /// The bytes written, if the sink tells them.
     ghost written: { Self → Option (List ℕ) };
 
     /// The count of failures.
     ghost faults: { Self → ℕ };
 
-    /// Writes a prefix of a piece, which is not empty, and answers its length, which is at least 1.
-    /// `Failed` comes where the outside failed or took nothing. At an error the bytes that the sink tells
-    /// are as before, and after `Memory` its count of failures is, too.
+    /// Writes a prefix of a piece, which is not empty, and returns its length, at least 1. On an error the bytes that
+    /// the sink tells are unchanged. Returns `Failed` if the outside failed or took nothing, and `Memory` if memory ran
+    /// out; then the count of failures is unchanged, too.
     fn write(&mut self, bytes: &[u8]) -> Result<usize, WriteFault>
         requires { 0 < length bytes.now }
         ensures bound { TakesSome result bytes.now }
         ensures bytes { WriteAppends (written self.old) (written self.new) result bytes.now }
         ensures cause { HasWriteCause (faults self.old) (faults self.new) result }
-        ensures memory { KeptAtMemory (written self.old) (written self.new) (faults self.old) (faults self.new) result }
+        ensures memory { KeptAtMemory (written self.old) (written self.new)
+            (faults self.old) (faults self.new) result }
         ensures told { TellsAlike (written self.old) (written self.new) };
 }
 
-/// Writes a whole text, by as many writes as the sink takes. At an error a prefix of the text may
-/// stand written. A text of nothing makes no write.
+/// Writes a whole text, with as many writes as the sink needs, and none for an empty text. Returns the error of the
+/// first write that fails; a prefix of the text may be written by then.
 pub fn write_all<K: Sink>(sink: &mut K, bytes: &[u8]) -> Result<(), WriteFault>
     ensures ok { OnOk result (Appends (K.written sink.old) (K.written sink.new) bytes.now) }
     ensures part { WritesPrefix (K.written sink.old) (K.written sink.new) bytes.now }

@@ -8,15 +8,14 @@ use crate::fault::Failed;
 
 /// Where bytes come from.
 pub trait Source {
-    /// The bytes that are still to come, where the source tells them.
+    /// The bytes still to come, if the source tells them.
     ghost left: { Self → Option (List ℕ) };
 
     /// The count of failures.
     ghost faults: { Self → ℕ };
 
-    /// Reads the next bytes into the front of a buffer, which is not empty, and answers how many:
-    /// 0 at the end of the input and nowhere else. `Failed` comes where the outside failed, and
-    /// then no byte is read.
+    /// Reads the next bytes into the front of a buffer, which is not empty, and returns their number. It is 0 if and
+    /// only if the input is at its end. Returns `Failed` if the outside failed; then no byte is read.
     fn read(&mut self, buf: &mut [u8]) -> Result<usize, Failed>
         requires { 0 < length buf.old }
         ensures bound { ReadsAtMost result buf.new }

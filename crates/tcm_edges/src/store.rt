@@ -6,27 +6,27 @@ ghost use Rattle.tcm_edges.specs.Writes.{KeptAtLoadMemory, KeptAtMemory, TellsAl
 use crate::fault::{LoadFault, WriteFault};
 use cluster_terms::ByteText;
 
-/// What a load found.
+/// The result of a load.
 #[derive(Debug, Drop)]
 pub enum Loaded {
     /// The whole file.
     Bytes(ByteText),
     /// There is no file of this name.
     Absent,
-    /// The file has this many bytes, which are more than the limit.
+    /// The file has this many bytes, more than the limit.
     TooLarge(u64),
 }
 
-/// The files that last.
+/// Persistent files, by name.
 pub trait Store {
-    /// The bytes of each file by name, where the store tells them.
+    /// The bytes of each file by name, if the store tells them.
     ghost files: { Self → Option Files };
 
     /// The count of failures.
     ghost faults: { Self → ℕ };
 
-    /// Loads the file of a name, if it has no more bytes than the limit. No file changes, whatever
-    /// comes. After `Memory` the store is as before.
+    /// Loads the file with this name, if it has at most `limit` bytes. No file changes. Returns `Failed` if the outside
+    /// failed, and `Memory` if memory ran out; then the count of failures is unchanged, too.
     fn load(&mut self, name: &str, limit: u64) -> Result<Loaded, LoadFault>
         ensures found { IfOk result (λ loaded. IfSome (files self.old)
             (λ all. loaded ≡ loaded_of (file_of all name.now) limit)) }
@@ -34,9 +34,9 @@ pub trait Store {
         ensures cause { HasLoadCause (faults self.old) (faults self.new) result }
         ensures memory { KeptAtLoadMemory (faults self.old) (faults self.new) result };
 
-    /// Adds bytes at the end of a file, which is made where it was absent. After `Failed` the file
-    /// has gained a prefix of them, or is as before. After `Memory` the store is as before. No file
-    /// of another name changes, whatever comes.
+    /// Adds bytes at the end of a file, and makes the file if it is absent. No other file changes. After `Failed` the
+    /// file is as before or has gained a prefix of the bytes. After `Memory` the files and the count of failures are
+    /// unchanged.
     fn append(&mut self, name: &str, bytes: &[u8]) -> Result<(), WriteFault>
         ensures ok { OnOk result
             (ChangesFile (GainsAll bytes.now) (files self.old) (files self.new) name.now) }
@@ -44,12 +44,13 @@ pub trait Store {
             (ChangesFile (GainsPart bytes.now) (files self.old) (files self.new) name.now)) }
         ensures others { OthersKept (files self.old) (files self.new) name.now }
         ensures cause { HasWriteCause (faults self.old) (faults self.new) result }
-        ensures memory { KeptAtMemory (files self.old) (files self.new) (faults self.old) (faults self.new) result }
+        ensures memory { KeptAtMemory (files self.old) (files self.new)
+            (faults self.old) (faults self.new) result }
         ensures told { TellsAlike (files self.old) (files self.new) };
 
-    /// Makes bytes the whole of a file, which may be absent before. After `Failed` it is the old
-    /// file or the new one. After `Memory` the store is as before. No file of another name changes,
-    /// whatever comes.
+    /// Replaces the contents of a file by these bytes, and makes the file if it is absent. No other file changes. After
+    /// `Failed` the file is as before or has the new contents. After `Memory` the files and the count of failures are
+    /// unchanged.
     fn replace(&mut self, name: &str, bytes: &[u8]) -> Result<(), WriteFault>
         ensures ok { OnOk result
             (ChangesFile (IsReplaced bytes.now) (files self.old) (files self.new) name.now) }
@@ -57,6 +58,7 @@ pub trait Store {
             (ChangesFile (IsOldOrNew bytes.now) (files self.old) (files self.new) name.now)) }
         ensures others { OthersKept (files self.old) (files self.new) name.now }
         ensures cause { HasWriteCause (faults self.old) (faults self.new) result }
-        ensures memory { KeptAtMemory (files self.old) (files self.new) (faults self.old) (faults self.new) result }
+        ensures memory { KeptAtMemory (files self.old) (files self.new)
+            (faults self.old) (faults self.new) result }
         ensures told { TellsAlike (files self.old) (files self.new) };
 }

@@ -1,5 +1,5 @@
 ghost use Rattle.std.specs.Prelude.{◌≡◌, position};
-ghost use Rattle.tcm_edges.specs.Files.{is_named};
+ghost use Rattle.tcm_edges.specs.StoredFiles as spec;
 
 use std::marker::Model;
 
@@ -20,15 +20,15 @@ impl Model for StoredFile {
 
 impl StoredFile {
     fn is_named(&self, name: &str) -> bool
-        ensures { result ≡ is_named name.now self.now }
+        ensures { result ≡ spec.is_named name.now self.now }
     {
         name == self.name.as_str()
     }
 }
 
-/// The place of the first file of a name.
-pub(crate) fn place_of(files: &[StoredFile], name: &str) -> Option<usize>
-    ensures { result ≡ position (is_named name.now) files.now }
+/// The position of the first file with this name, if any.
+pub(crate) fn position_of(files: &[StoredFile], name: &str) -> Option<usize>
+    ensures { result ≡ position (spec.is_named name.now) files.now }
 {
     files.iter().position(|file| file.is_named(name))
 }

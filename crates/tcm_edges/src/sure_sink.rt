@@ -9,7 +9,7 @@ use cluster_terms::Memory;
 use std::alloc::Global;
 use std::marker::Model;
 
-/// A sink in memory that fails by want of memory alone.
+/// A sink in memory that fails only if memory runs out.
 #[derive(Debug, Drop)]
 pub struct SureSink {
     written: Vec<u8>,
@@ -24,7 +24,7 @@ impl Model for SureSink {
 }
 
 impl SureSink {
-    /// A sink to which nothing is written.
+    /// An empty sink.
     pub fn new(alloc: Global) -> SureSink
         ensures { result ≡ [] }
     {
@@ -33,7 +33,7 @@ impl SureSink {
         }
     }
 
-    /// What was written.
+    /// The bytes written.
     pub fn bytes(&self) -> &[u8]
         ensures { result.now ≡ self.now }
     {
@@ -68,22 +68,5 @@ impl Sink for SureSink {
     {
         self.push_all(bytes)?;
         Ok(bytes.len())
-    }
-}
-
-#[cfg(test)]
-mod tests {
-    use super::*;
-    use crate::sink::write_all;
-    use std::test::Fail;
-
-    #[test]
-    fn texts_follow_one_another(rt: HostRuntime) -> Result<(), Fail> {
-        let mut sink = SureSink::new(rt.alloc());
-        assert_eq!(rt; sink.write(b"ab"), Ok(2));
-        write_all(&mut sink, b"")?;
-        write_all(&mut sink, b"cde")?;
-        assert_eq!(rt; sink.bytes(), b"abcde".as_slice());
-        Ok(())
     }
 }

@@ -30,7 +30,7 @@ impl Model for SureSource {
 }
 
 impl SureSource {
-    /// A source that gives these bytes, at most `piece` of them by one read.
+    /// A source that gives these bytes, at most `piece` of them in each read.
     pub fn new(bytes: ByteText, piece: usize) -> SureSource
         requires { 1 ≤ piece }
         ensures { result ≡ record { bytes = bytes; piece = piece } }
@@ -42,7 +42,7 @@ impl SureSource {
         }
     }
 
-    /// Copies the next bytes into the front of a buffer, and answers how many.
+    /// Copies the next bytes into the front of a buffer, and returns their number.
     fn give(&mut self, buf: &mut [u8]) -> usize
         ensures count { result ≡ given_len self.old (length buf.old) }
         ensures given { buf.new ≡ take result self.old.bytes ++ drop result buf.old }
@@ -73,23 +73,5 @@ impl Source for SureSource {
         ensures after { IfOk result (λ n. self.new ≡ after_read self.old n) }
     {
         Ok(self.give(buf))
-    }
-}
-
-#[cfg(test)]
-mod tests {
-    use super::*;
-    use crate::text::text_of;
-    use std::test::Fail;
-
-    #[test]
-    fn bytes_come_in_pieces(rt: HostRuntime) -> Result<(), Fail> {
-        let mut source = SureSource::new(text_of(rt.alloc(), b"hello")?, 2);
-        let mut buf = [0; 3];
-        for want in [2, 2, 1, 0, 0] {
-            assert_eq!(rt; source.read(&mut buf), Ok(want));
-        }
-        assert_eq!(rt; buf, *b"ol\0");
-        Ok(())
     }
 }

@@ -6,13 +6,14 @@ ghost use Rattle.tcm_edges.specs.Writes.{KeptAtLoadMemory, KeptAtMemory, TellsAl
 
 use crate::fault::{LoadFault, WriteFault};
 use crate::store::{Loaded, Store};
-use crate::stored_file::{StoredFile, place_of};
+use crate::stored_file::{StoredFile, position_of};
 use crate::text::text_of;
 use cluster_terms::Memory;
 use std::alloc::Global;
 use std::marker::Model;
 
-/// Files in memory, whose calls fail by want of memory alone. A file is found by a look at each name before its own.
+/// Files in memory. A call fails only if memory runs out. Finding a file costs a comparison with each name stored
+/// before its own.
 #[derive(Debug, Drop)]
 pub struct SureStore {
     stored: Vec<StoredFile>,
@@ -32,7 +33,7 @@ impl Model for SureStore {
 }
 
 impl SureStore {
-    /// A store of no files.
+    /// An empty store.
     pub fn new(alloc: Global) -> SureStore
         ensures { result ≡ map.empty }
     {
@@ -41,12 +42,12 @@ impl SureStore {
         }
     }
 
-    /// The bytes of a file, or `None` where it is absent.
+    /// The bytes of a file, or `None` if it is absent.
     pub fn file(&self, name: &str) -> Option<&[u8]>
         ensures { MatchOption result (file_of self.now name.now ≡ None)
             (λ bytes. file_of self.now name.now ≡ Some bytes.now) }
     {
-        match place_of(&self.stored, name) {
+        match position_of(&self.stored, name) {
             Some(place) => {
                 let file = &self.stored[place];
                 Some(file.bytes.as_slice())
@@ -55,14 +56,14 @@ impl SureStore {
         }
     }
 
-    /// Makes bytes the whole of a file, which may be absent before. Want of memory changes nothing.
+    /// Replaces the contents of a file, and makes the file if it is absent. If memory runs out, changes nothing.
     pub fn put(&mut self, name: &str, bytes: &[u8]) -> Result<(), Memory>
         ensures ok { OnOk result (self.new ≡ map.insert self.old name.now bytes.now) }
         ensures err { OnErr result (self.new ≡ self.old) }
     {
         let alloc = *self.stored.allocator();
         let bytes = Vec::from_slice(alloc, bytes)?;
-        match place_of(&self.stored, name) {
+        match position_of(&self.stored, name) {
             Some(place) => {
                 let file = &mut self.stored[place];
                 file.bytes = bytes;
@@ -75,13 +76,13 @@ impl SureStore {
         Ok(())
     }
 
-    /// Adds bytes at the end of a file, which is made where it was absent. Want of memory changes nothing.
+    /// Adds bytes at the end of a file, and makes the file if it is absent. If memory runs out, changes nothing.
     fn extend(&mut self, name: &str, bytes: &[u8]) -> Result<(), Memory>
         ensures ok { OnOk result (self.new
             ≡ map.insert self.old name.now (content (file_of self.old name.now) ++ bytes.now)) }
         ensures err { OnErr result (self.new ≡ self.old) }
     {
-        match place_of(&self.stored, name) {
+        match position_of(&self.stored, name) {
             Some(place) => {
                 let file = &mut self.stored[place];
                 file.bytes.extend_from_slice(bytes)?;
@@ -149,42 +150,6 @@ impl Store for SureStore {
         ensures unchanged { OnErr result (self.new ≡ self.old) }
     {
         self.put(name, bytes)?;
-        Ok(())
-    }
-}
-
-#[cfg(test)]
-mod tests {
-    use super::*;
-    use std::test::Fail;
-
-    #[test]
-    fn files_are_kept_apart(rt: HostRuntime) -> Result<(), Fail> {
-        let mut store = SureStore::new(rt.alloc());
-        store.append("log", b"ab")?;
-        store.append("log", b"c")?;
-        store.replace("snapshot", b"xy")?;
-        store.replace("snapshot", b"z")?;
-        store.put("empty", b"")?;
-        for (name, want) in [
-            ("log", b"abc".as_slice()),
-            ("snapshot", b"z".as_slice()),
-            ("empty", b"".as_slice()),
-        ] {
-            assert!(rt; store.file(name) == Some(want), "{name}");
-        }
-        assert!(rt; store.file("other").is_none());
-        Ok(())
-    }
-
-    #[test]
-    fn loads_have_a_limit(rt: HostRuntime) -> Result<(), Fail> {
-        let mut store = SureStore::new(rt.alloc());
-        store.put("log", b"abc")?;
-        assert!(rt; matches!(store.load("other", 9)?, Loaded::Absent));
-        assert!(rt; matches!(store.load("log", 2)?, Loaded::TooLarge(3)));
-        let loaded = store.load("log", 3)?;
-        assert!(rt; matches!(&loaded, Loaded::Bytes(text) if text.as_slice() == b"abc".as_slice()));
         Ok(())
     }
 }

@@ -3,7 +3,7 @@ ghost use Rattle.std.specs.Prelude.{◌≡◌, IfOk};
 use cluster_terms::{ByteText, Memory};
 use std::alloc::Global;
 
-/// Bytes as a text of their own.
+/// A copy of the bytes.
 pub(crate) fn text_of(alloc: Global, bytes: &[u8]) -> Result<ByteText, Memory>
     ensures { IfOk result (λ text. text ≡ bytes.now) }
 {

@@ -1,5 +1,8 @@
-//! The program `tcm`: does what its words ask for, over standard input and standard output.
+//! The program `tcm`: a run of `tcm_session` over standard input and standard output.
 #![tactic(auto)]
+
+#[cfg(test)]
+mod tests;
 
 use cluster_terms::Memory;
 use std::env;
@@ -8,8 +11,8 @@ use std::process::ExitCode;
 use tcm_edges::{InputSource, OutputSink, SureStore};
 use tcm_session::run;
 
-/// The words after the program's name. Where one of them is no UTF-8 text, there are none: such words ask for
-/// nothing that the program does.
+/// The words after the program's name, or no words if a word isn't UTF-8 text: then the program prints its usage line.
+/// Fails only if memory runs out.
 fn words_after_name(rt: &HostRuntime) -> Result<Vec<String>, Memory> {
     match env::args(rt) {
         Ok(words) => Ok(words.skip(1).collect(rt.alloc())?),
@@ -18,7 +21,7 @@ fn words_after_name(rt: &HostRuntime) -> Result<Vec<String>, Memory> {
     }
 }
 
-/// Ends with the status of the run, and with 1 where memory is wanting for the words.
+/// Exits with the status of the run, or with 1 if memory runs out before the run.
 fn main(rt: HostRuntime) -> ExitCode {
     let Ok(words) = words_after_name(&rt) else {
         return ExitCode::FAILURE;

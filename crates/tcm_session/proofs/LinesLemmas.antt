@@ -1,8 +1,10 @@
 -- Lemmas on how an input is cut into lines.
-use Rattle.std.proofs.Common.{◌≡◌, ℕ, Bool, true, false, cond, eqb, List, [], ◌∷◌, ◌++◌, refl, sym, ap, ◌∙◌, subst}
+use Rattle.std.proofs.Common.{◌≡◌, ℕ, Bool, true, false, cond, eqb, List, [], ◌∷◌, ◌++◌, flat_map, refl, sym, ap, ◌∙◌, subst}
 use Rattle.std.specs.List.{slice_split, onto_first, AllByRecursion}
+use Rattle.std.proofs.lemmas.Bool.{eqb-true}
 use Rattle.std.proofs.lemmas.List.Elements.{All-from_recursion}
 use Rattle.std.proofs.lemmas.List.Splits.{slice_split_none, slice_split_at}
+use Rattle.script_lang.specs.Texts.{line}
 use Rattle.tcm_session.specs.Lines.{HasNoFeed, pieces_of, all_but_last, last_of, whole_lines, open_line}
 
 abbrev is_feed : ℕ → Bool
@@ -136,3 +138,40 @@ HasNoFeed-last (p ∷ q ∷ pieces) h = HasNoFeed-last (q ∷ pieces) h.1
 pub HasNoFeed-open : (bytes : List ℕ) → HasNoFeed (open_line bytes)
 unfolding open_line
 HasNoFeed-open bytes = HasNoFeed-last (pieces_of bytes) (NoneHas-pieces bytes)
+
+NoneHas-front : (pieces : List (List ℕ)) → NoneHas pieces → NoneHas (all_but_last pieces)
+NoneHas-front [] h = tt
+NoneHas-front (p ∷ []) h = tt
+NoneHas-front (p ∷ q ∷ pieces) h = (h.0, NoneHas-front (q ∷ pieces) h.1)
+
+pub HasNoFeed-lines : (bytes : List ℕ) → AllByRecursion HasNoFeed (whole_lines bytes)
+unfolding whole_lines
+HasNoFeed-lines bytes = NoneHas-front (pieces_of bytes) (NoneHas-pieces bytes)
+
+-- ---- the lines are the input
+
+-- the lines, each with its feed, and the open line
+abbrev lined : List (List ℕ) → List ℕ
+lined pieces = flat_map line (all_but_last pieces) ++ last_of pieces
+
+lined_feed : (pieces : List (List ℕ)) → HasPieces pieces → lined ([] ∷ pieces) ≡ 10 ∷ lined pieces
+lined_feed pieces h = subst (λ l. lined ([] ∷ l) ≡ 10 ∷ lined l) (sym h.is) refl
+
+lined_byte : (c : ℕ) (first : List ℕ) (others : List (List ℕ)) → lined (onto_first c (first ∷ others)) ≡ c ∷ lined (first ∷ others)
+lined_byte c first [] = refl
+lined_byte c first (next ∷ others) = refl
+
+lined_cons : (c : ℕ) (pieces : List (List ℕ)) → HasPieces pieces → lined (cond (is_feed c) ([] ∷ pieces) (onto_first c pieces)) ≡ c ∷ lined pieces
+lined_cons c pieces h = by (is_feed c) refl
+  where
+    by : (b : Bool) → is_feed c ≡ b → lined (cond b ([] ∷ pieces) (onto_first c pieces)) ≡ c ∷ lined pieces
+    by true e = lined_feed pieces h ∙ ap (λ x. x ∷ lined pieces) (sym (eqb-true c 10 e))
+    by false e = subst (λ l. lined (onto_first c l) ≡ c ∷ lined l) (sym h.is) (lined_byte c h.first h.others)
+
+lined_pieces : (bytes : List ℕ) → lined (pieces_of bytes) ≡ bytes
+lined_pieces [] = refl
+lined_pieces (c ∷ bytes) = lined_cons c (pieces_of bytes) (pieces_some bytes) ∙ ap (λ l. c ∷ l) (lined_pieces bytes)
+
+pub lines_whole : (bytes : List ℕ) → flat_map line (whole_lines bytes) ++ open_line bytes ≡ bytes
+unfolding whole_lines open_line
+lines_whole bytes = lined_pieces bytes

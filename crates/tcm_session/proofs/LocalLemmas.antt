@@ -1,16 +1,7 @@
 -- The local quorums of a datacenter: what is cut down to it, and the answer to a query of them.
-use Rattle.std.proofs.Common.{◌≡◌, ℕ, ℤ, codes, List, Option, Some, None, IfSome, IsSome, is_some, option_map, sym, ap, subst, true≢false}
-use Rattle.std.proofs.lemmas.List.Kept.{IsStrictlySortedBy-filter}
-use Rattle.std.proofs.lemmas.Map.Keys.{sorted_from_strictly_increasing}
+use Rattle.std.proofs.Common.{◌≡◌, ℕ, ℤ, codes, List, Option, Some, None, IfSome, IsSome, option_map, sym, ap, subst, true≢false}
 use Rattle.std.proofs.lemmas.Option.{none-some}
-use Rattle.std.specs.Cmp.{nat_cmp_total}
-use Rattle.std.specs.List.Sorted.{IsStrictlyIncreasing}
-use Rattle.std.specs.Ordering.{nat_cmp}
-use Rattle.cluster_terms.proofs.AscendingLemmas.{ascending_same}
-use Rattle.cluster_terms.specs.Ascending.{ascending}
-use Rattle.cluster_terms.specs.NodeRow.{row_of}
 use Rattle.cluster_terms.specs.Quorum.{datacenter_of, local_sets, read_need, within, write_need}
-use Rattle.cluster_terms.specs.Replication.{rack_within}
 use Rattle.cluster_terms.specs.declared.node.NodeRow.{NodeRow}
 use Rattle.cluster_terms.specs.declared.replication.Replication.{Replication}
 use Rattle.transformations.specs.Meeting.{datacenters_of, local_sets_at}
@@ -21,12 +12,6 @@ use Rattle.cluster_metadata.specs.Served.{keyspace_of, served, served_by}
 use Rattle.quorum_sets.proofs.PendingLemmas.{found_name}
 use Rattle.script_lang.specs.Texts.{quorum_text, sets_text}
 use Rattle.tcm_session.specs.Machine.{local_quorums, local_quorums_in}
-
--- ids that ascend do so cut down
-pub cut_same : (rows : List NodeRow) (dc ids : List ℕ) → IsStrictlyIncreasing ids → ascending nat_cmp (within rows dc ids) ≡ within rows dc ids
-cut_same rows dc ids up =
-    ascending_same nat_cmp nat_cmp_total (within rows dc ids)
-    (IsStrictlySortedBy-filter nat_cmp (λ n. is_some (rack_within dc (row_of rows n))) ids (sorted_from_strictly_increasing ids up))
 
 -- the text of the sets that are cut down by the name is that of the local sets
 module _ (P : List ℕ → Type 0) (rows : List NodeRow) (factors : List (List ℕ × ℕ)) (dc reads writes : List ℕ) (epoch need_read need_write : ℕ) where

@@ -1,5 +1,5 @@
 -- Lemmas on reading a script in pieces.
-use Rattle.std.proofs.Common.{◌≡◌, ℕ, ◌+◌, ◌≤◌, IsErrAnd, List, [], ◌++◌, length, Option, Result, Ok, Err, refl, sym, ap, ◌∙◌, subst, append_assoc, append-nil, length-append, arith}
+use Rattle.std.proofs.Common.{◌≡◌, ℕ, ◌+◌, ◌≤◌, IfErr, IsErrAnd, List, [], ◌++◌, length, Option, Result, Ok, Err, refl, sym, ap, ◌∙◌, subst, append_assoc, append-nil, length-append, arith}
 use Rattle.std.specs.Io.KnownBytes.{Appends, Consumes, Keeps}
 use Rattle.std.proofs.KnownBytes.{Consumes-trans, Consumes-nil, Consumes-kept, Appends-trans, Appends-nil}
 use Rattle.tcm_edges.specs.Owed.{WritesPrefix}
@@ -8,11 +8,13 @@ use Rattle.transformations.specs.declared.command.Command.{Command}
 use Rattle.tcm_session.specs.Lines.{HasNoFeed, whole_lines, open_line}
 use Rattle.tcm_session.specs.Machine.{answers, history_after}
 use Rattle.tcm_session.specs.Outcome.{input_limit}
-use Rattle.tcm_session.specs.Runs.{Takes, Reads, ReadsWhole, ReadsOnce, ReadsTo, PastBy}
+use Rattle.tcm_session.specs.Runs.{Shows, StopsAt, Takes, ReadsOnce, ReadsTo, PastBy}
+use Rattle.tcm_session.specs.declared.fault.RunFault.{RunFault}
 use Rattle.tcm_session.specs.declared.reading.ReadEnd.{ReadEnd}
 use Rattle.tcm_session.specs.declared.reading.ReadEnd.TheVariants as end
 use Rattle.tcm_session.proofs.AnswersLemmas.{answers-append, history_after-append}
-use Rattle.tcm_session.proofs.LinesLemmas.{whole_lines-append, open_line-append, whole_lines-none, open_line-none}
+use Rattle.tcm_session.proofs.RunCauses.{not_source}
+use Rattle.tcm_session.proofs.LinesLemmas.{HasNoFeed-open, whole_lines-append, open_line-append, whole_lines-none, open_line-none}
 
 -- the lines of two pieces after an open line
 lines_of_two : (o a b : List ℕ) → whole_lines (o ++ (a ++ b)) ≡ whole_lines (o ++ a) ++ whole_lines (open_line (o ++ a) ++ b)
@@ -52,42 +54,33 @@ module _ (a : List ℕ) (h : List Command) (o : List ℕ) (w : Option (List ℕ)
       }
 
   -- a piece, and a part of the next
-  pub Reads-then : (most : ℕ) (l l₁ l₂ : Option (List ℕ)) (w₂ : Option (List ℕ)) → Consumes l l₁ a → Reads most l₁ l₂ h₁ o₁ w₁ w₂ → Reads (length a + most) l l₂ h o w w₂
-  Reads-then most l l₁ l₂ w₂ consumed second =
-      record {
-        bytes = a ++ second.bytes;
-        past = second.past;
-        consumed = subst (Consumes l l₂) (sym (append_assoc a second.bytes second.past)) (Consumes-trans l l₁ l₂ a _ consumed second.consumed);
-        bounded = omega (arith, length-append a second.bytes, second.bounded);
-        one_past = second.one_past;
-        part = subst (WritesPrefix w w₂) (sym (later_answers second.bytes)) (WritesPrefix-then w w₁ w₂ _ _ first.answered second.part);
-      }
-
-  pub ReadsWhole-then : (l l₁ l₂ : Option (List ℕ)) (w₂ : Option (List ℕ)) → Consumes l l₁ a → ReadsWhole l₁ l₂ h₁ o₁ w₁ w₂ → ReadsWhole l l₂ h o w w₂
-  ReadsWhole-then l l₁ l₂ w₂ consumed second =
+  pub StopsAt-then : (e : RunFault) (most : ℕ) (l l₁ l₂ : Option (List ℕ)) (w₂ : Option (List ℕ)) → Consumes l l₁ a → StopsAt e most l₁ l₂ h₁ o₁ w₁ w₂ → StopsAt e (length a + most) l l₂ h o w w₂
+  StopsAt-then e most l l₁ l₂ w₂ consumed second =
       record {
         bytes = a ++ second.bytes;
         consumed = Consumes-trans l l₁ l₂ a second.bytes consumed second.consumed;
-        answered = subst (Appends w w₂) (sym (later_answers second.bytes)) (Appends-trans w w₁ w₂ _ _ first.answered second.answered);
+        bounded = omega (arith, length-append a second.bytes, second.bounded);
+        part = subst (WritesPrefix w w₂) (sym (later_answers second.bytes)) (WritesPrefix-then w w₁ w₂ _ _ first.answered second.part);
+        whole = λ is. subst (Appends w w₂) (sym (later_answers second.bytes)) (Appends-trans w w₁ w₂ _ _ first.answered (second.whole is));
       }
 
 -- a read that failed
-consumed_none : (l l' : Option (List ℕ)) → Keeps l l' → Consumes l l' []
-consumed_none l l' kept = Consumes-kept l l l' [] (Consumes-nil l) kept
-
-pub Reads-none : (most : ℕ) (l l' : Option (List ℕ)) (h : List Command) (o : List ℕ) (w : Option (List ℕ)) → Keeps l l' → HasNoFeed o → Reads most l l' h o w w
-Reads-none most l l' h o w kept plain =
+pub StopsAt-none : (e : RunFault) (most : ℕ) (l l' : Option (List ℕ)) (h : List Command) (o : List ℕ) (w : Option (List ℕ)) → Keeps l l' → HasNoFeed o → StopsAt e most l l' h o w w
+StopsAt-none e most l l' h o w kept plain =
+    let none = (Takes-nil h o w plain).answered in
     record {
       bytes = [];
-      past = [];
-      consumed = consumed_none l l' kept;
+      consumed = Consumes-kept l l l' [] (Consumes-nil l) kept;
       bounded = omega arith;
-      one_past = omega arith;
-      part = WritesPrefix-whole w w _ (Takes-nil h o w plain).answered;
+      part = WritesPrefix-whole w w _ none;
+      whole = λ is. none;
     }
 
-pub ReadsWhole-none : (l l' : Option (List ℕ)) (h : List Command) (o : List ℕ) (w : Option (List ℕ)) → Keeps l l' → HasNoFeed o → ReadsWhole l l' h o w w
-ReadsWhole-none l l' h o w kept plain = record { bytes = []; consumed = consumed_none l l' kept; answered = (Takes-nil h o w plain).answered }
+-- a piece of which the answers are not all written, for no fault of the source
+pub StopsAt-piece : (e : RunFault) (most : ℕ) (l l' : Option (List ℕ)) (h : List Command) (o : List ℕ) (w w' : Option (List ℕ)) (bytes : List ℕ) (p q : ℕ)
+    → Consumes l l' bytes → length bytes ≤ most → WritesPrefix w w' (answers h (whole_lines (o ++ bytes))) → Shows e 0 0 p q → StopsAt e most l l' h o w w'
+StopsAt-piece e most l l' h o w w' bytes p q consumed fits part shown =
+    record { bytes = bytes; consumed = consumed; bounded = fits; part = part; whole = λ is. absurd (not_source e p q shown is) }
 
 -- ---- the loop over reads
 
@@ -102,8 +95,8 @@ pub ReadsSoFar-none : (l : Option (List ℕ)) (h : List Command) (o : List ℕ) 
 ReadsSoFar-none l h o w plain = record { bytes = []; count = refl; consumed = Consumes-nil l; takes = Takes-nil h o w plain }
 
 module _ (taken : ℕ) (l l₁ : Option (List ℕ)) (h : List Command) (o : List ℕ) (w : Option (List ℕ)) (h₁ : List Command) (o₁ : List ℕ) (w₁ : Option (List ℕ)) (so_far : ReadsSoFar taken l l₁ h o w h₁ o₁ w₁) where
-  pub ReadsSoFar-more : (n : ℕ) (l₂ : Option (List ℕ)) (h₂ : List Command) (o₂ : List ℕ) (w₂ : Option (List ℕ)) → ReadsOnce n l₁ l₂ h₁ o₁ w₁ h₂ o₂ w₂ → ReadsSoFar (taken + n) l l₂ h o w h₂ o₂ w₂
-  ReadsSoFar-more n l₂ h₂ o₂ w₂ once =
+  pub ReadsSoFar-more : (n most : ℕ) (l₂ : Option (List ℕ)) (h₂ : List Command) (o₂ : List ℕ) (w₂ : Option (List ℕ)) → ReadsOnce n most l₁ l₂ h₁ o₁ w₁ h₂ o₂ w₂ → ReadsSoFar (taken + n) l l₂ h o w h₂ o₂ w₂
+  ReadsSoFar-more n most l₂ h₂ o₂ w₂ once =
       record {
         bytes = so_far.bytes ++ once.bytes;
         count = length-append so_far.bytes once.bytes ∙ (λ i. so_far.count i + once.count i);
@@ -111,25 +104,29 @@ module _ (taken : ℕ) (l l₁ : Option (List ℕ)) (h : List Command) (o : List
         takes = Takes-then so_far.bytes h o w h₁ o₁ w₁ so_far.takes once.bytes h₂ o₂ w₂ once.takes;
       }
 
-  pub ReadsSoFar-part : (most all : ℕ) (l₂ w₂ : Option (List ℕ)) → taken + most ≤ all → Reads most l₁ l₂ h₁ o₁ w₁ w₂ → Reads all l l₂ h o w w₂
-  ReadsSoFar-part most all l₂ w₂ fits part =
-      let reads = Reads-then so_far.bytes h o w h₁ o₁ w₁ so_far.takes most l l₁ l₂ w₂ so_far.consumed part in
+  pub ReadsSoFar-stop : (e : RunFault) (most all : ℕ) (l₂ w₂ : Option (List ℕ)) → taken + most ≤ all → StopsAt e most l₁ l₂ h₁ o₁ w₁ w₂ → StopsAt e all l l₂ h o w w₂
+  ReadsSoFar-stop e most all l₂ w₂ fits part =
+      let stops = StopsAt-then so_far.bytes h o w h₁ o₁ w₁ so_far.takes e most l l₁ l₂ w₂ so_far.consumed part in
       record {
-        bytes = reads.bytes;
-        past = reads.past;
-        consumed = reads.consumed;
-        bounded = omega (arith, reads.bounded, so_far.count);
-        one_past = reads.one_past;
-        part = reads.part;
+        bytes = stops.bytes;
+        consumed = stops.consumed;
+        bounded = omega (arith, stops.bounded, so_far.count);
+        part = stops.part;
+        whole = stops.whole;
       }
 
-  pub ReadsSoFar-whole : (l₂ w₂ : Option (List ℕ)) → ReadsWhole l₁ l₂ h₁ o₁ w₁ w₂ → ReadsWhole l l₂ h o w w₂
-  ReadsSoFar-whole l₂ w₂ whole = ReadsWhole-then so_far.bytes h o w h₁ o₁ w₁ so_far.takes l l₁ l₂ w₂ so_far.consumed whole
+  -- the line that has begun has no line feed
+  pub ReadsSoFar-plain : HasNoFeed o₁
+  ReadsSoFar-plain = subst HasNoFeed (sym so_far.takes.begun) (HasNoFeed-open (o ++ so_far.bytes))
+
+  -- nothing more was read
+  pub ReadsSoFar-none_more : (e : RunFault) (all : ℕ) (l₂ : Option (List ℕ)) → taken ≤ all → Keeps l₁ l₂ → StopsAt e all l l₂ h o w w₁
+  ReadsSoFar-none_more e all l₂ fits kept = ReadsSoFar-stop e 0 all l₂ w₁ (omega arith) (StopsAt-none e 0 l₁ l₂ h₁ o₁ w₁ kept ReadsSoFar-plain)
 
   -- the input is at its end after a read of nothing
-  pub ReadsTo-end : (n : ℕ) (l₂ : Option (List ℕ)) (h₂ : List Command) (o₂ : List ℕ) (w₂ : Option (List ℕ)) → taken ≤ input_limit → n ≡ 0 → ReadsOnce n l₁ l₂ h₁ o₁ w₁ h₂ o₂ w₂ → ReadsTo end.AtEnd l l₂ h o w h₂ o₂ w₂
-  ReadsTo-end n l₂ h₂ o₂ w₂ fits none once =
-      let more = ReadsSoFar-more n l₂ h₂ o₂ w₂ once in
+  pub ReadsTo-end : (n most : ℕ) (l₂ : Option (List ℕ)) (h₂ : List Command) (o₂ : List ℕ) (w₂ : Option (List ℕ)) → taken ≤ input_limit → n ≡ 0 → ReadsOnce n most l₁ l₂ h₁ o₁ w₁ h₂ o₂ w₂ → ReadsTo end.AtEnd l l₂ h o w h₂ o₂ w₂
+  ReadsTo-end n most l₂ h₂ o₂ w₂ fits none once =
+      let more = ReadsSoFar-more n most l₂ h₂ o₂ w₂ once in
       record {
         bytes = more.bytes;
         past = [];
@@ -157,36 +154,7 @@ module _ (taken : ℕ) (l l₁ : Option (List ℕ)) (h : List Command) (o : List
         takes = so_far.takes;
       }
 
-  -- nothing more was read
-  pub ReadsSoFar-stop : (all : ℕ) (l₂ : Option (List ℕ)) → HasNoFeed o₁ → taken ≤ all → Keeps l₁ l₂ → Reads all l l₂ h o w w₁
-  ReadsSoFar-stop all l₂ plain fits kept = ReadsSoFar-part 0 all l₂ w₁ (omega arith) (Reads-none 0 l₁ l₂ h₁ o₁ w₁ kept plain)
-
-  pub ReadsSoFar-stop_whole : (l₂ : Option (List ℕ)) → HasNoFeed o₁ → Keeps l₁ l₂ → ReadsWhole l l₂ h o w w₁
-  ReadsSoFar-stop_whole l₂ plain kept = ReadsSoFar-whole l₂ w₁ (ReadsWhole-none l₁ l₂ h₁ o₁ w₁ kept plain)
-
--- a script that was read to its end, or up to the limit, was read so far
-pub Reads-from_ReadsTo : (ending : ReadEnd) (l l' : Option (List ℕ)) (h : List Command) (o : List ℕ) (w : Option (List ℕ)) (h' : List Command) (o' : List ℕ) (w' : Option (List ℕ))
-    → ReadsTo ending l l' h o w h' o' w' → Reads input_limit l l' h o w w'
-Reads-from_ReadsTo end.AtEnd l l' h o w h' o' w' reads =
-    record {
-      bytes = reads.bytes;
-      past = reads.past;
-      consumed = reads.consumed;
-      bounded = reads.ends.1;
-      one_past = let none = ap length reads.ends.2 in omega (arith, none);
-      part = WritesPrefix-whole w w' _ reads.takes.answered;
-    }
-Reads-from_ReadsTo end.PastLimit l l' h o w h' o' w' reads =
-    record {
-      bytes = reads.bytes;
-      past = reads.past;
-      consumed = reads.consumed;
-      bounded = omega (arith, reads.ends.0);
-      one_past = omega (arith, reads.ends.1);
-      part = WritesPrefix-whole w w' _ reads.takes.answered;
-    }
-
--- the fault that a `?` passes on is the fault of the call
-pub passed_on : {T E : Type 0} (r : Result T E) (e f : E) → IsErrAnd r (λ y. y ≡ e) → r ≡ Err f → e ≡ f
-passed_on (Ok x) e f h is = absurd h
-passed_on (Err y) e f h is = cc
+-- what holds at the fault that a `?` passes on
+pub at_fault : {T E : Type 0} (Q : E → Type 0) (r : Result T E) (e : E) → IsErrAnd r (λ y. y ≡ e) → Q e → IfErr r Q
+at_fault Q (Ok x) e h q = tt
+at_fault Q (Err y) e h q = subst Q (sym h) q

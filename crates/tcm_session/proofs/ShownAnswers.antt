@@ -1,11 +1,11 @@
 -- What an answer shows: its text, and where its sets come from.
-use Rattle.std.proofs.Common.{◌≡◌, ℕ, ◌≤◌, Bool, true, false, if◌then◌else◌, ℤ, List, ◌++◌, get_or, take, length, Option, Some, None, option_map, option_and_then, nat_le, codes, decimal, refl, sym, ap, ◌∙◌, subst, arith, length-take-le}
+use Rattle.std.proofs.Common.{◌≡◌, ◌≢◌, ℕ, suc, ◌+◌, ◌≤◌, inl, inr, Bool, true, false, if◌then◌else◌, ℤ, List, [], ◌∷◌, ◌++◌, get_or, take, length, Option, Some, None, option_map, option_and_then, nat_le, codes, decimal, refl, sym, ap, ◌∙◌, subst, arith, length-take-le}
 use Rattle.std.specs.Option.{IfSome}
 use Rattle.std.proofs.lemmas.Bool.Decides.{nat_tests}
 use Rattle.std.proofs.lemmas.Option.{none-some}
 use Rattle.cluster_terms.specs.Arc.{IsToken}
 use Rattle.cluster_terms.specs.Quorum.{Sets, datacenter_of}
-use Rattle.transformations.proofs.HistoryLemmas.{epoch_after}
+use Rattle.transformations.proofs.histories.HistoryLemmas.{epoch_after}
 use Rattle.transformations.specs.History.{commit_refusal, state_after}
 use Rattle.transformations.specs.Meeting.{datacenters_of, local_sets_at, sets_at}
 use Rattle.transformations.specs.declared.command.Command.{Command}
@@ -18,7 +18,7 @@ use Rattle.script_lang.specs.Grammar.{line_of}
 use Rattle.tcm_session.specs.Machine.{decided, local_quorums, local_quorums_in, placements, query_answer, quorums, reply, reply_to}
 use Rattle.tcm_session.specs.declared.query.Query.TheVariants as query
 use Rattle.tcm_session.specs.Shown.{IsOfNoQuorum, Shown, sets_in, shown_at, shown_by, shown_text}
-use Rattle.script_lang.specs.Texts.{no_text, nodes_text, place_text, quorum_text, refusal_text}
+use Rattle.script_lang.specs.Texts.{no_text, nodes_text, ok_text, place_text, quorum_text, refusal_text}
 use Rattle.script_lang.specs.declared.script_line.ScriptLine.{ScriptLine}
 use Rattle.script_lang.specs.declared.script_line.ScriptLine.TheVariants.{Commit, Place, Nodes, Quorum, Local}
 use Rattle.script_lang.specs.declared.script_line.Target.TheVariants.{Epoch}
@@ -124,8 +124,17 @@ texts h bytes s shows = texts_said h (line_of bytes) s shows
 
 -- ---- answers that show nothing
 
+-- the first byte tells: it is neither a Q nor an L
+first_taken : (n : ℕ) (text : List ℕ) → get_or (take (suc n) text) 0 0 ≡ get_or text 0 0
+first_taken n [] = refl
+first_taken n (c ∷ text) = refl
+
+pub by_first : (text : List ℕ) → get_or text 0 0 ≢ 81 → get_or text 0 0 ≢ 76 → IsOfNoQuorum text
+by_first text q l (inl e) = q (sym (first_taken 5 text) ∙ ap (λ x. get_or x 0 0) e)
+by_first text q l (inr e) = l (sym (first_taken 4 text) ∙ ap (λ x. get_or x 0 0) e)
+
 no_answer : (reason : List ℕ) → IsOfNoQuorum (no_text reason)
-no_answer reason = ((λ e. omega (arith, ap (λ l. get_or l 0 0) e)), (λ e. omega (arith, ap (λ l. get_or l 0 0) e)))
+no_answer reason = by_first (no_text reason) (λ e. omega arith) (λ e. omega arith)
 
 -- an answer at an epoch that may not have come
 either : (b : Bool) (text reason : List ℕ) → IsOfNoQuorum text → IsOfNoQuorum (if b then text else no_text reason)
@@ -135,15 +144,15 @@ either false text reason is = no_answer reason
 place_others : (image : Image) (o : Option KeyspaceRow) → IsOfNoQuorum (placements image o)
 unfolding place_text
 place_others image None = no_answer (codes "KEYSPACE")
-place_others image (Some k) = ((λ e. omega (arith, ap (λ l. get_or l 0 0) e)), (λ e. omega (arith, ap (λ l. get_or l 0 0) e)))
+place_others image (Some k) = by_first (place_text image k) (λ e. omega arith) (λ e. omega arith)
 
 nodes_others : (image : Image) → IsOfNoQuorum (nodes_text image)
 unfolding nodes_text
-nodes_others image = ((λ e. omega (arith, ap (λ l. get_or l 0 0) e)), (λ e. omega (arith, ap (λ l. get_or l 0 0) e)))
+nodes_others image = by_first (nodes_text image) (λ e. omega arith) (λ e. omega arith)
 
 commit_others : (h : List Command) (c : Command) (o : Option Refusal) → IsOfNoQuorum (decided h c o).text
 commit_others h c (Some r) = no_answer (refusal_text r)
-commit_others h c None = ((λ e. omega (arith, ap (λ l. get_or l 0 0) e)), (λ e. omega (arith, ap (λ l. get_or l 0 0) e)))
+commit_others h c None = by_first (ok_text (length h + 1)) (λ e. omega arith) (λ e. omega arith)
 
 -- a query of quorums that is refused
 module _ (h : List Command) (e : ℕ) (name : List ℕ) (t : ℤ) (show : Sets → Shown) where

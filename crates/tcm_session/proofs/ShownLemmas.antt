@@ -8,9 +8,9 @@ use Rattle.std.proofs.lemmas.List.Elements.{All-contains, All-from_recursion}
 use Rattle.std.proofs.lemmas.Option.{none-some}
 use Rattle.cluster_terms.specs.Arc.{IsToken}
 use Rattle.cluster_terms.specs.Quorum.{Meet, Sets, datacenter_of}
-use Rattle.transformations.proofs.HistoryLemmas.{history_empty, history_push}
-use Rattle.transformations.proofs.HistoryMeetings.{meet_at_epoch, meet_at_next}
-use Rattle.transformations.proofs.ListLemmas.{all_append, all_found}
+use Rattle.transformations.proofs.histories.HistoryLemmas.{history_empty, history_push}
+use Rattle.transformations.proofs.histories.HistoryMeetings.{meet_at_epoch, meet_at_next}
+use Rattle.transformations.proofs.lists.ListLemmas.{all_append, all_found, all_weaker}
 use Rattle.transformations.specs.History.{IsHistory, commit_refusal, empty_image, image_after, is_command, state_after}
 use Rattle.transformations.specs.Meeting.{HasReplication, MeetAt, QuorumsMeet, datacenters_of, makes_movement_epoch, local_sets_at, sets_at}
 use Rattle.transformations.specs.declared.command.Command.{Command}
@@ -18,7 +18,7 @@ use Rattle.transformations.specs.declared.image.Image.{Image}
 use Rattle.transformations.specs.declared.keyspace.KeyspaceRow.{KeyspaceRow}
 use Rattle.transformations.specs.declared.refusal.Refusal.{Refusal}
 use Rattle.cluster_metadata.specs.Served.{keyspace_of}
-use Rattle.script_lang.proofs.SaidLemmas.{IsSaid, said_by, tokens_by}
+use Rattle.script_lang.proofs.SaidLemmas.{IsFormed, IsSaid, formed_replication, said_by, tokens_by}
 use Rattle.tcm_session.proofs.ShownAnswers.{IsShownIn, found_sets, is_shown}
 use Rattle.script_lang.specs.Grammar.{HasTokens, line_of}
 use Rattle.tcm_session.specs.Machine.{commit_reply, decided, history_after, reply, reply_to}
@@ -29,10 +29,13 @@ use Rattle.script_lang.specs.declared.script_line.Target.TheVariants.{Epoch}
 
 -- ---- histories of lines
 
--- a history whose keyspaces have replications
-pub record IsReplicated (h : List Command) : Type 0 where
+-- a history of commands that lines commit
+pub record IsFormedHistory (h : List Command) : Type 0 where
   pub history : IsHistory h
-  pub replications : AllByRecursion HasReplication h
+  pub formed : AllByRecursion IsFormed h
+
+replications : (h : List Command) → IsFormedHistory h → AllByRecursion HasReplication h
+replications h is = all_weaker IsFormed HasReplication formed_replication h is.formed
 
 -- a history goes on as another
 pub record GoesOnAs (h later : List Command) : Type 0 where
@@ -40,28 +43,28 @@ pub record GoesOnAs (h later : List Command) : Type 0 where
   pub is : later ≡ h ++ more
 
 -- what a line makes of a history
-record IsAfter (h later : List Command) : Type 0 where
-  replicated : IsReplicated later
-  goes_on : GoesOnAs h later
+pub record IsAfter (h later : List Command) : Type 0 where
+  pub formed : IsFormedHistory later
+  pub goes_on : GoesOnAs h later
 
-as_before : (h : List Command) → IsReplicated h → IsAfter h h
-as_before h is = record { replicated = is; goes_on = record { more = []; is = sym (append-nil h) } }
+as_before : (h : List Command) → IsFormedHistory h → IsAfter h h
+as_before h is = record { formed = is; goes_on = record { more = []; is = sym (append-nil h) } }
   where
     append-nil : (xs : List Command) → xs ++ [] ≡ xs
     append-nil [] = refl
     append-nil (x ∷ xs) = ap (λ l. x ∷ l) (append-nil xs)
 
-after_commit : (h : List Command) (c : Command) → IsReplicated h → IsTrue (is_command c) → HasReplication c → IsAfter h (commit_reply h c).history
+after_commit : (h : List Command) (c : Command) → IsFormedHistory h → IsTrue (is_command c) → IsFormed c → IsAfter h (commit_reply h c).history
 after_commit h c is right has = by (commit_refusal h c) refl
   where
     by : (o : Option Refusal) → commit_refusal h c ≡ o → IsAfter h (decided h c o).history
     by (Some r) e = as_before h is
     by None e = record {
-      replicated = record { history = history_push h c is.history right e; replications = all_append HasReplication h (c ∷ []) is.replications (has, tt) };
+      formed = record { history = history_push h c is.history right e; formed = all_append IsFormed h (c ∷ []) is.formed (has, tt) };
       goes_on = record { more = c ∷ []; is = refl };
     }
 
-after_said : (h : List Command) (said : Option ScriptLine) → IsReplicated h → IfSome said HasTokens → IfSome said IsSaid → IsAfter h (reply_to h said).history
+after_said : (h : List Command) (said : Option ScriptLine) → IsFormedHistory h → IfSome said HasTokens → IfSome said IsSaid → IsAfter h (reply_to h said).history
 after_said h None is right has = as_before h is
 after_said h (Some (Commit id c)) is right has = after_commit h c is right has
 after_said h (Some (Place (Epoch e) name)) is right has = as_before h is
@@ -69,25 +72,25 @@ after_said h (Some (Nodes (Epoch e))) is right has = as_before h is
 after_said h (Some (Quorum (Epoch e) name t)) is right has = as_before h is
 after_said h (Some (Local (Epoch e) name dc t)) is right has = as_before h is
 
-after_reply : (h : List Command) (bytes : List ℕ) → IsReplicated h → IsAfter h (reply h bytes).history
+pub after_reply : (h : List Command) (bytes : List ℕ) → IsFormedHistory h → IsAfter h (reply h bytes).history
 unfolding reply
 after_reply h bytes is = after_said h (line_of bytes) is (tokens_by bytes) (said_by bytes)
 
-after_lines : (h : List Command) (lines : List (List ℕ)) → IsReplicated h → IsAfter h (history_after h lines)
+after_lines : (h : List Command) (lines : List (List ℕ)) → IsFormedHistory h → IsAfter h (history_after h lines)
 after_lines h [] is = as_before h is
 after_lines h (bytes ∷ lines) is =
     let one = after_reply h bytes is in
-    let rest = after_lines (reply h bytes).history lines one.replicated in
+    let rest = after_lines (reply h bytes).history lines one.formed in
     record {
-      replicated = rest.replicated;
+      formed = rest.formed;
       goes_on = record {
         more = one.goes_on.more ++ rest.goes_on.more;
         is = rest.goes_on.is ∙ ap (λ l. l ++ rest.goes_on.more) one.goes_on.is ∙ append_assoc h one.goes_on.more rest.goes_on.more;
       };
     }
 
-replicated_empty : IsReplicated []
-replicated_empty = record { history = history_empty; replications = tt }
+pub formed_empty : IsFormedHistory []
+formed_empty = record { history = history_empty; formed = tt }
 
 -- ---- what the history at the end shows
 
@@ -102,12 +105,12 @@ shown_later h later s on is = record {
   sets = ap (λ image. found_sets image s.keyspace s.token s.datacenter) (state_later h later s.epoch on is.within) ∙ is.sets;
 }
 
-all_shown : (h : List Command) (lines : List (List ℕ)) → IsReplicated h → AllByRecursion (IsShownIn (history_after h lines)) (shown h lines)
+all_shown : (h : List Command) (lines : List (List ℕ)) → IsFormedHistory h → AllByRecursion (IsShownIn (history_after h lines)) (shown h lines)
 all_shown h [] is = tt
 all_shown h (bytes ∷ lines) is =
     let one = after_reply h bytes is in
     let whole = after_lines h (bytes ∷ lines) is in
-    by whole.goes_on (all_shown (reply h bytes).history lines one.replicated) (shown_by h (line_of bytes)) refl
+    by whole.goes_on (all_shown (reply h bytes).history lines one.formed) (shown_by h (line_of bytes)) refl
   where
     by : GoesOnAs h (history_after h (bytes ∷ lines)) → AllByRecursion (IsShownIn (history_after h (bytes ∷ lines))) (shown (reply h bytes).history lines)
         → (o : Option Shown) → shown_by h (line_of bytes) ≡ o → AllByRecursion (IsShownIn (history_after h (bytes ∷ lines))) (and_shown o (shown (reply h bytes).history lines))
@@ -159,10 +162,10 @@ asked h p q one other alike = record {
   second = (λ i. found_sets (state_after h q.epoch) (alike.keyspace i) (alike.token i) (alike.datacenter i)) ∙ other.sets;
 }
 
-meet_shown : (h : List Command) (p q : Shown) → IsReplicated h → IsAsked h p q → AreAdjacent h p q → Meet p.sets q.sets
+meet_shown : (h : List Command) (p q : Shown) → IsFormedHistory h → IsAsked h p q → AreAdjacent h p q → Meet p.sets q.sets
 meet_shown h p q is a (inl same) =
     image_sets (state_after h p.epoch) (state_after h p.epoch) p.keyspace p.token p.datacenter p.sets q.sets
-    (meet_at_epoch h p.epoch is.history is.replications) refl a.token a.first
+    (meet_at_epoch h p.epoch is.history (replications h is)) refl a.token a.first
     (ap (λ e. found_sets (state_after h e) p.keyspace p.token p.datacenter) same ∙ a.second)
 meet_shown h p q is a (inr next) = by (slice_get h p.epoch) refl next.1
   where
@@ -170,14 +173,14 @@ meet_shown h p q is a (inr next) = by (slice_get h p.epoch) refl next.1
     by None at movement = absurd (none-some true movement)
     by (Some c) at movement =
         let movement_true : makes_movement_epoch c ≡ true = cc in
-        let meets = meet_at_next h p.epoch c is.history is.replications at movement_true in
+        let meets = meet_at_next h p.epoch c is.history (replications h is) at movement_true in
         image_sets (state_after h p.epoch) (state_after h (p.epoch + 1)) p.keyspace p.token p.datacenter p.sets q.sets meets.quorums meets.keyspaces a.token a.first
         (ap (λ e. found_sets (state_after h e) p.keyspace p.token p.datacenter) (sym next.0) ∙ a.second)
 
 pub shown_meet : (lines : List (List ℕ)) → ShownMeet (history_after [] lines) (shown [] lines)
 shown_meet lines p q there here alike near =
     let h : List Command = history_after [] lines in
-    let is = (after_lines [] lines replicated_empty).replicated in
-    let all = All-from_recursion (IsShownIn h) (shown [] lines) (all_shown [] lines replicated_empty) in
+    let is = (after_lines [] lines formed_empty).formed in
+    let all = All-from_recursion (IsShownIn h) (shown [] lines) (all_shown [] lines formed_empty) in
     meet_shown h p q is
     (asked h p q (All-contains (IsShownIn h) (shown [] lines) p all there) (All-contains (IsShownIn h) (shown [] lines) q all here) alike) near

@@ -5,5 +5,6 @@ pub mod Machine
 pub mod Outcome
 pub mod Placers
 pub mod Rings
+pub mod Run
 pub mod Runs
 pub mod Shown

@@ -1,8 +1,8 @@
--- How an input is cut into lines.
+-- The lines of an input.
 use Rattle.std.specs.Prelude.{◌≡◌, ℕ, false, List, [], ◌∷◌, ◌++◌, ◌==◌}
 use Rattle.std.specs.List.{slice_split, AllByRecursion}
 
--- the pieces of an input, which are parted by line feeds
+-- the pieces of an input, separated by line feeds
 abbrev pub pieces_of : List ℕ → List (List ℕ)
 pieces_of input = slice_split (λ byte. byte == 10) input
 
@@ -17,14 +17,14 @@ last_of [] = []
 last_of (piece ∷ []) = piece
 last_of (piece ∷ next ∷ pieces) = last_of (next ∷ pieces)
 
--- the lines of an input that a line feed ends, and what has come of the next line
+-- the lines of an input that a line feed ends, and the open line: the bytes after the last line feed
 unfoldable pub whole_lines : List ℕ → List (List ℕ)
 whole_lines input = all_but_last (pieces_of input)
 
 unfoldable pub open_line : List ℕ → List ℕ
 open_line input = last_of (pieces_of input)
 
--- a line, where there is something of it
+-- the list of this line alone, or no line if it is empty
 abbrev pub if_any : List ℕ → List (List ℕ)
 if_any [] = []
 if_any (byte ∷ bytes) = (byte ∷ bytes) ∷ []

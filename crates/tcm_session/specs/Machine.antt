@@ -1,4 +1,4 @@
--- The session machine: what a line is answered, and which commands are accepted after it.
+-- The session machine: the answer to each line, and the history of accepted commands after it.
 use Rattle.std.specs.Prelude.{ℕ, ℤ, ◌+◌, if◌then◌else◌, List, [], ◌∷◌, ◌++◌, length, Option, Some, None, nat_le, codes, decimal}
 use Rattle.cluster_terms.specs.Quorum.{datacenter_of}
 use Rattle.cluster_terms.specs.declared.replication.Replication.{Replication}
@@ -40,7 +40,7 @@ abbrev pub quorums : Image → ℤ → Option KeyspaceRow → List ℕ
 quorums image t None = no_text (codes "KEYSPACE")
 quorums image t (Some keyspace) = quorum_text (codes "QUORUM") image.epoch (sets_at image keyspace.replication t)
 
--- the local ones of a datacenter, which the replication of the keyspace has to name
+-- the local quorums of a datacenter, which the replication of the keyspace must name
 abbrev pub local_quorums_in : Image → ℤ → Replication → Option (List ℕ × ℕ) → List ℕ
 local_quorums_in image t replication None = no_text (codes "DC")
 local_quorums_in image t replication (Some f) = quorum_text (codes "LOCAL") image.epoch (local_sets_at image replication f t)
@@ -57,13 +57,13 @@ answer_from query.Nodes image = nodes_text image
 answer_from (query.Quorum name t) image = quorums image t (keyspace_of image name)
 answer_from (query.Local name dc t) image = local_quorums image dc t (keyspace_of image name)
 
--- a query is answered from the image of its epoch, where the history has come so far
+-- a query is answered from the image of its epoch, and refused if the history hasn't reached this epoch
 abbrev pub query_answer : List Command → ℕ → Query → List ℕ
 query_answer history epoch asked =
     if nat_le epoch (length history) then answer_from asked (state_after history epoch) else no_text (codes "EPOCH " ++ decimal (length history))
 
--- the reply to what a line says; bytes that are in no form change nothing, and neither does a query; the id of a commit
--- isn't looked at
+-- the reply to the content of a line; a query or a line that isn't in the grammar leaves the history unchanged; the id
+-- of a commit is ignored
 abbrev pub reply_to : List Command → Option ScriptLine → Reply
 reply_to history None = record { text = no_text (codes "BAD-LINE"); history = history }
 reply_to history (Some (Commit id command)) = commit_reply history command
@@ -76,7 +76,7 @@ reply_to history (Some (Local (Epoch e) name dc t)) = record { text = query_answ
 unfoldable pub reply : List Command → List ℕ → Reply
 reply history bytes = reply_to history (line_of bytes)
 
--- the answers to some lines, one after another, and the history after them
+-- the answers to lines, one after another, and the history after these lines
 abbrev pub answers : List Command → List (List ℕ) → List ℕ
 answers history [] = []
 answers history (bytes ∷ lines) = (reply history bytes).text ++ answers (reply history bytes).history lines

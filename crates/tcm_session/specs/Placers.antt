@@ -1,4 +1,4 @@
--- What places replicas on a ring, and on the rings of an image.
+-- The replicas on a ring, and on the rings of an image (of the code: no promise rests on these).
 use Rattle.std.specs.Prelude.{◌≡◌, ℕ, ℤ, List, [], ◌∷◌, map}
 use Rattle.cluster_terms.specs.Group.{place}
 use Rattle.cluster_terms.specs.Replication.{datacenter_group, groups_of, whole_group}

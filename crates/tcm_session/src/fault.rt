@@ -1,4 +1,4 @@
-//! Why a run ends before its end.
+//! The faults that end a run early.
 
 ghost use Rattle.std.specs.Prelude.{◌≡◌};
 ghost use Rattle.tcm_session.specs.declared.fault.RunFault.TheVariants as run;
@@ -9,10 +9,10 @@ use cluster_terms::Memory;
 use std::alloc::AllocError;
 use tcm_edges::{Failed, WriteFault};
 
-/// Why a run ends before its end.
+/// Why a run ended early.
 #[derive(Clone, Copy, Debug, PartialEq, Eq)]
 pub enum RunFault {
-    /// Memory was wanting.
+    /// Memory ran out.
     Memory,
     /// The source failed.
     Source,

@@ -13,9 +13,7 @@ mod replay;
 mod rings;
 mod script;
 mod session;
-#[cfg(test)]
-mod tests;
 mod validity;
 
 pub use program::{Status, run, run_surely};
-pub use validity::shown_quorums_meet;
+pub use validity::{lines_make_the_input, shown_quorums_meet};

@@ -1,4 +1,4 @@
-//! The answers to queries of placements.
+//! Answers to placement queries.
 
 ghost use Rattle.std.specs.Prelude.{◌≡◌, ◌++◌, flat_map, length, take, OnOk};
 ghost use Rattle.cluster_metadata.specs.Served.{keyspace_of};
@@ -14,9 +14,10 @@ use script_lang::{no_text, place_head_text, placed_text};
 use std::alloc::Global;
 use transformations::{Image, cuts};
 
-/// Adds the placements of a keyspace. After want of memory the output begins with what it held.
+/// Adds the placements of a keyspace, or `NO KEYSPACE` if no keyspace has this name. If memory runs out, `out` still
+/// begins with its old content.
 ///
-/// The three rings of the image are copied and sorted once, and each row walks each of them.
+/// Cost: the three rings of the image are copied and sorted once, and each row walks each ring.
 pub fn place_text(
     alloc: Global,
     metadata: &Metadata,
@@ -54,7 +55,7 @@ fn placements_text(
     rows_text(alloc, image, replication, &placers, rows.as_slice(), out)
 }
 
-/// Adds some rows.
+/// Adds the lines of these rows.
 fn rows_text(
     alloc: Global,
     image: &Image,
@@ -73,7 +74,7 @@ fn rows_text(
     Ok(())
 }
 
-/// Adds a row, and the nodes that are read and written at its last token.
+/// Adds the line of a row, with the read replicas and the write replicas at its last token.
 fn row_text(
     alloc: Global,
     image: &Image,

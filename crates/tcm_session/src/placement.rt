@@ -1,8 +1,8 @@
-//! The placements that the rings of an image give.
+//! Places replicas on the rings of an image.
 
 ghost use Rattle.std.specs.Prelude.{◌≡◌, ◌<◌, ℤ, [], ◌∷◌, IfOk};
 ghost use Rattle.cluster_terms.specs.Group.{place as placed};
-ghost use Rattle.cluster_terms.specs.Replication.{groups_of, whole_group};
+ghost use Rattle.cluster_terms.specs.Replication.{groups_of};
 ghost use Rattle.transformations.specs.Rings.{reads_at as reads_of, writes_at as writes_of};
 ghost use Rattle.tcm_session.specs.Placers.{IsPlacing, placed_by};
 ghost use Rattle.tcm_session.specs.Rings.{AreRings};
@@ -46,14 +46,14 @@ impl<'a> Placer<'a> {
         }
     }
 
-    /// The replicas at a token. The walk isn't counted.
+    /// The replicas at a token. The steps of the walk aren't counted.
     fn place(&self, alloc: Global, at: Token) -> Result<NodeSet, Memory>
         ensures { IfOk result (λ nodes. nodes ≡ placed_by self.now at) }
     {
         self.walked::<Brand>(alloc, at, Blank::new(1))
     }
 
-    /// The same on a counter of steps of its own.
+    /// The replicas at a token, with a counter of steps of its own for the walk.
     fn walked<L: Ledger>(&self, alloc: Global, at: Token, blank: Blank) -> Result<NodeSet, Memory>
         requires name { blank.name ≡ L.name }
         requires parts { blank.parts ≡ L.parts }
@@ -77,7 +77,8 @@ pub struct Placers<'a> {
 }
 
 impl<'a> Placers<'a> {
-    /// The placers of a replication on the rings of an image, whose nodes are those of the directory.
+    /// The placers of a replication on the rings of an image. The directory must hold the nodes of the image. Fails
+    /// only if memory runs out.
     pub fn new(
         alloc: Global,
         image: &Image,
@@ -96,7 +97,7 @@ impl<'a> Placers<'a> {
         })
     }
 
-    /// The nodes that are read at a token.
+    /// The read replicas at a token. Fails only if memory runs out.
     #[tactic(auto, unfolding(transformations::specs::Rings::reads_at))]
     pub fn reads_at(
         &self,
@@ -111,7 +112,8 @@ impl<'a> Placers<'a> {
         self.read.place(alloc, at)
     }
 
-    /// The nodes that are written at a token: on the ring before the movements, or on the one that writes see.
+    /// The write replicas at a token: the replicas on the ring before the movements and on the ring that writes see.
+    /// Fails only if memory runs out.
     #[tactic(auto, unfolding(transformations::specs::Rings::writes_at))]
     pub fn writes_at(
         &self,

@@ -1,4 +1,4 @@
-//! What queries ask of the metadata of an epoch.
+//! Queries of the metadata at an epoch.
 
 ghost use Rattle.std.specs.Prelude.{◌≡◌, ◌++◌, length, take, OnOk};
 ghost use Rattle.tcm_session.specs.Machine.{answer_from as answer_of};
@@ -10,20 +10,20 @@ use cluster_terms::{ByteText, Memory, Name, Token};
 use script_lang::nodes_text;
 use std::alloc::Global;
 
-/// What a query asks of the metadata of an epoch.
+/// A query of the metadata at an epoch.
 #[derive(Debug, Drop)]
 pub enum Query {
     /// The placements of a keyspace.
     Place(Name),
     /// The nodes, and the movements in flight.
     Nodes,
-    /// What QUORUM reads and writes of a keyspace at a token.
+    /// The replicas of a keyspace at a token, and how many of them QUORUM needs.
     Quorum(Name, Token),
-    /// What LOCAL_QUORUM reads and writes of a keyspace in a datacenter, at a token.
+    /// The replicas of a keyspace in a datacenter at a token, and how many of them LOCAL_QUORUM needs.
     Local(Name, Name, Token),
 }
 
-/// Adds the answer to a query. After want of memory the output begins with what it held.
+/// Adds the answer to a query. If memory runs out, `out` still begins with its old content.
 pub fn answer_from(
     alloc: Global,
     metadata: &Metadata,

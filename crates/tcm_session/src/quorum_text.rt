@@ -1,22 +1,21 @@
-//! The answers to queries of quorums.
+//! Answers to quorum queries.
 
 ghost use Rattle.std.specs.Prelude.{◌≡◌, ◌≤◌, ◌++◌, codes, length, take, is_some, IfOk, IfSome, IsSome, OnOk};
-ghost use Rattle.cluster_terms.specs.Quorum.{datacenter_of, local_sets, within};
+ghost use Rattle.cluster_terms.specs.Quorum.{datacenter_of, local_sets};
 ghost use Rattle.transformations.specs.Meeting.{datacenters_of};
 ghost use Rattle.script_lang.specs.Texts.{quorum_text as quorum_words};
 ghost use Rattle.cluster_metadata.specs.Served.{keyspace_of};
 ghost use Rattle.tcm_session.specs.Machine.{local_quorums, quorums};
 
 use cluster_metadata::Metadata;
-use cluster_terms::{ByteText, Factors, Memory, Name, NodeId, Replication, Token};
-use node_directory::Directory;
+use cluster_terms::{ByteText, Factors, Memory, Name, Replication, Token};
 use node_sets::NodeSet;
-use quorum_sets::{local_quorum, names_datacenter, quorum};
+use quorum_sets::{local_quorum, names_datacenter, quorum, within};
 use script_lang::{no_text, sets_text};
 use std::alloc::Global;
 
-/// Adds what QUORUM reads and writes of a keyspace at a token, and how many of these it needs. After want of memory the
-/// output begins with what it held.
+/// Adds the read replicas and the write replicas of a keyspace at a token, each with how many of them QUORUM needs; or
+/// `NO KEYSPACE` if no keyspace has this name. If memory runs out, `out` still begins with its old content.
 pub fn quorum_text(
     alloc: Global,
     metadata: &Metadata,
@@ -37,7 +36,7 @@ pub fn quorum_text(
     sets_text("QUORUM", metadata.epoch(), &reads, &writes, &needs, out)
 }
 
-/// The factors of a replication that names a datacenter.
+/// The factors of a replication, if it names the datacenter.
 fn factors_naming<'a>(replication: &'a Replication, dc: &Name) -> Option<&'a Factors>
     ensures named { is_some result ≡ is_some (datacenter_of (datacenters_of replication.now) dc.now) }
     ensures factors { IfSome result (λ factors. factors.now ≡ datacenters_of replication.now) }
@@ -48,33 +47,8 @@ fn factors_naming<'a>(replication: &'a Replication, dc: &Name) -> Option<&'a Fac
     }
 }
 
-/// The ids that stand in a datacenter.
-fn ids_within(
-    alloc: Global,
-    dir: &Directory,
-    dc: &Name,
-    ids: &[NodeId],
-) -> Result<Vec<NodeId>, Memory>
-    ensures { IfOk result (λ nodes. nodes.items ≡ within dir.now.rows dc.now ids.now) }
-{
-    let nodes = ids
-        .iter()
-        .filter(|n| dir.rack_in(dc, **n).is_some())
-        .map(|n| *n)
-        .collect(alloc)?;
-    Ok(nodes)
-}
-
-/// The nodes of a set that stand in a datacenter.
-fn cut_down(alloc: Global, dir: &Directory, dc: &Name, nodes: &NodeSet) -> Result<NodeSet, Memory>
-    ensures { IfOk result (λ set. set ≡ within dir.now.rows dc.now nodes.now) }
-{
-    let ids = ids_within(alloc, dir, dc, nodes.ids())?;
-    NodeSet::from_ids(alloc, &ids)
-}
-
-/// Adds what LOCAL_QUORUM of a datacenter that is named reads and writes, of the nodes that are read and written in all,
-/// and how many of these it needs.
+/// Adds the read replicas and the write replicas in a datacenter that the factors name, each with how many of them
+/// LOCAL_QUORUM needs. `sets` holds the read replicas and the write replicas in all datacenters.
 fn local_sets_text(
     alloc: Global,
     metadata: &Metadata,
@@ -90,13 +64,14 @@ fn local_sets_text(
 {
     let dir = metadata.directory();
     let needs = local_quorum(&sets.0, &sets.1, dir, factors, dc);
-    let reads = cut_down(alloc, dir, dc, &sets.0)?;
-    let writes = cut_down(alloc, dir, dc, &sets.1)?;
+    let reads = within(alloc, dir, dc, &sets.0)?;
+    let writes = within(alloc, dir, dc, &sets.1)?;
     sets_text("LOCAL", metadata.epoch(), &reads, &writes, &needs, out)
 }
 
-/// Adds what LOCAL_QUORUM of a datacenter reads and writes of a keyspace at a token, and how many of these it needs. After
-/// want of memory the output begins with what it held.
+/// Adds the read replicas and the write replicas of a keyspace in a datacenter at a token, each with how many of them
+/// LOCAL_QUORUM needs; or `NO KEYSPACE` if no keyspace has this name, or `NO DC` if its replication doesn't name the
+/// datacenter. If memory runs out, `out` still begins with its old content.
 pub fn local_text(
     alloc: Global,
     metadata: &Metadata,

@@ -1,10 +1,10 @@
-//! The reading of a script, a piece at a time.
+//! Reads a script piece by piece.
 
-ghost use Rattle.std.specs.Prelude.{◌≡◌, ℕ, ◌+◌, ◌<◌, ◌-◌, ◌^◌, ◌≤◌, [], length, vec_len, IfOk, IfErr, OnOk, OnErr, IsErrOf};
+ghost use Rattle.std.specs.Prelude.{◌≡◌, ℕ, ◌+◌, ◌<◌, ◌-◌, ◌^◌, ◌≤◌, [], length, vec_len, IfOk, IfErr, OnErr};
 ghost use Rattle.std.specs.Io.KnownBytes.{Keeps};
 ghost use Rattle.tcm_session.specs.Lines.{HasNoFeed};
 ghost use Rattle.tcm_session.specs.Outcome.{input_limit};
-ghost use Rattle.tcm_session.specs.Runs.{HasRunCause, Reads, ReadsOnce, ReadsPast, ReadsTo, ReadsWhole};
+ghost use Rattle.tcm_session.specs.Runs.{HasRunCause, ReadsOnce, ReadsPast, ReadsTo, StopsAt};
 ghost use Rattle.tcm_session.specs.declared.fault.RunFault.TheVariants as fault;
 
 use crate::fault::RunFault;
@@ -13,10 +13,10 @@ use crate::session::Session;
 use std::alloc::Global;
 use tcm_edges::{Sink, Source};
 
-/// How many bytes of an input are read, but for one more that tells that there are too many.
+/// The most bytes of an input. One more byte is read, to see whether the input is larger.
 const INPUT_LIMIT: usize = 536_870_912;
 
-/// How many bytes are read at once at most.
+/// The most bytes of one read.
 const PIECE: usize = 65_536;
 
 /// How the reading of a script ends.
@@ -28,7 +28,7 @@ pub enum ReadEnd {
     PastLimit,
 }
 
-/// Reads once, and takes the bytes that came: 0 only at the end of the input.
+/// Reads a piece, answers the lines that end in it, and returns its length: 0 only at the end of the input.
 fn read_piece<S: Source, K: Sink>(
     alloc: Global,
     session: &mut Session,
@@ -39,22 +39,19 @@ fn read_piece<S: Source, K: Sink>(
 ) -> Result<usize, RunFault>
     requires buffer { 0 < length buffer.old }
     requires begun { HasNoFeed begun.old.items }
-    ensures ok { IfOk result (λ n. ReadsOnce n (S.left input.old) (S.left input.new)
+    ensures ok { IfOk result (λ n. ReadsOnce n (length buffer.old) (S.left input.old) (S.left input.new)
         session.old begun.old.items (K.written out.old) session.new begun.new.items (K.written out.new)) }
-    ensures bound { IfOk result (λ n. n ≤ length buffer.old) }
-    ensures begun { OnOk result (HasNoFeed begun.new.items) }
-    ensures part { Reads (length buffer.old) (S.left input.old) (S.left input.new)
-        session.old begun.old.items (K.written out.old) (K.written out.new) }
-    ensures source { IsErrOf result fault.Source → ReadsWhole (S.left input.old) (S.left input.new)
-        session.old begun.old.items (K.written out.old) (K.written out.new) }
-    ensures cause { HasRunCause (S.faults input.old) (S.faults input.new) (K.faults out.old) (K.faults out.new) result }
+    ensures err { IfErr result (λ e. StopsAt e (length buffer.old) (S.left input.old) (S.left input.new)
+        session.old begun.old.items (K.written out.old) (K.written out.new)) }
+    ensures cause { HasRunCause (S.faults input.old) (S.faults input.new)
+        (K.faults out.old) (K.faults out.new) result }
 {
     let count = input.read(buffer)?;
     feed(alloc, session, begun, &buffer[..count], out)?;
     Ok(count)
 }
 
-/// So many bytes, for a read to fill.
+/// A buffer of `len` zero bytes.
 fn zeros(alloc: Global, len: usize) -> Result<Vec<u8>, RunFault>
     ensures len { IfOk result (λ bytes. vec_len bytes ≡ len) }
     ensures memory { IfErr result (λ e. e ≡ fault.Memory) }
@@ -63,7 +60,7 @@ fn zeros(alloc: Global, len: usize) -> Result<Vec<u8>, RunFault>
     Ok(bytes)
 }
 
-/// Reads one byte more, to see whether the input goes on past the limit.
+/// Reads one more byte, to see whether the input is larger than the limit.
 fn read_past<S: Source>(input: &mut S) -> Result<ReadEnd, RunFault>
     ensures ok { IfOk result (λ ending. ReadsPast ending (S.left input.old) (S.left input.new)) }
     ensures err { OnErr result (Keeps (S.left input.old) (S.left input.new)) }
@@ -76,9 +73,9 @@ fn read_past<S: Source>(input: &mut S) -> Result<ReadEnd, RunFault>
     }
 }
 
-/// Reads a script to its end, or up to the limit, and answers each line that a line feed ends before it
-/// reads on. At an error the answers that are written are a prefix of those that are due; at a fault of the
-/// source they are all of them.
+/// Reads a script to its end or up to the limit. Answers each line that a line feed ends before it reads on, and keeps
+/// the rest in `begun`. At a fault, a prefix of the answers is written; at a fault of the source, all answers to the
+/// lines that end among the bytes read.
 pub fn read_script<S: Source, K: Sink>(
     alloc: Global,
     session: &mut Session,
@@ -89,12 +86,10 @@ pub fn read_script<S: Source, K: Sink>(
     requires begun { HasNoFeed begun.old.items }
     ensures ok { IfOk result (λ ending. ReadsTo ending (S.left input.old) (S.left input.new)
         session.old begun.old.items (K.written out.old) session.new begun.new.items (K.written out.new)) }
-    ensures begun { OnOk result (HasNoFeed begun.new.items) }
-    ensures part { Reads input_limit (S.left input.old) (S.left input.new)
-        session.old begun.old.items (K.written out.old) (K.written out.new) }
-    ensures source { IsErrOf result fault.Source → ReadsWhole (S.left input.old) (S.left input.new)
-        session.old begun.old.items (K.written out.old) (K.written out.new) }
-    ensures cause { HasRunCause (S.faults input.old) (S.faults input.new) (K.faults out.old) (K.faults out.new) result }
+    ensures err { IfErr result (λ e. StopsAt e input_limit (S.left input.old) (S.left input.new)
+        session.old begun.old.items (K.written out.old) (K.written out.new)) }
+    ensures cause { HasRunCause (S.faults input.old) (S.faults input.new)
+        (K.faults out.old) (K.faults out.new) result }
 {
     let mut buffer = zeros(alloc, PIECE)?;
     let mut taken = 0;

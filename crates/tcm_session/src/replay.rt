@@ -12,7 +12,9 @@ use std::marker::Brand;
 use std::sync::ledger::{Blank, Ledger};
 use transformations::Command;
 
-/// Asks the metadata for a permit. The walks aren't counted: admission makes none.
+/// A permit for a command, or its first refusal. Admission counts no steps, so the counter that it takes is dropped.
+///
+/// Fails with `Memory` if memory runs out.
 pub fn admitted(metadata: &Metadata, command: &Command) -> Result<Permit, AdmitFault>
     requires room { metadata.now.epoch < most_epochs }
     requires formed { IsTrue (is_command command.now) }
@@ -22,7 +24,7 @@ pub fn admitted(metadata: &Metadata, command: &Command) -> Result<Permit, AdmitF
     counted::<Brand>(metadata, command, Blank::new(1))
 }
 
-/// The same on a counter of steps of its own.
+/// A permit for a command, or its first refusal, with a counter of steps of its own.
 fn counted<L: Ledger>(
     metadata: &Metadata,
     command: &Command,
@@ -40,7 +42,7 @@ fn counted<L: Ledger>(
     metadata.admit(command, &mut walks)
 }
 
-/// Takes an accepted command over into the metadata. Want of memory changes nothing.
+/// Enacts an accepted command in the metadata. If memory runs out, the metadata is unchanged.
 fn take_over(metadata: &mut Metadata, command: &Command) -> Result<(), Memory>
     requires room { metadata.old.epoch < most_epochs }
     requires formed { IsTrue (is_command command.now) }
@@ -57,7 +59,7 @@ fn take_over(metadata: &mut Metadata, command: &Command) -> Result<(), Memory>
     }
 }
 
-/// Takes accepted commands over, one after another. Want of memory may leave some of them taken.
+/// Enacts accepted commands, one after another. If memory runs out, some of them may be enacted.
 fn take_all(metadata: &mut Metadata, commands: &[Command]) -> Result<(), Memory>
     requires empty { metadata.old ≡ empty_image }
     requires history { IsHistory commands.now }
@@ -69,7 +71,9 @@ fn take_all(metadata: &mut Metadata, commands: &[Command]) -> Result<(), Memory>
     Ok(())
 }
 
-/// The metadata after the commands of a history. Each of them is admitted and enacted again, at the cost of its commit.
+/// The metadata after the commands of a history. Fails only if memory runs out.
+///
+/// Cost: each command is admitted and enacted again, at the cost of its commit.
 pub fn replay(alloc: Global, commands: &[Command]) -> Result<Metadata, Memory>
     requires { IsHistory commands.now }
     ensures { IfOk result (λ metadata. metadata ≡ image_after empty_image commands.now) }

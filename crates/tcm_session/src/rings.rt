@@ -20,8 +20,10 @@ pub struct Rings {
     pub high: Ring,
 }
 
-/// The rings of an image. For p pairs of tokens and nodes each of them is copied and sorted, in p log p steps.
-#[tactic(auto, using(cluster_metadata::proofs::RingLemmas::low_tokens, cluster_metadata::proofs::RingLemmas::read_tokens, cluster_metadata::proofs::RingLemmas::high_tokens))]
+/// The rings of an image. Fails only if memory runs out.
+///
+/// Cost: each ring is copied and sorted, in p log p steps for p pairs of tokens and nodes.
+#[tactic(auto, using(cluster_metadata::proofs::ImageRings::low_tokens, cluster_metadata::proofs::ImageRings::read_tokens, cluster_metadata::proofs::ImageRings::high_tokens))]
 pub fn rings_of(alloc: Global, image: &Image) -> Result<Rings, Memory>
     requires { IsValid image.now }
     ensures { IfOk result (λ rings. AreRings image.now rings) }

@@ -1,11 +1,10 @@
-//! The answers to the lines of a script, as they are written.
+//! Answers the lines of a script, and writes the answers.
 
 ghost use Rattle.std.specs.Prelude.{◌≡◌, ℕ, ◌+◌, ◌<◌, ◌-◌, ◌^◌, ◌≤◌, ◌++◌, [], length, OnOk, OnErr};
-ghost use Rattle.std.specs.Io.KnownBytes.{Appends};
 ghost use Rattle.tcm_edges.specs.Owed.{WritesPrefix};
 ghost use Rattle.tcm_session.specs.Lines.{HasNoFeed, whole_lines};
 ghost use Rattle.tcm_session.specs.Machine.{reply, answers};
-ghost use Rattle.tcm_session.specs.Runs.{HasRunCause, Takes};
+ghost use Rattle.tcm_session.specs.Runs.{HasRunCause, Takes, Writes};
 
 use crate::fault::RunFault;
 use crate::lines::cut_line;
@@ -14,17 +13,16 @@ use cluster_terms::ByteText;
 use std::alloc::Global;
 use tcm_edges::{Sink, write_all};
 
-/// Answers a line, and writes the answer before anything else is looked at.
+/// Answers a line, and writes the answer to `out` at once. At a fault, a prefix of the answer is written.
 pub fn answer_line<K: Sink>(
     alloc: Global,
     session: &mut Session,
     line: &[u8],
     out: &mut K,
 ) -> Result<(), RunFault>
-    ensures written { OnOk result (Appends (K.written out.old) (K.written out.new) (reply session.old line.now).text) }
+    ensures writes { Writes (reply session.old line.now).text (K.written out.old) (K.written out.new)
+        (K.faults out.old) (K.faults out.new) result }
     ensures history { OnOk result (session.new ≡ (reply session.old line.now).history) }
-    ensures part { WritesPrefix (K.written out.old) (K.written out.new) (reply session.old line.now).text }
-    ensures cause { HasRunCause 0 0 (K.faults out.old) (K.faults out.new) result }
 {
     let mut text = ByteText::empty(alloc);
     session.step(line, &mut text)?;
@@ -32,8 +30,8 @@ pub fn answer_line<K: Sink>(
     Ok(())
 }
 
-/// Takes the next piece of a script: answers each line that it ends, and keeps what is left as the line
-/// that has begun. At an error the answers that are written are a prefix of those that are due.
+/// Takes the next piece of a script: answers each line that ends in it, and keeps the rest in `begun`, as the start of
+/// the next line. At a fault, a prefix of the answers is written.
 pub fn feed<K: Sink>(
     alloc: Global,
     session: &mut Session,
@@ -42,9 +40,10 @@ pub fn feed<K: Sink>(
     out: &mut K,
 ) -> Result<(), RunFault>
     requires begun { HasNoFeed begun.old.items }
-    ensures ok { OnOk result (Takes piece.now session.old begun.old.items (K.written out.old) session.new begun.new.items (K.written out.new)) }
-    ensures begun { OnOk result (HasNoFeed begun.new.items) }
-    ensures part { WritesPrefix (K.written out.old) (K.written out.new) (answers session.old (whole_lines (begun.old.items ++ piece.now))) }
+    ensures ok { OnOk result (Takes piece.now session.old begun.old.items (K.written out.old)
+        session.new begun.new.items (K.written out.new)) }
+    ensures part { WritesPrefix (K.written out.old) (K.written out.new)
+        (answers session.old (whole_lines (begun.old.items ++ piece.now))) }
     ensures cause { HasRunCause 0 0 (K.faults out.old) (K.faults out.new) result }
 {
     let mut rest = piece;

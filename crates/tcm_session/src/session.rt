@@ -16,12 +16,12 @@ use std::alloc::Global;
 use std::marker::Model;
 use transformations::{Command, Refusal};
 
-/// The most epochs that are committed.
+/// The most commands that a session accepts; each accepted command makes an epoch.
 const MOST_EPOCHS: usize = 65_536;
 
 /// The commands that were accepted so far, in order, and the metadata after them.
 ///
-/// The value has to be spent, by `close`.
+/// A session must be ended by `close`.
 pub struct Session {
     alloc: Global,
     commands: Vec<Command>,
@@ -40,8 +40,8 @@ impl Model for Session {
     ghost invariant = { λ session. (session.metadata ≡ image_after empty_image session.commands.items) × IsHistory session.commands.items };
 }
 
-/// Adds the answer to a commit that is accepted, and the command to those before it. Want of memory leaves these as
-/// they were.
+/// Adds the answer to an accepted commit to `out`, and the command to `commands`. If memory runs out, `commands` is
+/// unchanged and `out` still begins with its old content.
 fn note(commands: &mut Vec<Command>, command: Command, out: &mut ByteText) -> Result<(), Memory>
     ensures text { OnOk result (out.new ≡ out.old ++ accepted_text (length commands.old.items + 1)) }
     ensures kept { take (length out.old) out.new ≡ out.old }
@@ -53,7 +53,7 @@ fn note(commands: &mut Vec<Command>, command: Command, out: &mut ByteText) -> Re
 }
 
 impl Session {
-    /// The session before the first command.
+    /// The session before the first command. Fails only if memory runs out.
     pub fn empty(alloc: Global) -> Result<Session, Memory>
         ensures { IfOk result (λ session. session ≡ []) }
     {
@@ -74,8 +74,8 @@ impl Session {
         metadata.close();
     }
 
-    /// Answers a line: adds the answer's text. Want of memory leaves the history as it was, and the output begins with what
-    /// it held.
+    /// Answers a line: adds the answer to `out`, and an accepted command to the history. If memory runs out, the
+    /// history is unchanged and `out` still begins with its old content.
     pub fn step(&mut self, line: &[u8], out: &mut ByteText) -> Result<(), Memory>
         ensures text { OnOk result (out.new ≡ out.old ++ (reply self.old line.now).text) }
         ensures kept { take (length out.old) out.new ≡ out.old }
@@ -86,7 +86,7 @@ impl Session {
         self.answer(said, out)
     }
 
-    /// Answers what a line says; bytes that are in no form say nothing.
+    /// Answers the content of a line, as `step` does. `None` stands for a line that isn't in the grammar.
     fn answer(&mut self, said: Option<ScriptLine>, out: &mut ByteText) -> Result<(), Memory>
         requires { IfSome said (λ line. HasTokens line) }
         ensures text { OnOk result (out.new ≡ out.old ++ (reply_to self.old said).text) }
@@ -110,7 +110,7 @@ impl Session {
         }
     }
 
-    /// Decides a command: it is refused, or becomes the next of the history.
+    /// Decides a command: refuses it, or adds it to the history.
     fn commit(&mut self, command: Command, out: &mut ByteText) -> Result<(), Memory>
         requires { IsTrue (is_command command) }
         ensures text { OnOk result (out.new ≡ out.old ++ (commit_reply self.old command).text) }
@@ -125,7 +125,8 @@ impl Session {
         }
     }
 
-    /// A permit for a command; else its first refusal, before all others that there are as many epochs as can be.
+    /// A permit for a command, or its first refusal; the limit of epochs is checked first. Fails with `Memory` if
+    /// memory runs out.
     fn admit(&self, command: &Command) -> Result<Permit, AdmitFault>
         requires { IsTrue (is_command command.now) }
         ensures permit { IfOk result (λ permit. permit ≡ record { image = image_after empty_image self.now; command = command.now }) }
@@ -137,7 +138,8 @@ impl Session {
         admitted(&self.metadata, command)
     }
 
-    /// Adds a command to the history, and enacts it. Want of memory changes nothing.
+    /// Adds an accepted command to the history, and enacts it. If memory runs out, the history is unchanged and `out`
+    /// still begins with its old content.
     fn accept(&mut self, command: Command, permit: Permit, out: &mut ByteText) -> Result<(), Memory>
         requires tokens { IsTrue (is_command command) }
         requires accepted { commit_refusal self.old command ≡ None }
@@ -158,8 +160,10 @@ impl Session {
         }
     }
 
-    /// Answers a query from the metadata of an epoch. That of the last epoch is kept; that of an earlier one is made anew,
-    /// which costs what its commits did.
+    /// Answers a query from the metadata at an epoch. If memory runs out, `out` still begins with its old content.
+    ///
+    /// Cost: the metadata at the last epoch is kept. The metadata at an earlier epoch is made anew, which costs as much
+    /// as committing its commands again.
     fn query(&self, epoch: u64, query: Query, out: &mut ByteText) -> Result<(), Memory>
         ensures text { OnOk result (out.new ≡ out.old ++ query_answer self.now epoch query) }
         ensures kept { take (length out.old) out.new ≡ out.old }
@@ -177,7 +181,7 @@ impl Session {
         answered
     }
 
-    /// The metadata at an epoch that has come.
+    /// The metadata at an epoch of the history. Fails only if memory runs out.
     fn metadata_at(&self, epoch: usize) -> Result<Metadata, Memory>
         requires { epoch ≤ length self.now }
         ensures { IfOk result (λ metadata. metadata ≡ state_after self.now epoch) }

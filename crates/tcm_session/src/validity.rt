@@ -1,19 +1,36 @@
-//! What the definitions say of the quorums that answers show.
+//! Facts about the definitions: the lines of an input, and the quorums that answers show.
 
-ghost use Rattle.std.specs.Prelude.{◌≡◌, ℕ, [], List, None, Some};
+ghost use Rattle.std.specs.Prelude.{◌≡◌, ℕ, ◌++◌, [], List, None, Some, flat_map};
+ghost use Rattle.std.specs.List.{AllByRecursion};
 ghost use Rattle.script_lang.specs.Grammar.{line_of};
-ghost use Rattle.tcm_session.specs.Machine.{history_after, reply};
-ghost use Rattle.tcm_session.specs.Shown.{IsOfNoQuorum, Shown, ShownMeet, shown, shown_by, shown_text};
+ghost use Rattle.script_lang.specs.Texts.{line};
+ghost use Rattle.tcm_session.specs.Lines.{HasNoFeed, open_line, whole_lines};
+ghost use Rattle.tcm_session.specs.Machine.{answers, history_after, reply};
+ghost use Rattle.tcm_session.specs.Shown.{IsOfNoQuorum, LinesAreShown, Shown, ShownMeet, shown, shown_by, shown_text};
 ghost use Rattle.transformations.specs.declared.command.Command.{Command};
 
-/// What answers to queries of quorums show: where a line asks for the quorums of a keyspace at a token, or for the local
-/// ones of a datacenter, and isn't refused, its answer is the text of what is shown; no other answer begins with `QUORUM`
-/// or `LOCAL`. Of two such answers to the same question, of one epoch, or of an epoch and the next one, where that is a
-/// movement epoch, the quorums that they show meet: each write quorum of the one has a replica in common with each read
-/// quorum of the other.
+/// Cutting an input into lines loses nothing: its whole lines, each with a line feed after it, and then its open line
+/// make the input again. Neither a whole line nor the open line contains a line feed.
+pub fn lines_make_the_input()
+    ensures whole { (input : List ℕ) → flat_map line (whole_lines input) ++ open_line input ≡ input }
+    ensures lines { (input : List ℕ) → AllByRecursion HasNoFeed (whole_lines input) }
+    ensures rest { (input : List ℕ) → HasNoFeed (open_line input) }
+{}
+
+/// The quorums in the answers of a script. If a line asks for the quorums of a keyspace at a token, or for the local
+/// quorums of a datacenter, and isn't refused, its answer is the text of these quorums. No other answer begins with
+/// `QUORUM` or `LOCAL`.
+///
+/// Answers consist of whole lines. Each of these lines that begins with `QUORUM` or `LOCAL` is the text of a shown
+/// answer. Take two shown answers to the same question, at the same epoch, or at an epoch and the next epoch if that is
+/// a movement epoch: each write quorum of one answer has a replica in common with each read quorum of the other.
 #[tactic(auto, using(crate::proofs::ShownAnswers::texts, crate::proofs::ShownAnswers::others))]
 pub fn shown_quorums_meet()
-    ensures texts { (history : List Command) (bytes : List ℕ) (s : Shown) → shown_by history (line_of bytes) ≡ Some s → (reply history bytes).text ≡ shown_text s }
-    ensures others { (history : List Command) (bytes : List ℕ) → shown_by history (line_of bytes) ≡ None → IsOfNoQuorum (reply history bytes).text }
+    ensures texts { (history : List Command) (bytes : List ℕ) (s : Shown)
+        → shown_by history (line_of bytes) ≡ Some s → (reply history bytes).text ≡ shown_text s }
+    ensures others { (history : List Command) (bytes : List ℕ)
+        → shown_by history (line_of bytes) ≡ None → IsOfNoQuorum (reply history bytes).text }
+    ensures whole { (lines : List (List ℕ)) → open_line (answers [] lines) ≡ [] }
+    ensures lines { (lines : List (List ℕ)) → LinesAreShown (answers [] lines) (shown [] lines) }
     ensures meet { (lines : List (List ℕ)) → ShownMeet (history_after [] lines) (shown [] lines) }
 {}

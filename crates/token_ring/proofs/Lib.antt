@@ -1,5 +1,5 @@
 pub mod BoundLemmas
-pub mod CommonLemmas
+pub mod ChosenRows
 pub mod DistinctLemmas
 pub mod JoinLemmas
 pub mod OrderLemmas

@@ -1,7 +1,7 @@
 -- Each set of tokens has one list of ranges.
 use Rattle.std.proofs.Common.{◌≡◌, Bool, true, false, ◌&&◌, ◌||◌, ℤ, pos, negsuc, ◌+ℤ◌, ◌<ℤ◌, ◌≤ℤ◌, int_le, List, [], ◌∷◌, ◌++◌, Option, Some, None, IfSome, refl, sym, ap, ◌∙◌, arith}
 use Rattle.std.specs.List.{AllByRecursion}
-use Rattle.std.proofs.lemmas.Bool.{false≢true}
+use Rattle.std.proofs.lemmas.Bool.{false≢true, and_parts, and_right}
 use Rattle.std.proofs.lemmas.Int.{ints, by_lt_z}
 use Rattle.cluster_terms.specs.Arc.{IsToken, greatest_token}
 use Rattle.cluster_terms.specs.Row.{is_past, last_token}
@@ -62,12 +62,9 @@ record Front (r : TokenRange) (rs : List TokenRange) : Type 0 where
 front : (r : TokenRange) (rs : List TokenRange) → IsRangeList (r ∷ rs) → AllByRecursion IsToken (bounds_of (r ∷ rs)) → Front r rs
 front r rs list bounds =
     let ends = parts_of_bounds r.left r.right (bounds_of rs) bounds in
-    let past : is_past r.left (last_token r.right) ≡ true = past_of (is_past r.left (last_token r.right)) (int_le (last_token r.right) (last_token r.right)) list.each.0.some in
+    let past : is_past r.left (last_token r.right) ≡ true = (and_parts (is_past r.left (last_token r.right)) (int_le (last_token r.right) (last_token r.right)) list.each.0.some).0 in
     let first = first_within r.left (last_token r.right) ends.0 ends.1.0 past in
     record { left = ends.0; first = first.0; last = ends.1.0; some = first.1; ending = list.each.0.ending; apart = pairs_head (λ r s. ends_before r.right s.left ≡ true) r rs list.apart }
-  where
-    past_of : (p q : Bool) → (p && q) ≡ true → p ≡ true
-    past_of p q e = grind arith
 
 bounds_tail : (r : TokenRange) (rs : List TokenRange) → AllByRecursion IsToken (bounds_of (r ∷ rs)) → AllByRecursion IsToken (bounds_of rs)
 bounds_tail r rs bounds = (parts_of_bounds r.left r.right (bounds_of rs) bounds).1.1
@@ -100,13 +97,10 @@ below r rs t f token less =
 
 beyond : (r : TokenRange) (rs : List TokenRange) (t : ℤ) → Front r rs → t ≡ last_token r.right +ℤ pos 1 → have_token (r ∷ rs) t ≡ false
 beyond r rs t f is =
-    either (is_past r.left t) (int_le t (last_token r.right)) (have_token rs t) (neither (is_past r.left t) (int_le t (last_token r.right)) (no (last_token r.right) is)) (none_later r.right rs t f.apart (omega (arith, ints)))
+    either (is_past r.left t) (int_le t (last_token r.right)) (have_token rs t) (and_right (is_past r.left t) (int_le t (last_token r.right)) (no (last_token r.right) is)) (none_later r.right rs t f.apart (omega (arith, ints)))
   where
     no : (w : ℤ) → t ≡ w +ℤ pos 1 → int_le t w ≡ false
     no w e = grind (arith, ints)
-
-    neither : (p q : Bool) → q ≡ false → (p && q) ≡ false
-    neither p q e = grind arith
 
 inside : (r : TokenRange) (rs : List TokenRange) (t : ℤ) → IsToken t → first_past r.left ≤ℤ t → t ≤ℤ last_token r.right → have_token (r ∷ rs) t ≡ true
 inside r rs t token low high =

@@ -4,7 +4,7 @@ use Rattle.cluster_terms.specs.declared.row.TokenRange.{TokenRange}
 use Rattle.cluster_terms.specs.declared.token.RightEnd.{RightEnd}
 use Rattle.cluster_terms.specs.declared.token.RightEnd.TheVariants.{At, Max}
 
--- the token of a left end and of a right end, if any
+-- the token of a left end or a right end, if it has a token
 abbrev pub left_bound : Option ℤ → List ℤ
 left_bound None = []
 left_bound (Some left) = left ∷ []
@@ -13,7 +13,7 @@ abbrev pub right_bound : RightEnd → List ℤ
 right_bound (At right) = right ∷ []
 right_bound Max = []
 
--- those of ranges, in their order
+-- the bounds of ranges, in the order of the ranges
 abbrev pub bounds_of : List TokenRange → List ℤ
 bounds_of [] = []
 bounds_of (range ∷ ranges) = left_bound range.left ++ right_bound range.right ++ bounds_of ranges

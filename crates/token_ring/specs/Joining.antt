@@ -6,12 +6,12 @@ use Rattle.cluster_terms.specs.Row.{last_token}
 use Rattle.cluster_terms.specs.declared.row.TokenRange.{TokenRange}
 use Rattle.cluster_terms.specs.declared.token.RightEnd.TheVariants.{Max}
 
--- a row, or a range that ends where the row begins together with the row
+-- a row, joined to the range that ends where the row begins, if there is such a range
 abbrev pub grown : Option TokenRange → TokenRange → TokenRange
 grown None row = row
 grown (Some range) row = record { left = range.left; right = row.right }
 
--- a range with the end Max where it has the greatest token
+-- a range, with the right end Max if it ends at the greatest token
 abbrev pub ended : TokenRange → TokenRange
 ended range = if int_eq (last_token range.right) greatest_token then (record { left = range.left; right = Max }) else range
 
@@ -20,7 +20,7 @@ abbrev pub begun_range : Option TokenRange → List TokenRange
 begun_range None = []
 begun_range (Some range) = range ∷ []
 
--- the ranges of the chosen rows, of which neighbours become one, where a range may have begun that ends at the first row
+-- the ranges of the chosen rows, with adjacent rows joined; `begun`, if any, is a range that ends at the first row
 abbrev pub joined_from : Option TokenRange → List TokenRange → List Bool → List TokenRange
 joined_from begun (row ∷ rows) (true ∷ chosen) = joined_from (Some (grown begun row)) rows chosen
 joined_from begun (row ∷ rows) (false ∷ chosen) = begun_range begun ++ joined_from None rows chosen

@@ -11,14 +11,14 @@ pub struct RangeRow {
 /// The ranges of a movement: a row for each replication of the keyspaces.
 pub type RangeBook = SmallList<RangeRow>;
 
-/// The ranges of the movement of a node.
+/// A node and the ranges of its movement.
 #[derive(Debug, Drop)]
 pub struct LockRow {
     pub node: NodeId,
     pub ranges: RangeBook,
 }
 
-/// The ranges of movements in a row.
+/// A list of nodes with the ranges of their movements.
 pub type LockRows = SmallList<LockRow>;
 
 impl TryCopy for RangeRow {

@@ -1,12 +1,10 @@
 ghost use Rattle.std.specs.Prelude.{◌≡◌, ◌++◌, IfOk, OnOk};
-ghost use Rattle.std.specs.List.{AllByRecursion};
 ghost use Rattle.std.specs.List.Sorted.{IsStrictlySortedBy};
 ghost use Rattle.std.specs.Ordering.{int_cmp};
-ghost use Rattle.cluster_terms.specs.Arc.{IsToken};
 ghost use Rattle.token_ring.specs.Bounds.{bounds_of};
 ghost use Rattle.token_ring.specs.Ranges.{AreCutOut};
 
-use cluster_terms::{Memory, RightEnd, Token, TokenRange, put_in_order, tokens_in_range};
+use cluster_terms::{Memory, RightEnd, Token, TokenRange, put_in_order};
 use std::alloc::Global;
 
 /// Adds the tokens at which ranges begin and end.
@@ -31,7 +29,6 @@ pub(crate) fn bounds_of_both(
     other: &[TokenRange],
 ) -> Result<Vec<Token>, Memory>
     ensures ascending { IfOk result (λ cuts. IsStrictlySortedBy int_cmp cuts.items) }
-    ensures tokens { IfOk result (λ cuts. AllByRecursion IsToken cuts.items) }
     ensures one { IfOk result (λ cuts. AreCutOut cuts.items one.now) }
     ensures other { IfOk result (λ cuts. AreCutOut cuts.items other.now) }
 {
@@ -39,6 +36,5 @@ pub(crate) fn bounds_of_both(
     push_bounds(&mut bounds, one)?;
     push_bounds(&mut bounds, other)?;
     put_in_order(&mut bounds);
-    tokens_in_range(&bounds);
     Ok(bounds)
 }

@@ -1,12 +1,12 @@
 ghost use Rattle.std.specs.Prelude.{◌≡◌, length, IfOk};
-ghost use Rattle.token_ring.specs.Joining.{grown as grown_range, ended, joined_from};
+ghost use Rattle.token_ring.specs.Joining as spec;
 
 use cluster_terms::{Memory, RightEnd, TokenRange};
 use std::alloc::Global;
 
-/// A row, together with a range that ends where the row begins.
+/// A row, joined to the range that ends where the row begins, if there is such a range.
 fn grown(begun: Option<TokenRange>, row: TokenRange) -> TokenRange
-    ensures { result ≡ grown_range begun row }
+    ensures { result ≡ spec.grown begun row }
 {
     match begun {
         None => row,
@@ -17,9 +17,9 @@ fn grown(begun: Option<TokenRange>, row: TokenRange) -> TokenRange
     }
 }
 
-/// The same tokens, with the end `Max` where the greatest token is one of them.
+/// The same range, with the right end `Max` if it ends at the greatest token.
 fn open_ended(range: TokenRange) -> TokenRange
-    ensures { result ≡ ended range }
+    ensures { result ≡ spec.ended range }
 {
     if range.last_token().value() == i64::MAX {
         TokenRange {
@@ -31,14 +31,14 @@ fn open_ended(range: TokenRange) -> TokenRange
     }
 }
 
-/// The ranges of the chosen rows, of which neighbours become one. Only the last row can have the greatest token.
+/// The ranges of the chosen rows, with adjacent rows joined. Only the last row may contain the greatest token.
 pub(crate) fn joined(
     alloc: Global,
     rows: &[TokenRange],
     chosen: &[bool],
 ) -> Result<Vec<TokenRange>, Memory>
     requires { length chosen.now ≡ length rows.now }
-    ensures { IfOk result (λ ranges. ranges.items ≡ joined_from None rows.now chosen.now) }
+    ensures { IfOk result (λ ranges. ranges.items ≡ spec.joined_from None rows.now chosen.now) }
 {
     let mut ranges = Vec::new(alloc);
     let mut begun = None;

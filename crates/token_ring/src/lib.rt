@@ -1,4 +1,4 @@
-//! The ring of tokens, which node is met first from each token, and ranges of tokens.
+//! The token ring, the owner of each token, and lists of token ranges.
 #![tactic(auto)]
 
 pub mod book;
@@ -7,8 +7,6 @@ mod common;
 mod joining;
 pub mod range_list;
 pub mod ring;
-#[cfg(test)]
-mod tests;
 
 pub use book::{LockRow, LockRows, RangeBook, RangeRow};
 pub use cluster_terms::TokenRange;

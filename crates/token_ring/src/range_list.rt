@@ -3,18 +3,18 @@ ghost use Rattle.std.specs.List.{AllByRecursion};
 ghost use Rattle.std.specs.List.Sorted.{IsPartitionPoint, IsStrictlySortedBy};
 ghost use Rattle.std.specs.Ordering.{int_cmp};
 ghost use Rattle.cluster_terms.specs.Arc.{IsToken};
-ghost use Rattle.cluster_terms.specs.Row.{last_token as last_in, is_past as is_past_end, rows_between as rows_of};
+ghost use Rattle.cluster_terms.specs.Row as spec;
 ghost use Rattle.cluster_terms.specs.declared.row.TokenRange.{TokenRange as AnyRange};
 ghost use Rattle.token_ring.specs.Bounds.{bounds_of};
-ghost use Rattle.token_ring.specs.Ranges.{have_token, HaveTokens, ends_before, IsRange, IsRangeList, AreCutOut, have_chosen};
+ghost use Rattle.token_ring.specs.Ranges.{have_token, either_has, HaveTokens, ends_before, IsRange, IsRangeList, AreCutOut, have_chosen};
 
 use crate::bounds::bounds_of_both;
 use crate::joining::joined;
-use cluster_terms::{Memory, Token, TokenRange, TryCopy, rows_between, tokens_in_range};
+use cluster_terms::{Memory, Token, TokenRange, TryCopy, rows_between};
 use std::alloc::Global;
 use std::marker::Model;
 
-/// Ascending ranges of tokens, each with some token, and with a token between any two.
+/// Ascending ranges of tokens. Each contains a token, and there is a token between any two of them.
 #[derive(Debug, Drop)]
 pub struct RangeList {
     ranges: Vec<TokenRange>,
@@ -36,14 +36,15 @@ impl Model for RangeList {
 fn count_before(ranges: &[TokenRange], t: Token) -> usize
     requires { IsRangeList ranges.now }
     ensures bound { result ≤ length ranges.now }
-    ensures split { IsPartitionPoint (λ r. int_lt (last_in r.right) t ≡ true) (λ r. int_lt (last_in r.right) t ≡ false) ranges.now result }
+    ensures split { IsPartitionPoint (λ r. int_lt (spec.last_token r.right) t ≡ true)
+        (λ r. int_lt (spec.last_token r.right) t ≡ false) ranges.now result }
 {
     ranges.partition_point(|range| range.last_token() < t)
 }
 
-/// Whether a token is past a left end.
+/// Whether a token comes after this left end.
 fn is_past(left: &Option<Token>, t: Token) -> bool
-    ensures { result ≡ is_past_end left.now t }
+    ensures { result ≡ spec.is_past left.now t }
 {
     match left {
         None => true,
@@ -52,7 +53,7 @@ fn is_past(left: &Option<Token>, t: Token) -> bool
 }
 
 impl RangeList {
-    /// The list of no ranges.
+    /// The empty list.
     pub fn empty(alloc: Global) -> RangeList
         ensures { result ≡ [] }
     {
@@ -69,11 +70,14 @@ impl RangeList {
         self.ranges.as_slice()
     }
 
-    /// Adds a range past all others. Want of memory hands the range back and changes nothing.
+    /// Adds a range at the end. The range contains a token, ends in `Max` if it contains the greatest token, and begins
+    /// after all other ranges, with a token between. If memory runs out, returns the range and leaves the list
+    /// unchanged.
     pub fn push(&mut self, range: TokenRange) -> Result<(), (TokenRange, Memory)>
         requires range { IsRange range }
         requires apart { AllByRecursion (λ r. ends_before r.right range.left ≡ true) self.old }
-        ensures { MatchResult result (λ _. self.new ≡ self.old ++ range ∷ []) (λ e. (self.new ≡ self.old) × (e.0 ≡ range)) }
+        ensures { MatchResult result (λ _. self.new ≡ self.old ++ range ∷ [])
+            (λ e. (self.new ≡ self.old) × (e.0 ≡ range)) }
     {
         match self.ranges.push(range) {
             Ok(()) => Ok(()),
@@ -81,7 +85,7 @@ impl RangeList {
         }
     }
 
-    /// Whether a range has a token. The cost is a binary search.
+    /// Whether one of the ranges contains a token. The cost is a binary search.
     pub fn contains(&self, t: Token) -> bool
         ensures { result ≡ have_token self.now t }
     {
@@ -89,23 +93,25 @@ impl RangeList {
         before < self.ranges.len() && is_past(&self.ranges[before].left, t)
     }
 
-    /// The ranges of those rows between ascending cuts that are chosen, of which neighbours become one. The cost is
-    /// a look at each row.
+    /// The ranges of the chosen rows between ascending cuts, with adjacent rows joined. `chosen` has a bool for each
+    /// row. The cost is one pass over the rows.
     pub fn from_rows(alloc: Global, cuts: &[Token], chosen: &[bool]) -> Result<RangeList, Memory>
         requires ascending { IsStrictlySortedBy int_cmp cuts.now }
-        requires one { length chosen.now ≡ length (rows_of cuts.now) }
-        ensures ranges { IfOk result (λ ranges. HaveTokens (have_chosen (rows_of cuts.now) chosen.now) ranges) }
+        requires one { length chosen.now ≡ length (spec.rows_between cuts.now) }
+        ensures ranges { IfOk result
+            (λ ranges. HaveTokens (have_chosen (spec.rows_between cuts.now) chosen.now) ranges) }
         ensures bounds { IfOk result (λ ranges. AreCutOut cuts.now ranges) }
     {
-        tokens_in_range(cuts);
         let rows = rows_between(alloc, cuts)?;
         let ranges = joined(alloc, rows.as_slice(), chosen)?;
         Ok(RangeList { ranges })
     }
 
-    /// For each row whether its last token is in this list or in the other one.
+    /// For each row, whether its last token is in either list.
     fn in_either(&self, other: &RangeList, rows: &[TokenRange]) -> Result<Vec<bool>, Memory>
-        ensures { IfOk result (λ chosen. chosen.items ≡ map (λ row. have_token self.now (last_in row.right) || have_token other.now (last_in row.right)) rows.now) }
+        ensures { IfOk result
+            (λ chosen. chosen.items ≡ map
+            (λ row. either_has self.now other.now (spec.last_token row.right)) rows.now) }
     {
         let mut chosen = Vec::with_capacity(*self.ranges.allocator(), rows.len())?;
         for row in rows {
@@ -115,9 +121,9 @@ impl RangeList {
         Ok(chosen)
     }
 
-    /// The ranges of the tokens that are in one of the two lists. The cost is about m log m for m ranges in all.
+    /// The ranges of the tokens that are in either list. The cost is about m log m for m ranges in both lists together.
     pub fn union(&self, other: &RangeList) -> Result<RangeList, Memory>
-        ensures { IfOk result (λ both. HaveTokens (λ t. have_token self.now t || have_token other.now t) both) }
+        ensures { IfOk result (λ both. HaveTokens (either_has self.now other.now) both) }
     {
         let alloc = *self.ranges.allocator();
         let cuts = bounds_of_both(alloc, self.as_slice(), other.as_slice())?;
@@ -134,7 +140,7 @@ impl TryCopy for RangeList {
     }
 }
 
-/// What the definitions say of ranges: each set of tokens has one list of ranges.
+/// Each set of tokens has only one list of ranges.
 #[tactic(auto, using(crate::proofs::SameTokens::same_list))]
 pub fn each_set_has_one_list()
     ensures { (one other : List AnyRange) → IsRangeList one → IsRangeList other

@@ -1,5 +1,4 @@
-pub mod CountLemmas
-pub mod WalkLemmas
-pub mod ListLemmas
-pub mod TallyLemmas
-pub mod PlaceLemmas
+pub mod CountSteps
+pub mod GroupWalks
+pub mod MappedLists
+pub mod TopologyPlacement

@@ -1,4 +1,3 @@
-pub mod Datacenter
 pub mod GroupedRing
 pub mod Shape
 pub mod Walk

@@ -1,13 +1,9 @@
--- The shape of a group in a ring.
+-- The shapes of datacenters in a ring.
 use Rattle.std.specs.Prelude.{ℕ, List, map}
-use Rattle.cluster_terms.specs.Group.{Group, wanted, spare}
 use Rattle.cluster_terms.specs.Replication.{datacenter_group}
 use Rattle.cluster_terms.specs.declared.node.NodeRow.{NodeRow}
-use Rattle.topology_strategy.specs.declared.shape.Shape.{Shape}
-
--- how many replicas a group is to have in a ring with these nodes, and how many of them may stand in a rack that has one
-abbrev pub shape_of : List ℕ → Group → Shape
-shape_of ns g = record { wanted = wanted g ns; spare = spare g ns }
+use Rattle.node_directory.specs.Shape.{shape_of}
+use Rattle.node_directory.specs.declared.shape.Shape.{Shape}
 
 -- the shapes of the named datacenters in a ring with the nodes ns
 abbrev pub shapes_of : List NodeRow → List (List ℕ × ℕ) → List ℕ → List Shape

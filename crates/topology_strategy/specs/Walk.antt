@@ -1,4 +1,4 @@
--- What a walk takes in one group (NetworkTopologyStrategy).
+-- The nodes that a walk takes in one group (NetworkTopologyStrategy).
 use Rattle.std.specs.Prelude.{ℕ, ◌-◌, if◌then◌else◌, List, [], ◌∷◌, ◌++◌, length, nat_eq, nat_lt, Option, Some, None, flat_map}
 use Rattle.std.specs.List.{zip}
 use Rattle.std.specs.Set.{is_member}
@@ -6,7 +6,7 @@ use Rattle.std.specs.Str.{bytes_eq}
 use Rattle.cluster_terms.specs.Group.{Group}
 use Rattle.cluster_terms.specs.Replication.{datacenter_group}
 use Rattle.cluster_terms.specs.declared.node.NodeRow.{NodeRow}
-use Rattle.topology_strategy.specs.declared.shape.Shape.{Shape}
+use Rattle.node_directory.specs.declared.shape.Shape.{Shape}
 
 -- the nodes that are taken, the racks that are seen, and how many further nodes of seen racks may be taken
 pub record Found : Type 0 where
@@ -14,8 +14,8 @@ pub record Found : Type 0 where
   pub racks : List (List ℕ)
   pub repeats : ℕ
 
--- once a node of a rack is met: one that is taken already is passed over; it is taken where its rack is new, or
--- where a repeat is left, which it uses
+-- the walk after a node of a rack is met: it passes over a node that is taken already; it takes any other node if the
+-- rack is new, or if a repeat is left, which the node uses up
 abbrev pub found_at : ℕ → List ℕ → Found → Found
 found_at n rack found =
     if is_member nat_eq found.taken n then found
@@ -23,20 +23,20 @@ found_at n rack found =
     (if nat_lt 0 found.repeats then record found { taken = found.taken ++ n ∷ []; repeats = found.repeats - 1 } else found)
     else record found { taken = found.taken ++ n ∷ []; racks = found.racks ++ rack ∷ [] })
 
--- once a node is met: it is passed over where it is outside the group, or where as many as wanted are taken
+-- the walk after a node is met: it passes over a node outside the group, and over any node once it has all wanted nodes
 abbrev pub found_with : ℕ → ℕ → Option (List ℕ) → Found → Found
 found_with wanted n None found = found
 found_with wanted n (Some rack) found = if nat_lt (length found.taken) wanted then found_at n rack found else found
 
--- once some nodes are met, one after another
+-- the walk after several nodes are met, one after another
 abbrev pub found_after : Group → ℕ → List ℕ → Found → Found
 found_after g wanted [] found = found
 found_after g wanted (n ∷ ns) found = found_after g wanted ns (found_with wanted n (g.rack_of n) found)
 
--- what a walk along some nodes takes in a group of this shape
+-- the nodes that a walk along ns takes in a group of this shape
 abbrev pub taken_along : List ℕ → Group → Shape → List ℕ
 taken_along ns g shape = (found_after g shape.wanted ns (record { taken = []; racks = []; repeats = shape.spare })).taken
 
--- and in some datacenters of these shapes, each by itself
+-- the nodes that the walks along ns take in several datacenters of these shapes, each by itself
 abbrev pub taken_in_all : List ℕ → List NodeRow → List (List ℕ × ℕ) → List Shape → List ℕ
 taken_in_all ns nodes factors shapes = flat_map (λ p. taken_along ns (datacenter_group nodes p.0) p.1) (zip factors shapes)

@@ -5,22 +5,21 @@ ghost use Rattle.cluster_terms.specs.Group.{nodes_of, place};
 ghost use Rattle.cluster_terms.specs.Replication.{groups_of};
 ghost use Rattle.topology_strategy.specs.Walk.{taken_in_all};
 
-use crate::datacenter::Datacenter;
-use crate::shape::{Shape, count_all};
+use crate::shape::count_all;
 use crate::walk::Walk;
 use cluster_terms::{Factors, Memory, Name, NodeId, Pair, Replication, Rf, Steps, Token};
-use node_directory::Directory;
+use node_directory::{Directory, Members, Shape};
 use node_sets::NodeSet;
 use std::alloc::Global;
 use std::marker::Model;
 use std::sync::ledger::Ledger;
 use token_ring::Ring;
 
-/// A ring, the registered nodes, and the datacenters that are to have replicas there, with the nodes and the racks that
-/// each of these has in the ring.
+/// A ring, the registered nodes, and the datacenters that are to have replicas, with the counts of their nodes and
+/// racks in the ring.
 ///
-/// The counts are the same at every token of a ring. Whoever asks at many makes this once, and then pays for the walks
-/// alone.
+/// The counts are the same at every token of a ring. To place many tokens, make this value once: then each token costs
+/// only its walks.
 #[derive(Drop)]
 pub struct CountedRing<'a> {
     ring: &'a Ring,
@@ -42,8 +41,7 @@ impl<'a> Model for CountedRing<'a> {
     ghost invariant = { λ c. c.shapes.items ≡ shapes_of c.dir.now.rows c.factors.now (nodes_of c.ring.now) };
 }
 
-/// The nodes that are taken in some datacenters of these shapes, on a walk along the pairs from some place on and then
-/// along those in front of it.
+/// The nodes that the walks take in these datacenters, which have these shapes: along `rest`, then along `front`.
 fn take_in_all(
     alloc: Global,
     dir: &Directory,
@@ -56,20 +54,21 @@ fn take_in_all(
 {
     let mut taken = Vec::new(alloc);
     for ((name, rf), shape) in factors.iter().zip(shapes) {
-        let datacenter = Datacenter { dir, name, rf: *rf };
+        let members = Members::Datacenter(dir, name, *rf);
         let mut walk = Walk::begin(alloc, *shape)?;
-        walk.go_along(&datacenter, shape.wanted, rest)?;
-        walk.go_along(&datacenter, shape.wanted, front)?;
+        walk.go_along(&members, shape.wanted, rest)?;
+        walk.go_along(&members, shape.wanted, front)?;
         taken.extend_from_slice(&walk.taken)?;
     }
     Ok(taken)
 }
 
 impl<'a> CountedRing<'a> {
-    /// The ring with the datacenters that the factors name, whose nodes and racks are counted.
+    /// Counts the nodes and the racks that each datacenter named by the factors has in the ring.
     ///
-    /// Costs one pass over the nodes that have tokens for each named datacenter. A node costs a look-up in the
-    /// directory and, in its own datacenter, a look at no more racks than there are to be replicas.
+    /// Costs one pass over the ring for each named datacenter. The pass ends once it has met as many nodes and as many
+    /// racks of the datacenter as there are to be replicas. A token that it meets costs a look-up in the directory and, in
+    /// its own datacenter, a look at no more nodes and racks than there are to be replicas.
     pub fn new(
         alloc: Global,
         ring: &'a Ring,
@@ -109,10 +108,10 @@ impl<'a> CountedRing<'a> {
     /// The replicas of a token by NetworkTopologyStrategy: the nodes that the walks from the token take in the named
     /// datacenters. See [`replicas`](crate::replicas).
     ///
-    /// Costs one walk for each named datacenter, and no counting. A walk ends where its datacenter has all its
-    /// replicas, and goes round the ring at most once. A token that it meets costs a look-up in the directory and, in
-    /// its own datacenter, a look at no more nodes and racks than there are to be replicas. Counts one step of `walks`,
-    /// whatever it answers.
+    /// Costs one walk for each named datacenter, and no counting. A walk ends once its datacenter has all its replicas,
+    /// and goes round the ring at most once. A token on the walk costs a look-up in the directory and, in its own
+    /// datacenter, a look at no more nodes and racks than there are to be replicas. Counts one step of `walks`, even on
+    /// an error.
     pub fn replicas<L: Ledger>(&self, t: Token, walks: &mut Steps<L>) -> Result<NodeSet, Memory>
         ensures placement { IfOk result (λ replicas. replicas ≡ place (groups_of self.now.nodes (Replication.Topology self.now.factors)) t self.now.ring) }
         ensures counted { walks.new ≡ walks.old + 1 }

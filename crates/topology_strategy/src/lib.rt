@@ -2,7 +2,6 @@
 #![tactic(auto)]
 
 mod counted_ring;
-mod datacenter;
 mod shape;
 mod strategy;
 mod validity;

@@ -12,14 +12,14 @@ use token_ring::Ring;
 
 /// The replicas of a token by NetworkTopologyStrategy, in the datacenters that the factors name.
 ///
-/// Each of these is by itself. Of its `n` nodes that have tokens, which stand in `k` racks, `min(rf, n)` are to be
-/// replicas, and `rf - k` of them may stand in a rack that has one, none where that isn't positive. Its walk begins at
-/// the first token at or after `t` and goes round the ring. A node that is taken already is passed over, and so is one
-/// of another datacenter or of none, as a node that isn't registered. A node of a rack that wasn't seen is taken, and
-/// one of a seen rack while such repeats are left. All that is taken is the placement, which is defined by counting.
+/// Each datacenter is placed by itself. If `n` of its nodes have tokens, in `k` racks, `min(rf, n)` of these nodes are
+/// to be replicas, and up to `rf - k` of them (none if that is negative) may stand in a rack that already has one. The
+/// walk goes round the ring from the first token at or after `t`, until it has all replicas. It passes over a node that
+/// is taken already, is in another datacenter, or isn't registered. It takes a node of a new rack, and a node of a seen
+/// rack while such repeats are left. The taken nodes are the placement, which is defined by counting.
 ///
-/// Counts the nodes and the racks of the ring first, as [`CountedRing::new`] does, and then costs what
-/// [`CountedRing::replicas`] costs. Counts one step of `walks`, whatever it answers.
+/// The cost is that of [`CountedRing::new`] and of [`CountedRing::replicas`]. Counts one step of `walks`, even on an
+/// error.
 pub fn replicas<L: Ledger>(
     alloc: Global,
     ring: &Ring,
@@ -39,6 +39,3 @@ pub fn replicas<L: Ledger>(
         }
     }
 }
-
-#[cfg(test)]
-mod tests;

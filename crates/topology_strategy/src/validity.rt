@@ -1,4 +1,4 @@
-//! What it means that nodes are the placement.
+//! The placement is what NetworkTopologyStrategy's walks take.
 
 ghost use Rattle.std.specs.Prelude.{◌≡◌, ℕ, ℤ, List, [], ◌++◌, take, drop};
 ghost use Rattle.std.specs.Ordering.{nat_cmp};
@@ -13,9 +13,9 @@ ghost use Rattle.topology_strategy.specs.Walk.{taken_in_all};
 
 use cluster_terms::Replication;
 
-/// The placement of the groups of some datacenters, which is defined by counting, is what NetworkTopologyStrategy's
-/// walks take: one in each datacenter, from the first token at or after `x` round the ring, with the shape that the
-/// datacenter has in the ring.
+/// The placement in these datacenters, which is defined by counting, is what NetworkTopologyStrategy's walks take. Each
+/// datacenter has a walk, from the first token at or after `x` round the ring, with the datacenter's shape in the ring.
+/// In an empty ring the placement is empty.
 pub fn placement_is_walked()
     ensures walk { (nodes : List NodeRow) (factors : List (List ℕ × ℕ)) (ring : List Pair) (x : ℤ) (i : ℕ) → IsRing ring → IsFirstAt ring x i
         → place (groups_of nodes (Replication.Topology factors)) x ring ≡ ascending nat_cmp (taken_in_all (nodes_of (drop i ring ++ take i ring)) nodes factors (shapes_of nodes factors (nodes_of ring))) }

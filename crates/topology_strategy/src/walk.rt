@@ -1,21 +1,20 @@
 ghost use Rattle.std.specs.Prelude.{◌≡◌, [], IfOk, OnOk, nat_eq};
 ghost use Rattle.std.specs.Set.{is_member};
 ghost use Rattle.cluster_terms.specs.Group.{nodes_of};
-ghost use Rattle.topology_strategy.specs.Datacenter.{group_of};
+ghost use Rattle.node_directory.specs.Members.{group_of};
 ghost use Rattle.topology_strategy.specs.Walk.{found_after, found_at};
 
-use crate::datacenter::{Datacenter, has_rack};
-use crate::shape::Shape;
-use cluster_terms::{Memory, Name, NodeId, Pair};
+use cluster_terms::{Memory, NodeId, Pair};
+use node_directory::{Members, Shape, has_rack};
 use std::alloc::Global;
 use std::marker::Model;
 
-/// A walk round a ring in one datacenter: the nodes that it took, in the order in which they were met, the racks that it
-/// saw, and how many further nodes of these racks it may still take.
+/// A walk round a ring in one group: the nodes that it took, in the order of the walk, the racks that it saw, and how
+/// many further nodes of these racks it may still take.
 #[derive(Drop)]
 pub struct Walk<'a> {
     pub taken: Vec<NodeId>,
-    pub racks: Vec<&'a Name>,
+    pub racks: Vec<&'a [u8]>,
     pub repeats: usize,
 }
 
@@ -28,7 +27,7 @@ impl<'a> Model for Walk<'a> {
     ghost view = { λ w. record { taken = w.taken.items; racks = map (λ r. r.now) w.racks.items; repeats = w.repeats } };
 }
 
-/// Whether a node is among those that are taken, of which there are at most 16.
+/// Whether a node is taken already.
 fn is_taken(taken: &[NodeId], node: NodeId) -> bool
     ensures { result ≡ is_member nat_eq taken.now node }
 {
@@ -36,7 +35,7 @@ fn is_taken(taken: &[NodeId], node: NodeId) -> bool
 }
 
 impl<'a> Walk<'a> {
-    /// A walk that begins, in a datacenter of this shape.
+    /// A new walk in a group of this shape.
     pub fn begin(alloc: Global, shape: Shape) -> Result<Walk<'a>, Memory>
         ensures { IfOk result (λ walk. walk ≡ record { taken = []; racks = []; repeats = shape.spare }) }
     {
@@ -47,9 +46,9 @@ impl<'a> Walk<'a> {
         })
     }
 
-    /// Meets a node of the datacenter, which stands in this rack. A node that is taken already is passed over. A node
-    /// of a rack that wasn't seen is taken. A node of a seen rack is taken while repeats are left, and uses one.
-    fn meet(&mut self, node: NodeId, rack: &'a Name) -> Result<(), Memory>
+    /// Meets a node of the group, in this rack. Passes over a node that is taken already. Takes a node of a new rack,
+    /// and a node of a seen rack while repeats are left, which uses up a repeat.
+    fn meet(&mut self, node: NodeId, rack: &'a [u8]) -> Result<(), Memory>
         ensures { OnOk result (self.new ≡ found_at node rack.now self.old) }
     {
         if is_taken(&self.taken, node) {
@@ -65,21 +64,22 @@ impl<'a> Walk<'a> {
         Ok(())
     }
 
-    /// Goes on along some pairs, until as many nodes as wanted are taken.
-    #[tactic(auto, using(crate::proofs::WalkLemmas::found_full))]
+    /// Continues the walk along these pairs, until `wanted` nodes are taken. If memory runs out, the walk may have gone
+    /// along some of them.
+    #[tactic(auto, using(crate::proofs::GroupWalks::found_full))]
     pub fn go_along(
         &mut self,
-        datacenter: &Datacenter<'a>,
+        members: &Members<'a>,
         wanted: usize,
         pairs: &[Pair],
     ) -> Result<(), Memory>
-        ensures { OnOk result (self.new ≡ found_after (group_of datacenter.now) wanted (nodes_of pairs.now) self.old) }
+        ensures { OnOk result (self.new ≡ found_after (group_of members.now) wanted (nodes_of pairs.now) self.old) }
     {
         for pair in pairs {
             if self.taken.len() >= wanted {
                 return Ok(());
             }
-            if let Some(rack) = datacenter.rack_of(pair.node) {
+            if let Some(rack) = members.rack_of(pair.node) {
                 self.meet(pair.node, rack)?;
             }
         }

@@ -1,4 +1,4 @@
--- What commands make of an image, one after another (CEP-21's transformations and their log).
+-- The images that commands lead to, one after another (CEP-21's transformations and their log).
 use Rattle.std.specs.Prelude.{ℕ, ◌+◌, Bool, true, false, not, ◌&&◌, if◌then◌else◌, ℤ, int_lt, List, [], ◌∷◌, ◌++◌, filter, take, length, Option, Some, is_none, nat_le, ◌==◌, IsTrue}
 use Rattle.std.specs.Str.{bytes_eq}
 use Rattle.cluster_terms.specs.Ascending.{put, put_all}
@@ -43,7 +43,7 @@ next_image image (PrepareReplace node gone) = begun image (replace_of image.toke
 next_image image (Cancel node) = (let after : Image = cancelled image node in record after { epoch = image.epoch + 1 })
 next_image image (Step goal kind node) = (let after : Image = stepped image goal node in record after { epoch = image.epoch + 1 })
 
--- the image after some commands from an image on, and after the first e commands of a history
+-- the image after a list of commands, from a given image on; and the image after the first e commands of a history
 abbrev pub image_after : Image → List Command → Image
 image_after image [] = image
 image_after image (command ∷ commands) = image_after (next_image image command) commands
@@ -57,8 +57,8 @@ ascend [] = true
 ascend (t ∷ []) = true
 ascend (t ∷ u ∷ ts) = int_lt t u && ascend (u ∷ ts)
 
--- whether tokens may be a command's: there are 1 to 256, and they ascend; and whether a command has such tokens, where it
--- has any
+-- whether a command may have these tokens: there are 1 to 256, and they ascend; and whether a command that has a list
+-- of tokens may have them, true for other commands
 abbrev pub are_tokens : List ℤ → Bool
 are_tokens tokens = nat_le 1 (length tokens) && (nat_le (length tokens) 256 && ascend tokens)
 
@@ -67,20 +67,20 @@ is_command (UnsafeJoin node tokens) = are_tokens tokens
 is_command (PrepareJoin node tokens) = are_tokens tokens
 is_command _ = true
 
--- whether some commands are each accepted, one after another from an image on
+-- whether each command of a list is accepted, one after another, from a given image on
 abbrev pub are_accepted : Image → List Command → Bool
 are_accepted image [] = true
 are_accepted image (command ∷ commands) =
     (is_command command && is_none (refusal_of image command)) && are_accepted (next_image image command) commands
 
--- a history: at most 65,536 commands, each accepted in the image of those before
+-- a history: at most 65,536 commands, each accepted in the image after the commands before it
 abbrev pub most_epochs : ℕ
 most_epochs = 65536
 
 abbrev pub IsHistory : List Command → Type 0
 IsHistory history = IsTrue (nat_le (length history) most_epochs && are_accepted empty_image history)
 
--- the first refusal of a commit after a history: before all others that there are as many epochs as can be
+-- the first refusal of a commit after a history; EPOCHS-FULL comes before all others
 abbrev pub commit_refusal : List Command → Command → Option Refusal
 commit_refusal history command =
     if nat_le most_epochs (length history) then Some EpochsFull else refusal_of (image_after empty_image history) command

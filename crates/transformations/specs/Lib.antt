@@ -6,6 +6,7 @@ pub mod Ranges
 pub mod Refusals
 pub mod RingKind
 pub mod Rings
+pub mod Same
 pub mod States
 pub mod Steps
 pub mod Valid

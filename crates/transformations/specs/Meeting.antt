@@ -12,11 +12,11 @@ use Rattle.transformations.specs.declared.command.Command.{Command}
 use Rattle.transformations.specs.declared.command.Command.TheVariants.{UnsafeJoin, Keyspace, DropKeyspace}
 use Rattle.transformations.specs.declared.image.Image.{Image}
 
--- what QUORUM reads and writes at a token under a replication
+-- the nodes that QUORUM reads and writes at a token under a replication
 abbrev pub sets_at : Image → Replication → ℤ → Sets
 sets_at image r x = record { total = total_of r; reads = reads_at image r x; writes = writes_at image r x }
 
--- what LOCAL_QUORUM of a datacenter does
+-- the nodes that LOCAL_QUORUM of a datacenter reads and writes there
 abbrev pub local_sets_at : Image → Replication → List ℕ × ℕ → ℤ → Sets
 local_sets_at image r f x = local_sets image.nodes f (reads_at image r x) (writes_at image r x)
 
@@ -29,8 +29,8 @@ datacenters_of (Topology factors) = factors
 abbrev pub AreWritten : Image → Replication → ℤ → Type 0
 AreWritten image r x = (n : ℕ) → is_member nat_eq (reads_at image r x) n ≡ true → is_member nat_eq (writes_at image r x) n ≡ true
 
--- sets have a write quorum exactly where they have a read quorum; so have those of QUORUM at a token, and those of
--- LOCAL_QUORUM in each datacenter
+-- sets have a write quorum if and only if they have a read quorum; and this holds for the sets of QUORUM at a token,
+-- and for those of LOCAL_QUORUM in each datacenter
 abbrev pub HaveBothOrNone : Sets → Type 0
 HaveBothOrNone s = nat_le (write_need s) (length s.writes) ≡ nat_le (read_need s) (length s.reads)
 
@@ -38,7 +38,7 @@ pub record ExistAt (image : Image) (r : Replication) (x : ℤ) : Type 0 where
   pub quorums : HaveBothOrNone (sets_at image r x)
   pub local_quorums : AllByRecursion (λ f. HaveBothOrNone (local_sets_at image r f x)) (datacenters_of r)
 
--- they do so at every token under every keyspace
+-- this holds at every token under every keyspace
 abbrev pub QuorumsExistTogether : Image → Type 0
 QuorumsExistTogether image = (x : ℤ) → IsToken x → AllByRecursion (λ k. ExistAt image k.replication x) image.keyspaces
 

@@ -1,5 +1,5 @@
 -- When a command is refused. The refusals, their order and the limits are by rules of this project.
-use Rattle.std.specs.Prelude.{ℕ, Bool, true, false, ◌&&◌, not, if◌then◌else◌, ℤ, List, [], ◌∷◌, ◌++◌, map, length, Option, Some, None, is_some, option_map, option_and_then, find, nat_le, nat_lt, ◌==◌}
+use Rattle.std.specs.Prelude.{◌≡◌, ℕ, Bool, true, false, ◌&&◌, not, if◌then◌else◌, ℤ, List, [], ◌∷◌, ◌++◌, map, length, Option, Some, None, is_some, option_map, option_and_then, find, nat_le, nat_lt, ◌==◌}
 use Rattle.std.specs.List.{list_any}
 use Rattle.std.specs.Ordering.{int_eq}
 use Rattle.std.specs.Set.{distinct_count}
@@ -10,8 +10,9 @@ use Rattle.cluster_terms.specs.NodeRow.{row_of}
 use Rattle.cluster_terms.specs.Replication.{groups_of}
 use Rattle.cluster_terms.specs.declared.node.NodeRow.{NodeRow}
 use Rattle.cluster_terms.specs.declared.token.Pair.{Pair}
+use Rattle.cluster_terms.specs.declared.token.RightEnd.{RightEnd}
 use Rattle.transformations.specs.Orders.{by_node}
-use Rattle.transformations.specs.Ranges.{first_shared}
+use Rattle.transformations.specs.Ranges.{IsLockedBy, first_shared}
 use Rattle.transformations.specs.Rings.{widest}
 use Rattle.transformations.specs.States.{owns_tokens, node_state, node_tokens}
 use Rattle.transformations.specs.Steps.{join_of, move_of, leave_of, replace_of, movement_of, takes_part, is_next_step, others}
@@ -27,7 +28,7 @@ use Rattle.transformations.specs.declared.sequence.SeqRow.{SeqRow}
 use Rattle.transformations.specs.declared.state.NodeState.{NodeState}
 use Rattle.transformations.specs.declared.state.NodeState.TheVariants as state
 
--- the most nodes, tokens and keyspaces that a cluster has
+-- the greatest numbers of nodes, tokens and keyspaces in a cluster
 abbrev pub most_nodes : ℕ
 most_nodes = 1024
 
@@ -37,7 +38,7 @@ most_tokens = 16384
 abbrev pub most_keyspaces : ℕ
 most_keyspaces = 64
 
--- a refusal, where a test says so
+-- the refusal if the test is true
 abbrev pub refused_if : Bool → Refusal → Option Refusal
 refused_if test refusal = if test then Some refusal else None
 
@@ -45,18 +46,18 @@ refused_if test refusal = if test then Some refusal else None
 abbrev pub name_taken : Image → List ℕ → Option Refusal
 name_taken image name = option_map (λ row. NameTaken row.id) (find (λ row. bytes_eq row.name name) image.nodes)
 
--- as many nodes are registered as can be
+-- the greatest number of nodes is registered
 abbrev pub nodes_full : Image → Option Refusal
 nodes_full image = refused_if (nat_le most_nodes (length image.nodes)) NodesFull
 
--- whether a node is registered; and the refusal where it isn't
+-- whether a node is registered; and the refusal if it isn't
 abbrev pub is_registered : Image → ℕ → Bool
 is_registered image n = is_some (row_of image.nodes n)
 
 abbrev pub no_node : Image → ℕ → Option Refusal
 no_node image n = refused_if (not (is_registered image n)) NoNode
 
--- the node's state isn't one that is allowed
+-- the node's state isn't allowed; the state is shown
 abbrev pub unless_allowed : (NodeState → Bool) → NodeState → Option Refusal
 unless_allowed allowed s = refused_if (not (allowed s)) (WrongState s)
 
@@ -97,7 +98,7 @@ abbrev pub not_idle : List SeqRow → Option Refusal
 not_idle [] = None
 not_idle (s ∷ later) = Some (NotIdle s.node)
 
--- a token stands in the ring, or a movement in flight brings it; the least such one of a command's is shown
+-- a token is in the ring, or a movement in flight brings it; the first such token of the command is shown
 abbrev pub is_taken : Image → ℤ → Bool
 is_taken image t = list_any (λ p. int_eq p.token t) (widest image)
 
@@ -127,7 +128,7 @@ abbrev pub other_rack : Image → ℕ → ℕ → Option Refusal
 other_rack image n gone =
     option_and_then (λ left. option_and_then (unless_near left) (row_of image.nodes n)) (row_of image.nodes gone)
 
--- a group of the node has no more nodes with tokens than it is to have replicas; the first keyspace of which this holds
+-- a group of the node has no more nodes with tokens than it is to have replicas; the first keyspace with such a group
 -- is shown
 abbrev pub is_short : Image → ℕ → Group → Bool
 is_short image n g = is_some (g.rack_of n) && nat_le (node_count g (nodes_of image.tokens)) g.rf
@@ -149,33 +150,32 @@ tokens_full image tokens = refused_if (nat_lt most_tokens (tokens_with image tok
 abbrev pub has_keyspace : Image → List ℕ → Bool
 has_keyspace image name = list_any (λ row. bytes_eq row.name name) image.keyspaces
 
--- no keyspace has the name; or none has it and as many are there as can be
+-- no keyspace has the name; and no keyspace has the name, and there is the greatest number of keyspaces
 abbrev pub no_keyspace : Image → List ℕ → Option Refusal
 no_keyspace image name = refused_if (not (has_keyspace image name)) NoKeyspace
 
 abbrev pub keyspaces_full : Image → List ℕ → Option Refusal
 keyspaces_full image name = refused_if (nat_le most_keyspaces (length image.keyspaces) && not (has_keyspace image name)) KeyspacesFull
 
--- the first of some refusals that comes
+-- the first refusal of a list
 abbrev pub first_of : List (Option Refusal) → Option Refusal
 first_of [] = None
 first_of (Some refusal ∷ later) = Some refusal
 first_of (None ∷ later) = first_of later
 
--- the image with a movement, which ascends by node among the others
+-- the image with a movement, put among the others in the order of nodes
 abbrev pub with_movement : Image → SeqRow → Image
 with_movement image s = record image { sequences = put by_node s image.sequences }
 
--- a new movement, in the image that has it, overlaps another one: the node of the first such one is shown, and the right
--- end of the first row that is in the ranges of both
+-- a new movement overlaps another movement, in the image that has both. The node of the first such movement is shown,
+-- and the right end of the first row that is in the ranges of both
 abbrev pub locked_by : Image → SeqRow → SeqRow → Option Refusal
 locked_by image s q = option_map (Locked q.node) (first_shared image s q)
 
 unfoldable pub locked : Image → SeqRow → Option Refusal
 locked image s = first_of (map (locked_by image s) (others image.sequences s.node))
 
--- the refusals of each command in their order, but for that of ranges that are locked, of which the first that comes is
--- answered; a command's tokens ascend
+-- the first refusal of each command, apart from LOCKED, in the order of its refusals; a command's tokens ascend
 unfoldable pub early_refusal_of : Image → Command → Option Refusal
 early_refusal_of image (Register name dc rack) = first_of (name_taken image name ∷ nodes_full image ∷ [])
 early_refusal_of image (Unregister node) =
@@ -208,10 +208,17 @@ prepared_by ring (PrepareLeave node) = Some (leave_of ring node)
 prepared_by ring (PrepareReplace node gone) = Some (replace_of ring node gone)
 prepared_by ring _ = None
 
--- its ranges are locked, in the image that has it
+-- the ranges of the movement that a command prepares are locked, in the image that has this movement
 abbrev pub ranges_locked : Image → Command → Option Refusal
 ranges_locked image command = option_and_then (λ s. locked (with_movement image s) s) (prepared_by image.tokens command)
 
--- the first refusal of a command; that of locked ranges is the last
+-- the first refusal of a command; LOCKED is the last
 unfoldable pub refusal_of : Image → Command → Option Refusal
 refusal_of image command = first_of (early_refusal_of image command ∷ ranges_locked image command ∷ [])
+
+-- LOCKED shows this: the movement that the command prepares is locked by the movement of node n, in the image that has
+-- both
+pub record IsLockedOf (image : Image) (command : Command) (n : ℕ) (right : RightEnd) : Type 0 where
+  pub movement : SeqRow
+  pub prepared : prepared_by image.tokens command ≡ Some movement
+  pub shown : IsLockedBy (with_movement image movement) movement n right

@@ -1,13 +1,15 @@
 -- The rings of an image, and the reads and writes that they give (CEP-21's placements for reads and for writes).
-use Rattle.std.specs.Prelude.{ℕ, Bool, true, false, not, ℤ, List, ◌++◌, map, filter, flat_map}
+use Rattle.std.specs.Prelude.{◌≡◌, ℕ, Bool, true, false, ℤ, List, ◌++◌, filter, flat_map}
+use Rattle.std.specs.List.{All}
 use Rattle.std.specs.Ordering.{nat_cmp, int_cmp}
-use Rattle.std.specs.Set.{is_member}
 use Rattle.cluster_terms.specs.Ascending.{put_all, ascending}
 use Rattle.cluster_terms.specs.Group.{place}
 use Rattle.cluster_terms.specs.Replication.{groups_of}
+use Rattle.cluster_terms.specs.Row.{is_within, last_token, rows_between}
+use Rattle.cluster_terms.specs.declared.row.TokenRange.{TokenRange}
 use Rattle.cluster_terms.specs.declared.token.Pair.{Pair}
 use Rattle.cluster_terms.specs.declared.replication.Replication.{Replication}
-use Rattle.cluster_terms.specs.Pair.{same_pair}
+use Rattle.cluster_terms.specs.Pair.{tokens_of, without_pairs}
 use Rattle.transformations.specs.declared.image.Image.{Image}
 use Rattle.transformations.specs.declared.sequence.Phase.{Phase}
 use Rattle.transformations.specs.declared.sequence.Phase.TheVariants.{Prepared, Started, Mid}
@@ -24,18 +26,18 @@ has_started Mid = true
 has_started Started = true
 has_started Prepared = false
 
--- a ring without some pairs, and with others
+-- a ring without the outgoing pairs, and with the incoming pairs at its end
 abbrev pub replaced : List Pair → List Pair → List Pair → List Pair
-replaced ring outgoing incoming = filter (λ p. not (is_member same_pair outgoing p)) ring ++ incoming
+replaced ring outgoing incoming = without_pairs ring outgoing ++ incoming
 
--- the pairs that some movements take out, and those that they put in
+-- the pairs that these movements take out, and the pairs that they put in
 abbrev pub outgoing : List SeqRow → List Pair
 outgoing sequences = flat_map (λ s. s.out_pairs) sequences
 
 abbrev pub incoming : List SeqRow → List Pair
 incoming sequences = flat_map (λ s. s.in_pairs) sequences
 
--- the ring with the movements of some phases applied: their outgoing pairs out, their incoming pairs in
+-- the ring with the movements at these phases applied: without their outgoing pairs, and with their incoming pairs
 abbrev pub ring_at : (Phase → Bool) → Image → List Pair
 ring_at applied image =
     let sequences = filter (λ s. applied s.phase) image.sequences in
@@ -49,7 +51,7 @@ low_ring image = image.tokens
 abbrev pub read_ring : Image → List Pair
 read_ring image = ring_at is_mid image
 
--- the high ring: those at STARTED or MID are applied
+-- the high ring: the movements at STARTED or MID are applied
 abbrev pub high_ring : Image → List Pair
 high_ring image = ring_at has_started image
 
@@ -62,13 +64,22 @@ writes_at image replication x =
     let groups = groups_of image.nodes replication in
     put_all nat_cmp (place groups x (low_ring image)) (place groups x (high_ring image))
 
--- the pairs that stand whatever becomes of the movements, and all that may come to stand
+-- the pairs that stay in the ring whatever happens to the movements, and all pairs that may come to be in it
 abbrev pub fixed_ring : Image → List Pair
-fixed_ring image = filter (λ p. not (is_member same_pair (outgoing image.sequences) p)) image.tokens
+fixed_ring image = without_pairs image.tokens (outgoing image.sequences)
 
 abbrev pub widest : Image → List Pair
 widest image = image.tokens ++ incoming image.sequences
 
--- the tokens between which nothing changes, ascending
+-- the cuts: the tokens of the ring and those that movements bring, ascending
 abbrev pub cuts : Image → List ℤ
-cuts image = ascending int_cmp (map (λ p. p.token) (widest image))
+cuts image = ascending int_cmp (tokens_of (widest image))
+
+-- a row stands for its tokens: at each of them the same nodes are read, and the same are written, as at its last token
+pub record StandsForTokens (image : Image) (r : Replication) (row : TokenRange) : Type 0 where
+  pub reads : (x : ℤ) → is_within x row ≡ true → reads_at image r x ≡ reads_at image r (last_token row.right)
+  pub writes : (x : ℤ) → is_within x row ≡ true → writes_at image r x ≡ writes_at image r (last_token row.right)
+
+-- each row between cuts stands for its tokens, under every replication
+abbrev pub RowsStandForTokens : Image → Type 0
+RowsStandForTokens image = (r : Replication) → All (StandsForTokens image r) (rows_between (cuts image))

@@ -1,7 +1,8 @@
--- What a node is doing (Cassandra's NodeState, derived from the image).
-use Rattle.std.specs.Prelude.{ℕ, Bool, ◌&&◌, if◌then◌else◌, ℤ, List, map, find, Option, Some, None, option_map, ◌==◌}
+-- The states of nodes (Cassandra's NodeState, derived from the image).
+use Rattle.std.specs.Prelude.{ℕ, Bool, ◌&&◌, if◌then◌else◌, ℤ, List, find, Option, Some, None, option_map, ◌==◌}
 use Rattle.std.specs.List.{list_any}
 use Rattle.cluster_terms.specs.NodeRow.{row_of}
+use Rattle.cluster_terms.specs.Pair.{tokens_of}
 use Rattle.cluster_terms.specs.declared.node.NodeRow.{NodeRow}
 use Rattle.transformations.specs.Rings.{has_started}
 use Rattle.transformations.specs.Steps.{owned}
@@ -14,29 +15,29 @@ use Rattle.transformations.specs.declared.state.NodeState.TheVariants.{Left, Boo
 
 -- the tokens of a node in the ring, ascending
 abbrev pub node_tokens : Image → ℕ → List ℤ
-node_tokens image n = map (λ p. p.token) (owned image.tokens n)
+node_tokens image n = tokens_of (owned image.tokens n)
 
 -- whether a node has a token in the ring
 abbrev pub owns_tokens : Image → ℕ → Bool
 owns_tokens image n = list_any (λ p. p.node == n) image.tokens
 
--- what the node of a movement is doing
+-- the state of a node whose movement of this kind has started
 abbrev pub state_in : Kind → NodeState
 state_in kind.Join = Bootstrapping
 state_in kind.Move = Moving
 state_in kind.Leave = Leaving
 state_in kind.Replace = BootReplacing
 
--- the movement of a node that has started
+-- the movement of a node, if it has started
 abbrev pub started_of : Image → ℕ → Option SeqRow
 started_of image n = find (λ s. (s.node == n) && has_started s.phase) image.sequences
 
--- the state of a node that hasn't left, with its movement that has started
+-- the state of a node that hasn't left, by its movement, if it has started
 abbrev pub state_by : Image → ℕ → Option SeqRow → NodeState
 state_by image n (Some s) = state_in s.kind
 state_by image n None = if owns_tokens image n then Joined else Registered
 
--- the state of a row, and that of a node; none where it is not registered
+-- the state of the node of a row; and the state of a node by its id, if it is registered
 unfoldable pub state_of_row : Image → NodeRow → NodeState
 state_of_row image row = if row.left then Left else state_by image row.id (started_of image row.id)
 

@@ -5,6 +5,7 @@ use Rattle.std.specs.List.Sorted.{IsStrictlyIncreasing, IsStrictlySortedBy}
 use Rattle.std.specs.Ordering.{int_eq}
 use Rattle.std.specs.Str.{bytes_eq}
 use Rattle.cluster_terms.specs.NodeRow.{row_of}
+use Rattle.cluster_terms.specs.Pair.{tokens_of}
 use Rattle.cluster_terms.specs.declared.node.NodeRow.{NodeRow}
 use Rattle.cluster_terms.specs.declared.token.Pair.{Pair}
 use Rattle.transformations.specs.History.{most_epochs}
@@ -26,7 +27,8 @@ stands (Some row) = not row.left
 abbrev pub is_standing : List NodeRow → ℕ → Bool
 is_standing nodes n = stands (row_of nodes n)
 
--- the nodes of a cluster: at most 1,024; ids ascend from 1 on and are below the next one; no name comes twice
+-- the nodes of a cluster: at most 1,024; ids ascend from 1 on and are below the next id; no two nodes have the same
+-- name
 pub record AreNodes (nodes : List NodeRow) (next : ℕ) : Type 0 where
   pub few : length nodes ≤ most_nodes
   pub ascending : IsStrictlyIncreasing (map (λ row. row.id) nodes)
@@ -39,7 +41,7 @@ pub record IsOwned (image : Image) : Type 0 where
   pub owners : AllByRecursion (λ p. is_standing image.nodes p.node ≡ true) image.tokens
   pub few : (n : ℕ) → length (node_tokens image n) ≤ 256
 
--- the pairs of a join: it takes no pair out and puts in 1 to 256 of its node, which has no token
+-- the pairs of a join: it takes no pair out and puts in 1 to 256 pairs of its node, which has no token
 pub record IsJoin (image : Image) (s : SeqRow) : Type 0 where
   pub out : s.out_pairs ≡ []
   pub some : 1 ≤ length s.in_pairs
@@ -47,26 +49,26 @@ pub record IsJoin (image : Image) (s : SeqRow) : Type 0 where
   pub own : AllByRecursion (λ p. p.node ≡ s.node) s.in_pairs
   pub bare : owns_tokens image s.node ≡ false
 
--- of a move: it takes out the node's one pair, and puts in one
+-- the pairs of a move: it takes out the node's only pair, and puts in one pair of the node
 pub record IsMove (image : Image) (s : SeqRow) : Type 0 where
   pub out : s.out_pairs ≡ owned image.tokens s.node
   pub one : length s.out_pairs ≡ 1
   pub new : length s.in_pairs ≡ 1
   pub own : AllByRecursion (λ p. p.node ≡ s.node) s.in_pairs
 
--- of a leave: it takes out the node's pairs, of which there are some, and puts none in
+-- the pairs of a leave: it takes out the node's pairs, at least one, and puts none in
 pub record IsLeave (image : Image) (s : SeqRow) : Type 0 where
   pub out : s.out_pairs ≡ owned image.tokens s.node
   pub some : 1 ≤ length s.out_pairs
   pub in_none : s.in_pairs ≡ []
 
--- of a replace: it takes out all pairs of another node, of which there are some, and puts in the same tokens with its
--- node, which has none; both nodes have the same datacenter and rack
+-- the pairs of a replace: it takes out all pairs of another node, at least one, and puts in the same tokens with its
+-- own node, which has no token in the ring. If both are registered, they have the same datacenter and rack
 pub record IsReplace (image : Image) (s : SeqRow) : Type 0 where
   pub gone : ℕ
   pub out : s.out_pairs ≡ owned image.tokens gone
   pub some : 1 ≤ length s.out_pairs
-  pub same : s.in_pairs ≡ pairs_of s.node (map (λ p. p.token) s.out_pairs)
+  pub same : s.in_pairs ≡ pairs_of s.node (tokens_of s.out_pairs)
   pub bare : owns_tokens image s.node ≡ false
   pub near : other_rack image s.node gone ≡ None
 
@@ -83,7 +85,7 @@ pub record IsMovement (image : Image) (s : SeqRow) : Type 0 where
   pub ascending : IsStrictlySortedBy by_token s.in_pairs
   pub fits : Fits s.kind image s
 
--- two movements of which no node takes part in both
+-- no node takes part in both movements
 abbrev pub HaveNoNodeTwice : SeqRow → SeqRow → Type 0
 HaveNoNodeTwice s q = (n : ℕ) → (takes_part n s && takes_part n q) ≡ false
 
@@ -95,8 +97,7 @@ brought_by _ pairs = pairs
 abbrev pub brought : List SeqRow → List Pair
 brought sequences = flat_map (λ s. brought_by s.kind s.in_pairs) sequences
 
--- an image that is sound taken list by list: all that holds of an image that commands lead to, but for the ranges of its
--- movements
+-- a sound image: all that holds of a valid image, except that its movements may overlap
 pub record IsSound (image : Image) : Type 0 where
   pub epochs : image.epoch ≤ most_epochs
   pub first_id : 1 ≤ image.next
@@ -108,11 +109,12 @@ pub record IsSound (image : Image) : Type 0 where
   pub movements : IsStrictlySortedBy by_node image.sequences
   pub fitting : AllByRecursion (IsMovement image) image.sequences
   pub once : AllPairs HaveNoNodeTwice image.sequences
-  -- no token stands twice, in the ring or in what movements bring to it, and there are at most 16,384
-  pub fresh : IsDistinct int_eq (map (λ p. p.token) (image.tokens ++ brought image.sequences))
+  -- no token comes twice in the ring and in the pairs that movements bring at tokens of their own; together these pairs
+  -- are at most 16,384
+  pub fresh : IsDistinct int_eq (tokens_of (image.tokens ++ brought image.sequences))
   pub few_tokens : length (image.tokens ++ brought image.sequences) ≤ most_tokens
 
--- an image that commands lead to: no two of its movements overlap
+-- a valid image: it is sound, and no two of its movements overlap
 pub record IsValid (image : Image) : Type 0 where
   pub sound : IsSound image
   pub apart : AreApart image

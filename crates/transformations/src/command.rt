@@ -30,32 +30,32 @@ pub enum Command {
     DropKeyspace {
         name: Name,
     },
-    /// Prepares a join: the node is to have these tokens, which ascend.
+    /// Prepares a join: the node is to get these tokens. The tokens ascend.
     PrepareJoin {
         node: NodeId,
         tokens: TokenList,
     },
-    /// Prepares a move: the node, which has one token, is to have this one in its place.
+    /// Prepares a move: this token is to replace the node's only token.
     PrepareMove {
         node: NodeId,
         token: Token,
     },
-    /// Prepares a leave: the node gives up its tokens, and has left once this is done.
+    /// Prepares a leave: the node is to give up its tokens. When the leave is finished, the node has left.
     PrepareLeave {
         node: NodeId,
     },
-    /// Prepares a replace: the node takes the tokens of the one that is gone, which has left once this is done.
+    /// Prepares a replace: the node is to take the tokens of `gone`. When the replace is finished, `gone` has left.
     PrepareReplace {
         node: NodeId,
         gone: NodeId,
     },
-    /// Takes the movement of a node, which is of this kind, one step on.
+    /// Takes the movement of a node to this goal. The movement is of this kind.
     Step {
         goal: Goal,
         kind: Kind,
         node: NodeId,
     },
-    /// Cancels the movement of a node: half way, it goes back to where it had started; before that, it ends.
+    /// Cancels the movement of a node: from `Mid` it goes back to `Started`, and before `Mid` it ends.
     Cancel {
         node: NodeId,
     },

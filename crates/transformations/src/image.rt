@@ -1,13 +1,12 @@
 ghost use Rattle.std.specs.Prelude.{◌≡◌};
-ghost use Rattle.transformations.specs.Meeting.{HaveReplications};
 
-use crate::keyspace::{KeyspaceRows, have_replications};
+use crate::keyspace::KeyspaceRows;
 use crate::sequence::SeqRows;
 use cluster_terms::{Memory, NodeRows, PairList, TryCopy};
 
-/// The cluster's metadata after some commands (CEP-21's ClusterMetadata): the epoch, which is the number of
-/// commands so far; the id that the next node gets; the registered nodes, ascending by id; the pairs of the ring,
-/// ascending by token; the keyspaces, ascending by name; and the movements in flight, ascending by node.
+/// The cluster's metadata after a number of commands (CEP-21's ClusterMetadata): the epoch, which is this number; the
+/// id of the next node that is registered; the registered nodes, ascending by id; the pairs of the ring, ascending by
+/// token; the keyspaces, ascending by name; and the movements in flight, ascending by node.
 #[derive(Debug, Drop)]
 pub struct Image {
     pub epoch: u64,
@@ -16,15 +15,6 @@ pub struct Image {
     pub tokens: PairList,
     pub keyspaces: KeyspaceRows,
     pub sequences: SeqRows,
-}
-
-impl Image {
-    /// What the keyspaces of each image have: replications, of which each names a datacenter once.
-    pub fn replications(&self)
-        ensures { HaveReplications self.now }
-    {
-        have_replications(self.keyspaces.as_slice())
-    }
 }
 
 impl TryCopy for Image {

@@ -1,6 +1,4 @@
 ghost use Rattle.std.specs.Prelude.{◌≡◌};
-ghost use Rattle.std.specs.List.{All};
-ghost use Rattle.cluster_terms.specs.Replication.{IsReplication};
 
 use cluster_terms::{Memory, Name, Ordered, Replication, SmallList, TryCopy};
 use std::cmp::Ordering;
@@ -14,15 +12,6 @@ pub struct KeyspaceRow {
 
 /// Keyspaces, ascending by the bytes of their names.
 pub type KeyspaceRows = SmallList<KeyspaceRow>;
-
-/// What each keyspace has: a replication, which names each of its datacenters once.
-pub fn have_replications(rows: &[KeyspaceRow])
-    ensures { All (λ row. IsReplication row.replication) rows.now }
-{
-    for row in rows {
-        row.replication.total();
-    }
-}
 
 impl TryCopy for KeyspaceRow {
     fn copy(&self) -> Result<KeyspaceRow, Memory> {

@@ -1,22 +1,23 @@
-//! The cluster image, the commands that change it, and what each command makes of it.
+//! The cluster image, the commands that change it, and the image that each command leads to.
 #![tactic(auto)]
 
 pub mod command;
+pub mod entry;
 pub mod image;
 pub mod keyspace;
 mod prepares;
 pub mod refusal;
 pub mod refusals;
 pub mod rings;
+mod same;
 pub mod sequence;
 pub mod state;
 mod steps;
-#[cfg(test)]
-mod tests;
 mod token_count;
 pub mod validity;
 
 pub use command::Command;
+pub use entry::Entry;
 pub use image::Image;
 pub use keyspace::{KeyspaceRow, KeyspaceRows};
 pub use refusal::Refusal;

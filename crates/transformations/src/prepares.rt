@@ -1,4 +1,4 @@
-//! Why a movement is not prepared.
+//! Refusals of commands that prepare movements.
 
 ghost use Rattle.std.specs.Prelude.{◌≡◌, ◌==◌, filter, find, is_some, length, IfOk};
 ghost use Rattle.std.specs.List.{list_any};
@@ -18,14 +18,14 @@ use crate::state::{has_pair, row_of};
 use cluster_terms::{Memory, Name, NodeId, NodeRow, Pair, Replication, Rf, TryCopy};
 use std::alloc::Global;
 
-/// The node that is to be replaced has no token.
+/// `NoTokens` if the node that is to be replaced has no token.
 pub(crate) fn no_tokens(image: &Image, gone: NodeId) -> Option<Refusal>
     ensures { result ≡ no_tokens image.now gone }
 {
     refused_if(!has_pair(image.tokens.as_slice(), gone), Refusal::NoTokens)
 }
 
-/// How many tokens a node has.
+/// The number of a node's tokens in the ring.
 fn count_tokens(image: &Image, n: NodeId) -> usize
     ensures { result ≡ length (filter (λ p. p.node == n) image.now.tokens) }
 {
@@ -37,8 +37,8 @@ fn count_tokens(image: &Image, n: NodeId) -> usize
         .count()
 }
 
-/// The node doesn't have one token: how many it has is shown. `Err` comes exactly where they are 2^32 or more.
-#[tactic(auto, using(crate::proofs::CountedLemmas::not_one_counted))]
+/// `NotOneToken` with the number of the node's tokens, if it isn't 1. Returns `Err` if and only if it is 2^32 or more.
+#[tactic(auto, using(crate::proofs::commands::CountedLemmas::not_one_counted))]
 pub(crate) fn not_one_token(image: &Image, n: NodeId) -> Result<Option<Refusal>, Memory>
     ensures { IfOk result (λ found. found ≡ not_one_token image.now n) }
 {
@@ -48,14 +48,14 @@ pub(crate) fn not_one_token(image: &Image, n: NodeId) -> Result<Option<Refusal>,
     Ok(refused_if(count != 1, Refusal::NotOneToken(count)))
 }
 
-/// Whether two nodes stand in the same datacenter and rack.
+/// Whether two nodes are in the same datacenter and rack.
 fn same_place(row: &NodeRow, gone: &NodeRow) -> bool
     ensures { result ≡ same_place row.now gone.now }
 {
     row.dc.as_str() == gone.dc.as_str() && row.rack.as_str() == gone.rack.as_str()
 }
 
-/// The node that is to be replaced stands in another datacenter or rack, which are shown.
+/// `OtherRack` with the datacenter and rack of the node that is to be replaced, if the new node isn't in them.
 pub(crate) fn other_rack(image: &Image, n: NodeId, gone: NodeId) -> Result<Option<Refusal>, Memory>
     ensures { IfOk result (λ found. found ≡ other_rack image.now n gone) }
 {
@@ -73,14 +73,14 @@ pub(crate) fn other_rack(image: &Image, n: NodeId, gone: NodeId) -> Result<Optio
     Ok(Some(Refusal::OtherRack(dc, rack)))
 }
 
-/// The nodes of some pairs.
+/// The nodes of these pairs, in their order.
 fn nodes_of(alloc: Global, pairs: &[Pair]) -> Result<Vec<NodeId>, Memory>
     ensures { IfOk result (λ nodes. nodes.items ≡ nodes_of pairs.now) }
 {
     Ok(pairs.iter().map(|pair| pair.node).collect(alloc)?)
 }
 
-/// Some nodes, each once, ascending.
+/// These nodes in ascending order, each once.
 fn each_once(mut nodes: Vec<NodeId>) -> Vec<NodeId>
     ensures { IsOnce result.items nodes.items }
 {
@@ -89,36 +89,36 @@ fn each_once(mut nodes: Vec<NodeId>) -> Vec<NodeId>
     nodes
 }
 
-/// Whether a node stands in a datacenter.
+/// Whether a node is registered in a datacenter.
 fn is_in(nodes: &[NodeRow], dc: &Name, n: NodeId) -> bool
     ensures { result ≡ is_some (rack_within dc.now (row_of nodes.now n)) }
 {
     row_of(nodes, n).is_some_and(|row| row.dc.as_str() == dc.as_str())
 }
 
-/// How many of some nodes stand in a datacenter.
+/// The number of these nodes that are registered in a datacenter.
 fn count_in(nodes: &[NodeRow], dc: &Name, ids: &[NodeId]) -> usize
     ensures { result ≡ length (within nodes.now dc.now ids.now) }
 {
     ids.iter().filter(|n| is_in(nodes, dc, **n)).count()
 }
 
-/// Whether the datacenter of a node has no more of some nodes than it is to have replicas.
+/// Whether a datacenter is that of node `n`, and has no more nodes of `ids` than it is to have replicas.
 fn is_short_in(nodes: &[NodeRow], ids: &[NodeId], n: NodeId, row: &(Name, Rf)) -> bool
     ensures { result ≡ is_short_of ids.now n (datacenter_group nodes.now row.now) }
 {
     is_in(nodes, &row.0, n) && count_in(nodes, &row.0, ids) <= usize::from(row.1.value())
 }
 
-/// Whether one of some datacenters, which is that of a node, has no more of some nodes than it is to have replicas.
+/// Whether `is_short_in` holds for any of these datacenters.
 fn is_short_in_any(nodes: &[NodeRow], ids: &[NodeId], n: NodeId, rows: &[(Name, Rf)]) -> bool
     ensures { result ≡ list_any (λ row. is_short_of ids.now n (datacenter_group nodes.now row)) rows.now }
 {
     rows.iter().any(|row| is_short_in(nodes, ids, n, row))
 }
 
-/// Whether a group of a node has no more of some nodes than it is to have replicas.
-#[tactic(auto, using(crate::proofs::CountedLemmas::few_simple, crate::proofs::CountedLemmas::few_topology))]
+/// Whether, under a keyspace, a group of node `n` has no more nodes of `ids` than it is to have replicas.
+#[tactic(auto, using(crate::proofs::commands::CountedLemmas::few_simple, crate::proofs::commands::CountedLemmas::few_topology))]
 fn is_few(nodes: &[NodeRow], ids: &[NodeId], n: NodeId, row: &KeyspaceRow) -> bool
     ensures { result ≡ is_few_of nodes.now ids.now n row.now }
 {
@@ -128,7 +128,7 @@ fn is_few(nodes: &[NodeRow], ids: &[NodeId], n: NodeId, row: &KeyspaceRow) -> bo
     }
 }
 
-/// The first keyspace in which a group of a node has no more of some nodes than it is to have replicas.
+/// The first keyspace for which `is_few` holds.
 fn first_few<'a>(image: &'a Image, ids: &[NodeId], n: NodeId) -> Option<&'a KeyspaceRow>
     ensures { option_copied result ≡ find (is_few_of image.now.nodes ids.now n) image.now.keyspaces }
 {
@@ -137,10 +137,10 @@ fn first_few<'a>(image: &'a Image, ids: &[NodeId], n: NodeId) -> Option<&'a Keys
     keyspaces.iter().find(|row| is_few(nodes, ids, n, row))
 }
 
-/// A group of the node has no more nodes with tokens than it is to have replicas: the first keyspace of which this
-/// holds is shown. The nodes of the ring are sorted once. Each of them then costs one pass over the rows for each
-/// keyspace that names the datacenter of the node.
-#[tactic(auto, using(crate::proofs::CountedLemmas::too_few_found, crate::proofs::CountedLemmas::too_few_none))]
+/// `TooFewNodes` with the first keyspace under which a group of the node has no more nodes with tokens than it is to
+/// have replicas. Sorts the nodes of the ring once. Each of them then costs one pass over the rows for each keyspace
+/// that names the datacenter of the node.
+#[tactic(auto, using(crate::proofs::commands::CountedLemmas::too_few_found, crate::proofs::commands::CountedLemmas::too_few_none))]
 pub(crate) fn too_few_nodes(
     alloc: Global,
     image: &Image,

@@ -16,23 +16,23 @@ use crate::token_count::{count_all, tokens_with};
 use cluster_terms::{Memory, Name, NodeId, Pair, Token};
 use std::alloc::Global;
 
-/// The most nodes that a cluster has.
+/// The greatest number of nodes in a cluster.
 const MOST_NODES: usize = 1_024;
 
-/// The most tokens.
+/// The greatest number of tokens.
 const MOST_TOKENS: usize = 16_384;
 
-/// The most keyspaces.
+/// The greatest number of keyspaces.
 const MOST_KEYSPACES: usize = 64;
 
-/// A refusal, where a test says so.
+/// Returns the refusal if the test is true.
 pub(crate) fn refused_if(test: bool, refusal: Refusal) -> Option<Refusal>
     ensures { result ≡ refused_if test refusal }
 {
     if test { Some(refusal) } else { None }
 }
 
-/// A node has the name.
+/// `NameTaken` with the node that has this name, if there is one.
 fn name_taken(image: &Image, name: &Name) -> Option<Refusal>
     ensures { result ≡ name_taken image.now name.now }
 {
@@ -44,7 +44,7 @@ fn name_taken(image: &Image, name: &Name) -> Option<Refusal>
         .map(|row| Refusal::NameTaken(row.id))
 }
 
-/// As many nodes are registered as can be.
+/// `NodesFull` if the greatest number of nodes is registered.
 fn nodes_full(image: &Image) -> Option<Refusal>
     ensures { result ≡ nodes_full image.now }
 {
@@ -61,48 +61,49 @@ fn is_registered(image: &Image, n: NodeId) -> bool
     row_of(image.nodes.as_slice(), n).is_some()
 }
 
-/// The node isn't registered.
+/// `NoNode` if the node isn't registered.
 fn no_node(image: &Image, n: NodeId) -> Option<Refusal>
     ensures { result ≡ no_node image.now n }
 {
     refused_if(!is_registered(image, n), Refusal::NoNode)
 }
 
-/// Whether a node is registered, and nothing else.
+/// Whether a node in this state may be given tokens: it is `Registered`.
 fn may_join(state: NodeState) -> bool
     ensures { result ≡ may_join state }
 {
     matches!(state, NodeState::Registered)
 }
 
-/// Whether a node has a token, and no movement of it has started.
+/// Whether a node in this state may move or leave: it is `Joined`.
 fn may_move_or_leave(state: NodeState) -> bool
     ensures { result ≡ may_move_or_leave state }
 {
     matches!(state, NodeState::Joined)
 }
 
-/// Whether a node is registered and nothing else, or has left.
+/// Whether a node in this state may be removed: it is `Registered` or `Left`.
 fn may_be_removed(state: NodeState) -> bool
     ensures { result ≡ may_be_removed state }
 {
     matches!(state, NodeState::Registered | NodeState::Left)
 }
 
-/// The node's state isn't one that is allowed.
+/// `WrongState` with the node's state, if this state isn't allowed. `None` if the node isn't registered.
 fn wrong_state<F: FnOnce(NodeState) -> bool>(
     image: &Image,
     n: NodeId,
     allowed: F,
 ) -> Option<Refusal>
     requires { F.IsAlwaysCallable allowed }
-    ensures { MatchOption (node_state image.now n) (result ≡ None) (λ s. (b : _) × F.post allowed s b × (result ≡ refused_if (not b) (Refusal.WrongState s))) }
+    ensures { MatchOption (node_state image.now n) (result ≡ None)
+        (λ s. (b : _) × F.post allowed s b × (result ≡ refused_if (not b) (Refusal.WrongState s))) }
 {
     let state = node_state(image, n)?;
     refused_if(!allowed(state), Refusal::WrongState(state))
 }
 
-/// The node takes part in a movement, whose node is shown.
+/// `InSequence` with the node of the first movement in which this node takes part.
 fn in_sequence(image: &Image, n: NodeId) -> Option<Refusal>
     ensures { result ≡ in_sequence image.now n }
 {
@@ -114,14 +115,14 @@ fn in_sequence(image: &Image, n: NodeId) -> Option<Refusal>
         .map(|row| Refusal::InSequence(row.node))
 }
 
-/// The node has no movement.
+/// `NoSequence` if the node has no movement.
 fn no_sequence(image: &Image, n: NodeId) -> Option<Refusal>
     ensures { result ≡ no_sequence image.now n }
 {
     refused_if(movement_of(image, n).is_none(), Refusal::NoSequence)
 }
 
-/// The step isn't the next one of the node's movement, whose own kind and phase are shown.
+/// `WrongStep` with the kind and phase of the node's movement, if this isn't its next step.
 fn wrong_step(goal: Goal, kind: Kind, image: &Image, n: NodeId) -> Option<Refusal>
     ensures { result ≡ wrong_step goal kind image.now n }
 {
@@ -132,7 +133,7 @@ fn wrong_step(goal: Goal, kind: Kind, image: &Image, n: NodeId) -> Option<Refusa
     )
 }
 
-/// A movement is in flight. They ascend by node, so the first one has the least.
+/// `NotIdle` with the node of the first movement. Movements ascend by node, so this is the least node that has one.
 fn not_idle(sequences: &[SeqRow]) -> Option<Refusal>
     ensures { result ≡ not_idle sequences.now }
 {
@@ -140,7 +141,7 @@ fn not_idle(sequences: &[SeqRow]) -> Option<Refusal>
     Some(Refusal::NotIdle(first.node))
 }
 
-/// Whether one of some pairs has a token.
+/// Whether a pair in a list has this token.
 fn has_token(pairs: &[Pair], token: Token) -> bool
     ensures { result ≡ list_any (λ p. int_eq p.token token) pairs.now }
 {
@@ -156,15 +157,15 @@ fn is_brought(sequences: &[SeqRow], token: Token) -> bool
         .any(|row| has_token(row.in_pairs.as_slice(), token))
 }
 
-/// Whether a token stands in the ring, or a movement in flight brings it.
+/// Whether a token is in the ring, or a movement in flight brings it.
 fn is_taken(image: &Image, token: Token) -> bool
     ensures { result ≡ is_taken image.now token }
 {
     has_token(image.tokens.as_slice(), token) || is_brought(image.sequences.as_slice(), token)
 }
 
-/// One of some tokens is taken: the first such one is shown. For k tokens that is at most k passes over the pairs of
-/// the ring and those that movements bring.
+/// `TokenTaken` with the first of these tokens that is taken. For k tokens, the cost is at most k passes over the pairs
+/// of the ring and those that movements bring.
 fn token_taken(image: &Image, tokens: &[Token]) -> Option<Refusal>
     ensures { result ≡ token_taken image.now tokens.now }
 {
@@ -185,14 +186,14 @@ fn has_keyspace(image: &Image, name: &Name) -> bool
         .any(|row| row.name.as_str() == name.as_str())
 }
 
-/// No keyspace has the name.
+/// `NoKeyspace` if no keyspace has this name.
 fn no_keyspace(image: &Image, name: &Name) -> Option<Refusal>
     ensures { result ≡ no_keyspace image.now name.now }
 {
     refused_if(!has_keyspace(image, name), Refusal::NoKeyspace)
 }
 
-/// None has it, and as many are there as can be.
+/// `KeyspacesFull` if no keyspace has this name, and there is the greatest number of keyspaces.
 fn keyspaces_full(image: &Image, name: &Name) -> Option<Refusal>
     ensures { result ≡ keyspaces_full image.now name.now }
 {
@@ -202,9 +203,9 @@ fn keyspaces_full(image: &Image, name: &Name) -> Option<Refusal>
     )
 }
 
-/// There would be too many tokens. They are sorted and counted only where the pairs of the ring, those that movements
-/// bring and the tokens are together too many.
-#[tactic(auto, using(crate::proofs::RefusalLemmas::few_tokens))]
+/// `TokensFull` if there would be too many different tokens. They are sorted and counted only if the pairs of the ring,
+/// those that movements bring and these tokens are together too many.
+#[tactic(auto, using(crate::proofs::commands::RefusalLemmas::few_tokens))]
 fn tokens_full(alloc: Global, image: &Image, tokens: &[Token]) -> Result<Option<Refusal>, Memory>
     ensures { IfOk result (λ found. found ≡ tokens_full image.now tokens.now) }
 {
@@ -215,27 +216,30 @@ fn tokens_full(alloc: Global, image: &Image, tokens: &[Token]) -> Result<Option<
     Ok(refused_if(MOST_TOKENS < count, Refusal::TokensFull))
 }
 
-/// The node isn't registered, takes part in a movement, or isn't idle: what comes first.
+/// The first refusal of a node that isn't registered, takes part in a movement, or isn't in state `Registered`.
 fn not_ready(image: &Image, n: NodeId) -> Option<Refusal>
-    ensures { result ≡ first_of (no_node image.now n ∷ in_sequence image.now n ∷ wrong_state may_join image.now n ∷ []) }
+    ensures { result ≡ first_of
+        (no_node image.now n ∷ in_sequence image.now n ∷ wrong_state may_join image.now n ∷ []) }
 {
     no_node(image, n)
         .or_else(|| in_sequence(image, n))
         .or_else(|| wrong_state(image, n, may_join))
 }
 
-/// The node isn't registered, takes part in a movement, or has not joined: what comes first.
+/// The first refusal of a node that isn't registered, takes part in a movement, or isn't in state `Joined`.
 fn not_settled(image: &Image, n: NodeId) -> Option<Refusal>
-    ensures { result ≡ first_of (no_node image.now n ∷ in_sequence image.now n ∷ wrong_state may_move_or_leave image.now n ∷ []) }
+    ensures { result ≡ first_of
+        (no_node image.now n ∷ in_sequence image.now n ∷ wrong_state may_move_or_leave image.now n ∷ []) }
 {
     no_node(image, n)
         .or_else(|| in_sequence(image, n))
         .or_else(|| wrong_state(image, n, may_move_or_leave))
 }
 
-/// One of two nodes isn't registered, or one takes part in a movement: what comes first.
+/// The first refusal of two nodes, if either isn't registered or takes part in a movement.
 fn not_both_free(image: &Image, n: NodeId, m: NodeId) -> Option<Refusal>
-    ensures { result ≡ first_of (no_node image.now n ∷ no_node image.now m ∷ in_sequence image.now n ∷ in_sequence image.now m ∷ []) }
+    ensures { result ≡ first_of
+        (no_node image.now n ∷ no_node image.now m ∷ in_sequence image.now n ∷ in_sequence image.now m ∷ []) }
 {
     no_node(image, n)
         .or_else(|| no_node(image, m))
@@ -243,9 +247,11 @@ fn not_both_free(image: &Image, n: NodeId, m: NodeId) -> Option<Refusal>
         .or_else(|| in_sequence(image, m))
 }
 
-/// One of some tokens is taken, or there would be too many: what comes first.
+/// The first refusal of tokens, if any is taken or there would be too many.
 fn not_available(alloc: Global, image: &Image, tokens: &[Token]) -> Result<Option<Refusal>, Memory>
-    ensures { IfOk result (λ found. found ≡ first_of (token_taken image.now tokens.now ∷ tokens_full image.now tokens.now ∷ [])) }
+    ensures { IfOk result
+        (λ found. found ≡ first_of
+        (token_taken image.now tokens.now ∷ tokens_full image.now tokens.now ∷ [])) }
 {
     if let Some(refusal) = token_taken(image, tokens) {
         return Ok(Some(refusal));
@@ -253,58 +259,60 @@ fn not_available(alloc: Global, image: &Image, tokens: &[Token]) -> Result<Optio
     tokens_full(alloc, image, tokens)
 }
 
-/// A movement is in flight, or one of some tokens is taken: what comes first.
+/// The first refusal of tokens, if a movement is in flight or any of the tokens is taken.
 fn not_free(image: &Image, tokens: &[Token]) -> Option<Refusal>
     ensures { result ≡ first_of (not_idle image.now.sequences ∷ token_taken image.now tokens.now ∷ []) }
 {
     not_idle(image.sequences.as_slice()).or_else(|| token_taken(image, tokens))
 }
 
-/// The first refusal of a node that is to be registered under a name.
+/// The first refusal of `Register`.
 fn register(image: &Image, name: &Name) -> Option<Refusal>
     ensures { result ≡ first_of (name_taken image.now name.now ∷ nodes_full image.now ∷ []) }
 {
     name_taken(image, name).or_else(|| nodes_full(image))
 }
 
-/// The first refusal of a node that is to be removed.
+/// The first refusal of `Unregister`.
 fn unregister(image: &Image, n: NodeId) -> Option<Refusal>
-    ensures { result ≡ first_of (no_node image.now n ∷ in_sequence image.now n ∷ wrong_state may_be_removed image.now n ∷ []) }
+    ensures { result ≡ first_of
+        (no_node image.now n ∷ in_sequence image.now n ∷ wrong_state may_be_removed image.now n ∷ []) }
 {
     no_node(image, n)
         .or_else(|| in_sequence(image, n))
         .or_else(|| wrong_state(image, n, may_be_removed))
 }
 
-/// The first refusal of a keyspace that is to be made or changed.
+/// The first refusal of `Keyspace`.
 fn keyspace(image: &Image, name: &Name) -> Option<Refusal>
     ensures { result ≡ first_of (keyspaces_full image.now name.now ∷ not_idle image.now.sequences ∷ []) }
 {
     keyspaces_full(image, name).or_else(|| not_idle(image.sequences.as_slice()))
 }
 
-/// The first refusal of a keyspace that is to be removed.
+/// The first refusal of `DropKeyspace`.
 fn drop_keyspace(image: &Image, name: &Name) -> Option<Refusal>
     ensures { result ≡ first_of (no_keyspace image.now name.now ∷ not_idle image.now.sequences ∷ []) }
 {
     no_keyspace(image, name).or_else(|| not_idle(image.sequences.as_slice()))
 }
 
-/// The first refusal of a movement that is to be cancelled.
+/// The first refusal of `Cancel`.
 fn cancel(image: &Image, n: NodeId) -> Option<Refusal>
     ensures { result ≡ first_of (no_node image.now n ∷ no_sequence image.now n ∷ []) }
 {
     no_node(image, n).or_else(|| no_sequence(image, n))
 }
 
-/// The first refusal of a step that a movement is to take.
+/// The first refusal of `Step`.
 fn step(image: &Image, goal: Goal, kind: Kind, n: NodeId) -> Option<Refusal>
-    ensures { result ≡ first_of (no_node image.now n ∷ no_sequence image.now n ∷ wrong_step goal kind image.now n ∷ []) }
+    ensures { result ≡ first_of
+        (no_node image.now n ∷ no_sequence image.now n ∷ wrong_step goal kind image.now n ∷ []) }
 {
     cancel(image, n).or_else(|| wrong_step(goal, kind, image, n))
 }
 
-/// The first refusal of tokens that a node is to get at once.
+/// The first refusal of `UnsafeJoin`.
 #[tactic(auto, unfolding(crate::specs::Refusals::early_refusal_of))]
 fn unsafe_join(
     alloc: Global,
@@ -323,7 +331,7 @@ fn unsafe_join(
     tokens_full(alloc, image, tokens)
 }
 
-/// The first refusal of a join that is to be prepared.
+/// The first refusal of `PrepareJoin`, apart from `Locked`.
 #[tactic(auto, unfolding(crate::specs::Refusals::early_refusal_of))]
 fn prepare_join(
     alloc: Global,
@@ -331,7 +339,8 @@ fn prepare_join(
     node: NodeId,
     tokens: &[Token],
 ) -> Result<Option<Refusal>, Memory>
-    ensures { IfOk result (λ found. found ≡ early_refusal_of image.now (command.PrepareJoin node tokens.now)) }
+    ensures { IfOk result
+        (λ found. found ≡ early_refusal_of image.now (command.PrepareJoin node tokens.now)) }
 {
     if let Some(refusal) = not_ready(image, node) {
         return Ok(Some(refusal));
@@ -339,7 +348,7 @@ fn prepare_join(
     not_available(alloc, image, tokens)
 }
 
-/// The first refusal of a token that the one of a node is to be moved to.
+/// The first refusal of `PrepareMove`, apart from `Locked`.
 #[tactic(auto, unfolding(crate::specs::Refusals::early_refusal_of))]
 fn prepare_move(
     alloc: Global,
@@ -358,7 +367,7 @@ fn prepare_move(
     not_available(alloc, image, &[token])
 }
 
-/// The first refusal of a leave that is to be prepared.
+/// The first refusal of `PrepareLeave`, apart from `Locked`.
 #[tactic(auto, unfolding(crate::specs::Refusals::early_refusal_of))]
 fn prepare_leave(alloc: Global, image: &Image, node: NodeId) -> Result<Option<Refusal>, Memory>
     ensures { IfOk result (λ found. found ≡ early_refusal_of image.now (command.PrepareLeave node)) }
@@ -369,7 +378,7 @@ fn prepare_leave(alloc: Global, image: &Image, node: NodeId) -> Result<Option<Re
     too_few_nodes(alloc, image, node)
 }
 
-/// The first refusal of a replace that is to be prepared.
+/// The first refusal of `PrepareReplace`, apart from `Locked`.
 #[tactic(auto, unfolding(crate::specs::Refusals::early_refusal_of))]
 fn prepare_replace(image: &Image, node: NodeId, gone: NodeId) -> Result<Option<Refusal>, Memory>
     ensures { IfOk result (λ found. found ≡ early_refusal_of image.now (command.PrepareReplace node gone)) }
@@ -386,16 +395,16 @@ fn prepare_replace(image: &Image, node: NodeId, gone: NodeId) -> Result<Option<R
     other_rack(image, node, gone)
 }
 
-/// The first refusal of a command in an image, if it is refused there, but for that of locked ranges, which is the last
-/// one: the first that comes of the command's refusals in their order. None after it is looked for.
+/// The first refusal of a command in an image, apart from `Locked`, which comes last. Returns `None` if there is no
+/// such refusal. The refusals of a command have an order, and those after the first are not looked for.
 ///
-/// A search for a node or a keyspace is one pass over the rows. For k tokens of a command the search for one that is
-/// taken is at most k passes over the pairs of the ring and those that movements bring. For `PrepareLeave` the nodes
-/// with tokens are sorted once, and each costs one pass over the rows for each keyspace that names the datacenter of the
-/// node that is to leave.
+/// `Err` means that memory ran out for counting tokens or nodes or for copying the names of a refusal, or that a node
+/// that is to be moved has 2^32 tokens or more.
 ///
-/// `Err` comes where memory is wanting to count tokens or nodes or to copy the names of a refusal, and for a move of a
-/// node with 2^32 tokens or more.
+/// Cost: a search for a node or a keyspace is one pass over the rows. For k tokens of a command, the search for a token
+/// that is taken is at most k passes over the pairs of the ring and those that movements bring. `PrepareLeave` sorts
+/// the nodes with tokens once. Each of them costs one pass over the rows for each keyspace that names the datacenter of
+/// the node that is to leave.
 #[tactic(auto, unfolding(crate::specs::Refusals::early_refusal_of))]
 pub fn early_refusal(
     alloc: Global,

@@ -3,7 +3,7 @@ ghost use Rattle.std.specs.Prelude.{◌≡◌};
 use cluster_terms::{Memory, NodeId, Ordered, PairList, SmallList, TryCopy};
 use std::cmp::Ordering;
 
-/// What a movement does with its node (CEP-21's multi-step operations).
+/// The kind of a movement (CEP-21's multi-step operations).
 #[derive(Clone, Copy, Debug, PartialEq, Eq)]
 pub enum Kind {
     Join,
@@ -12,7 +12,7 @@ pub enum Kind {
     Replace,
 }
 
-/// How far a movement has come.
+/// The phase of a movement: how far it has come.
 #[derive(Clone, Copy, Debug, PartialEq, Eq)]
 pub enum Phase {
     Prepared,
@@ -20,7 +20,7 @@ pub enum Phase {
     Mid,
 }
 
-/// What a step of a movement comes to: to be started, to be half way, and to be finished.
+/// The goal of a step: to start a movement, to bring it half way, or to finish it.
 #[derive(Clone, Copy, Debug, PartialEq, Eq)]
 pub enum Goal {
     Start,
@@ -28,8 +28,8 @@ pub enum Goal {
     Finish,
 }
 
-/// A movement in flight: its node, the pairs that it takes out of the ring and those that it puts in, each
-/// list ascending by token, and how far it has come.
+/// A movement in flight: its node, its kind, the pairs that it takes out of the ring, the pairs that it puts in, and
+/// its phase. Each list of pairs ascends by token.
 #[derive(Debug, Drop)]
 pub struct SeqRow {
     pub node: NodeId,

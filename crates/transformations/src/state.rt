@@ -9,7 +9,7 @@ use crate::image::Image;
 use crate::sequence::{Kind, Phase, SeqRow};
 use cluster_terms::{NodeId, NodeRow, Pair};
 
-/// What a node is doing: derived from its row, the movements in flight and the ring.
+/// The state of a node, derived from its row, the movements in flight and the ring.
 #[derive(Clone, Copy, Debug, PartialEq, Eq)]
 pub enum NodeState {
     /// It has left the cluster.
@@ -20,15 +20,15 @@ pub enum NodeState {
     Moving,
     /// A leave of the node has started.
     Leaving,
-    /// The node has started to replace another one.
+    /// A replace has started, and this node is the new node.
     BootReplacing,
-    /// It has a token in the ring.
+    /// It has a token in the ring, and no movement of it has started.
     Joined,
-    /// It is registered, and none of the others.
+    /// It is registered, and none of the other states applies.
     Registered,
 }
 
-/// What the node of a movement is doing.
+/// The state of a node whose movement of this kind has started.
 fn state_in(kind: Kind) -> NodeState
     ensures { result ≡ state_in kind }
 {
@@ -50,7 +50,7 @@ fn has_started(phase: Phase) -> bool
     }
 }
 
-/// The movement of a node that has started.
+/// The movement of a node, if it has started.
 fn started_of(image: &Image, n: NodeId) -> Option<&SeqRow>
     ensures { option_copied result ≡ started_of image.now n }
 {
@@ -61,7 +61,7 @@ fn started_of(image: &Image, n: NodeId) -> Option<&SeqRow>
         .find(|row| row.node == n && has_started(row.phase))
 }
 
-/// Whether one of some pairs is the node's.
+/// Whether a pair in a list is the node's.
 pub(crate) fn has_pair(pairs: &[Pair], n: NodeId) -> bool
     ensures { result ≡ list_any (λ p. p.node == n) pairs.now }
 {
@@ -75,8 +75,8 @@ pub(crate) fn row_of(nodes: &[NodeRow], n: NodeId) -> Option<&NodeRow>
     nodes.iter().find(|row| row.id == n)
 }
 
-/// The state of the node of a row: LEFT where the row says so, else what its movement that has started does, else
-/// whether it has a token in the ring.
+/// The state of the node of a row: `Left` if the row says so; otherwise the state for its movement, if it has started;
+/// otherwise `Joined` if it has a token in the ring, and `Registered` if it has none.
 #[tactic(auto, unfolding(crate::specs::States::state_of_row))]
 pub fn state_of(image: &Image, row: &NodeRow) -> NodeState
     ensures { result ≡ state_of_row image.now row.now }
@@ -91,7 +91,7 @@ pub fn state_of(image: &Image, row: &NodeRow) -> NodeState
     }
 }
 
-/// The state of a node. `None` comes exactly where it isn't registered.
+/// The state of a node. Returns `None` if and only if the node isn't registered.
 pub fn node_state(image: &Image, n: NodeId) -> Option<NodeState>
     ensures { result ≡ node_state image.now n }
 {

@@ -7,21 +7,21 @@ use crate::sequence::{Goal, Kind, Phase, SeqRow};
 use crate::state::has_pair;
 use cluster_terms::NodeId;
 
-/// The movement of a node. `None` comes exactly where it has none.
+/// The movement of a node. Returns `None` if and only if the node has no movement.
 pub fn movement_of(image: &Image, n: NodeId) -> Option<&SeqRow>
     ensures { option_copied result ≡ movement_of image.now n }
 {
     image.sequences.as_slice().iter().find(|row| row.node == n)
 }
 
-/// Whether a node takes part in a movement: it is its node, or the one that it takes pairs from.
+/// Whether a node takes part in a movement: it is the movement's node, or the movement takes out a pair of the node.
 pub(crate) fn takes_part(n: NodeId, row: &SeqRow) -> bool
     ensures { result ≡ takes_part n row.now }
 {
     row.node == n || has_pair(row.out_pairs.as_slice(), n)
 }
 
-/// The phase that a step goes on from.
+/// The phase before a step with this goal.
 fn phase_before(goal: Goal) -> Phase
     ensures { result ≡ phase_before goal }
 {

@@ -9,7 +9,7 @@ use crate::rings::{tokens_of, widest};
 use cluster_terms::{Memory, Token};
 use std::alloc::Global;
 
-/// How many tokens there are, where equal ones count once.
+/// The number of different tokens.
 fn distinct(mut tokens: Vec<Token>) -> usize
     ensures { result ≡ distinct_count int_eq tokens.items }
 {
@@ -18,8 +18,8 @@ fn distinct(mut tokens: Vec<Token>) -> usize
     tokens.len()
 }
 
-/// How many pairs there are in the ring, how many movements bring, and how many tokens a command has: their sum, or
-/// the greatest number where the sum is greater.
+/// The number of pairs in the ring, of pairs that movements bring, and of a command's tokens, together. If the sum is
+/// greater than `usize::MAX`, returns `usize::MAX`.
 pub(crate) fn count_all(image: &Image, tokens: &[Token]) -> usize
     ensures { result ≡ min (length (widest image.now) + length tokens.now) usize.MAX }
 {
@@ -30,7 +30,7 @@ pub(crate) fn count_all(image: &Image, tokens: &[Token]) -> usize
     count
 }
 
-/// How many tokens there would be with those of a command.
+/// The number of different tokens that there would be with those of a command.
 pub(crate) fn tokens_with(alloc: Global, image: &Image, tokens: &[Token]) -> Result<usize, Memory>
     ensures { IfOk result (λ count. count ≡ tokens_with image.now tokens.now) }
 {

@@ -2,17 +2,17 @@ use Rattle.std.proofs.Common.{sym, ◌∙◌}
 use Rattle.cluster_metadata.proofs.CancelLemmas.{brought_back, ended, some_cancelled}
 use Rattle.cluster_metadata.proofs.cancelling.cancel.Goals as goal
 
-pub place_of-at-requires : goal.place_of-at-requires
-place_of-at-requires c = rw c.as_slice-sequences.ensures (some_cancelled _ _ c.requires.accepted)
+pub position_of-at-requires : goal.position_of-at-requires
+position_of-at-requires c = rw c.as_slice-sequences.ensures (some_cancelled _ _ c.requires.accepted)
 
 pub returns-then-is_mid : goal.returns-then-is_mid
 returns-then-is_mid c =
-    let own = rw c.as_slice-sequences.ensures at c.place_of-at.ensures in
+    let own = rw c.as_slice-sequences.ensures at c.position_of-at.ensures in
     let row = rw c.as_slice-sequences.ensures at c.index-sequences-at.is in
     brought_back _ _ _ _ c.requires.movements own.bound row own.place _ (sym c.is_mid.ensures ∙ c.if-is_mid.true) c.in_ok-row.ensures
 
 pub returns : goal.returns
 returns c =
-    let own = rw c.as_slice-sequences.ensures at c.place_of-at.ensures in
+    let own = rw c.as_slice-sequences.ensures at c.position_of-at.ensures in
     let row = rw c.as_slice-sequences.ensures at c.index-sequences-at.is in
     ended _ _ _ _ c.requires.movements own.bound row own.place _ (sym c.is_mid.ensures ∙ c.if-is_mid.false) c.in_ok-sequences.ensures

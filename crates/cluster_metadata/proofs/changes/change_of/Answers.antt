@@ -1,8 +1,9 @@
 use Rattle.std.proofs.Common.{◌≡◌, MatchResult, None, Option, Some, subst}
+use Rattle.std.proofs.lemmas.Result.{IfOk-weaker}
 use Rattle.transformations.specs.Refusals.{prepared_by}
 use Rattle.transformations.specs.declared.refusal.Refusal.{Refusal}
-use Rattle.cluster_metadata.proofs.PrepareLemmas.{prepared_new, prepares}
-use Rattle.cluster_metadata.proofs.RefusalLemmas.{none_later, prepared_locked}
+use Rattle.cluster_metadata.proofs.PrepareLemmas.{prepared_new, prepared_replicated, prepares}
+use Rattle.cluster_metadata.proofs.LockRefusals.{none_later, prepared_locked}
 use Rattle.cluster_metadata.specs.Permission.{ShowsRefusal}
 use Rattle.cluster_metadata.proofs.changes.change_of.Goals as goal
 
@@ -15,6 +16,11 @@ pub returns-in-Some-clause-change : goal.returns-in-Some-clause-change
 returns-in-Some-clause-change g c =
     let prepared : prepared_by c.args.image.now.tokens c.args.cmd.now ≡ Some c.in-Some.row = cc c.in_ok-row.ensures.row in
     prepares _ _ _ prepared c.prepare.result c.prepare.ensures.change
+
+pub returns-in-Some-clause-replicated : goal.returns-in-Some-clause-replicated
+returns-in-Some-clause-replicated g c =
+    let prepared : prepared_by c.args.image.now.tokens c.args.cmd.now ≡ Some c.in-Some.row = cc c.in_ok-row.ensures.row in
+    IfOk-weaker c.prepare.result _ _ (λ change begins. prepared_replicated c.args.image.now c.args.cmd.now c.in-Some.row prepared) c.prepare.ensures.change
 
 pub returns-in-Some-clause-refusal : goal.returns-in-Some-clause-refusal
 returns-in-Some-clause-refusal g c =

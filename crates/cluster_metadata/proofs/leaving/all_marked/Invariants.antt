@@ -1,5 +1,5 @@
 use Rattle.std.proofs.Common.{◌≡◌, map, take}
-use Rattle.transformations.specs.Steps.{marked}
+use Rattle.cluster_terms.specs.NodeRow.{marked}
 use Rattle.cluster_metadata.proofs.leaving.all_marked.Given as goal
 
 -- the rows so far, with the mark

@@ -1,6 +1,6 @@
 use Rattle.std.proofs.Common.{◌≡◌, ◌∙◌, ◌⊎◌, ap, inl, inr, length, sym}
 use Rattle.cluster_metadata.specs.Locks.{first_end}
-use Rattle.cluster_metadata.proofs.EndLemmas.{common_done, common_turn, first_none}
+use Rattle.cluster_metadata.proofs.FirstEnds.{common_done, common_turn, first_none}
 use Rattle.cluster_metadata.proofs.locks.first_shared.Goals as goal
 
 pub loop-our-preserved : goal.loop-our-preserved

@@ -1,4 +1,4 @@
-use Rattle.cluster_metadata.proofs.DirectoryLemmas.{finished_rows, nodes_rows}
+use Rattle.cluster_metadata.proofs.ImageDirectory.{finished_rows, nodes_rows}
 use Rattle.cluster_metadata.proofs.permit.directory_for.Goals as goal
 
 pub from_valid-requires : goal.from_valid-requires

@@ -13,15 +13,13 @@ first_lock-requires-clause-theirs g c = rw (c.as_slice.ensures, c.as_slice-2.ens
 
 pub returns-in-Some-clause-refusal : goal.returns-in-Some-clause-refusal
 returns-in-Some-clause-refusal g c =
-    let tokens = rw c.as_slice-2.ensures at c.first_lock.ensures.tokens in
-    let found = rw (c.as_slice-ranges.ensures, c.as_slice.ensures, c.as_slice-2.ensures) at c.in-Some.ensures.first in
-    sym (plan_locked _ _ _ c.in-Ok.ensures.plan tokens) ∙ sym found
+    let found = rw (c.as_slice-ranges.ensures, c.as_slice.ensures, c.as_slice-2.ensures) at c.in-Some.ensures in
+    sym (plan_locked _ _ _ c.in-Ok.ensures.plan) ∙ sym found
 
 pub begun-requires-clause-new : goal.begun-requires-clause-new
 begun-requires-clause-new g c = rw c.in-Ok.ensures.plan.row c.requires.new
 
 pub returns-clause-refusal : goal.returns-clause-refusal
 returns-clause-refusal g c =
-    let tokens = rw c.as_slice-2.ensures at c.first_lock.ensures.tokens in
-    let none = rw (c.as_slice-ranges.ensures, c.as_slice.ensures, c.as_slice-2.ensures, c.in_default.is) at c.first_lock.ensures.first in
-    sym (plan_locked _ _ _ c.in-Ok.ensures.plan tokens) ∙ sym none
+    let none = rw (c.as_slice-ranges.ensures, c.as_slice.ensures, c.as_slice-2.ensures, c.in_default.is) at c.first_lock.ensures in
+    sym (plan_locked _ _ _ c.in-Ok.ensures.plan) ∙ sym none

@@ -4,7 +4,7 @@ use Rattle.std.specs.Str.{bytes_eq}
 use Rattle.std.proofs.lemmas.List.{take_more}
 use Rattle.cluster_terms.specs.declared.node.NodeRow.{NodeRow}
 use Rattle.node_directory.specs.Directory.{names_of}
-use Rattle.node_directory.proofs.RowLemmas.{distinct-more}
+use Rattle.node_directory.proofs.NodeRows.{distinct-more}
 use Rattle.node_directory.proofs.kept.by_name.Goals as goal
 
 pub loop-row-preserved : goal.loop-row-preserved

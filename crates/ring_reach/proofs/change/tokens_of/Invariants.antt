@@ -1,5 +1,5 @@
 use Rattle.std.proofs.Common.{◌≡◌, take}
-use Rattle.ring_reach.specs.Members.{group_of}
+use Rattle.node_directory.specs.Members.{group_of}
 use Rattle.ring_reach.specs.Moved.{tokens_in}
 use Rattle.ring_reach.proofs.change.tokens_of.Given as goal
 

@@ -2,7 +2,7 @@ use Rattle.std.proofs.Common.{◌<◌, Bool, not, ◌&&◌, is_some, length, sym
 use Rattle.cluster_terms.specs.Group.{Group}
 use Rattle.cluster_terms.specs.Reach.{same_shape}
 use Rattle.cluster_terms.specs.Replication.{datacenter_group}
-use Rattle.ring_reach.proofs.ListLemmas.{any_mapped}
+use Rattle.ring_reach.proofs.MappedItems.{any_mapped}
 use Rattle.ring_reach.proofs.differ.differs_in_datacenters.Goals as goal
 
 pub returns-then-branch : goal.returns-then-branch

@@ -11,7 +11,7 @@ use Rattle.cluster_terms.specs.declared.row.TokenRange.{TokenRange}
 use Rattle.cluster_terms.specs.declared.token.Pair.{Pair}
 use Rattle.token_ring.proofs.BoundLemmas.{out_more}
 use Rattle.token_ring.specs.Ranges.{have_chosen}
-use Rattle.token_ring.specs.Ring.{tokens_of}
+use Rattle.cluster_terms.specs.Pair.{tokens_of}
 use Rattle.ring_reach.specs.Moved.{AreEnds}
 use Rattle.ring_reach.proofs.EndLemmas.{ends_of_both}
 use Rattle.ring_reach.proofs.ReachedLemmas.{chosen_reached}

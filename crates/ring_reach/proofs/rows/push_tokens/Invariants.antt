@@ -1,5 +1,5 @@
 use Rattle.std.proofs.Common.{◌≡◌, ◌++◌, take}
-use Rattle.token_ring.specs.Ring.{tokens_of}
+use Rattle.cluster_terms.specs.Pair.{tokens_of}
 use Rattle.ring_reach.proofs.rows.push_tokens.Given as goal
 
 -- the tokens so far

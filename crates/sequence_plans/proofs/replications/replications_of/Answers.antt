@@ -19,7 +19,7 @@ loop-row-preserved c =
     let added : Replication → List Replication → List Replication = λ r rs. rs ++ r ∷ [] in
     elim c.if-not-has.branch [
       | then-not-has+in_ok-copy+in_ok-push w ↦
-          let same : w.in_ok-copy.field-0 ≡ k.replication = w.in_ok-copy.ensures in
+          let same : w.in_ok-copy.field-0 ≡ k.replication = w.in_ok-copy.ensures.copied in
           w.list-is ∙ w.in_ok-push.ensures ∙ ap (added w.in_ok-copy.field-0) c.loop-row.invariant
           ∙ ap (λ (r : Replication). added r (replications_of (take i ks))) same
           ∙ new ks i k c.loop-row-test.true c.row-item.is (sym told ∙ w.if-not-has.true)

@@ -1,6 +1,6 @@
 use Rattle.std.proofs.Common.{◌≡◌, refl, sym, subst}
 use Rattle.std.proofs.lemmas.Result.{IfOk-weaker}
-use Rattle.transformations.proofs.SoundLemmas.{sound_prepared}
+use Rattle.transformations.proofs.histories.SoundLemmas.{sound_prepared}
 use Rattle.transformations.specs.Refusals.{with_movement}
 use Rattle.transformations.specs.Steps.{leave_of}
 use Rattle.transformations.specs.Valid.{IsSound}

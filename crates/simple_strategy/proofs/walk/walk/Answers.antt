@@ -5,7 +5,7 @@ use Rattle.cluster_terms.specs.Group.{nodes_of, place}
 use Rattle.cluster_terms.specs.Replication.{whole_group}
 use Rattle.simple_strategy.specs.Walk.{taken_after}
 use Rattle.cluster_terms.proofs.PlacementLemmas.{placed_nowhere}
-use Rattle.simple_strategy.proofs.PlaceLemmas.{placed_in_parts}
+use Rattle.simple_strategy.proofs.SimplePlacement.{placed_in_parts}
 use Rattle.simple_strategy.proofs.walk.walk.Goals as goal
 
 pub returns-in_default : goal.returns-in_default

@@ -1,7 +1,7 @@
 use Rattle.std.proofs.Common.{◌≡◌, ◌++◌, OnOk, Some, option_map}
 use Rattle.transformations.specs.declared.keyspace.KeyspaceRow.{KeyspaceRow}
 use Rattle.cluster_metadata.specs.Served.{keyspace_of}
-use Rattle.tcm_session.proofs.PlaceLemmas.{place_answered}
+use Rattle.tcm_session.proofs.KeyspacePlacements.{place_answered}
 use Rattle.tcm_session.proofs.place_text.place_text.Goals as goal
 
 pub returns-in-Some-clause-added : goal.returns-in-Some-clause-added

@@ -1,18 +1,13 @@
-use Rattle.std.proofs.Common.{sym, ◌∙◌}
-use Rattle.std.proofs.lemmas.Result.{IfOk-weaker}
-use Rattle.tcm_session.proofs.OutcomeLemmas.{HasOutcome-commit, BeginsOutcome-commit, BeginsOutcome-others, usage_ends}
+use Rattle.std.proofs.Common.{refl, sym, ◌∙◌}
+use Rattle.tcm_session.proofs.RunLemmas.{others_not_4, runs_commit, runs_others}
 use Rattle.tcm_session.proofs.program.answer_words.Goals as goal
 
-pub returns-then-is_commit-clause-outcome : goal.returns-then-is_commit-clause-outcome
-returns-then-is_commit-clause-outcome g c =
-    IfOk-weaker c.commit.result _ _ (λ status h. HasOutcome-commit _ _ _ _ _ (sym c.is_commit.ensures ∙ c.if-is_commit.true) h) c.commit.ensures.outcome
+pub returns-then-is_commit-clause-runs : goal.returns-then-is_commit-clause-runs
+returns-then-is_commit-clause-runs g c = runs_commit _ _ _ _ _ _ _ _ _ _ (sym c.is_commit.ensures ∙ c.if-is_commit.true) c.commit.ensures
 
-pub returns-then-is_commit-clause-part : goal.returns-then-is_commit-clause-part
-returns-then-is_commit-clause-part g c = BeginsOutcome-commit _ _ _ _ (sym c.is_commit.ensures ∙ c.if-is_commit.true) c.commit.ensures.part
+pub returns-else-is_commit-clause-runs : goal.returns-else-is_commit-clause-runs
+returns-else-is_commit-clause-runs g c =
+    runs_others _ _ _ _ _ _ _ (sym c.is_commit.ensures ∙ c.if-is_commit.false) c.usage.result c.usage.ensures.writes c.usage.ensures.status
 
-pub returns-else-is_commit-clause-outcome : goal.returns-else-is_commit-clause-outcome
-returns-else-is_commit-clause-outcome g c =
-    usage_ends _ (g.S.Source.left c.args.input.now) _ _ (λ s. s.0) c.usage.result (sym c.is_commit.ensures ∙ c.if-is_commit.false) c.usage.ensures.ok c.usage.ensures.status
-
-pub returns-else-is_commit-clause-part : goal.returns-else-is_commit-clause-part
-returns-else-is_commit-clause-part g c = BeginsOutcome-others _ _ _ _ (sym c.is_commit.ensures ∙ c.if-is_commit.false) c.usage.ensures.part
+pub returns-else-is_commit-clause-others : goal.returns-else-is_commit-clause-others
+returns-else-is_commit-clause-others g c e = (refl, others_not_4 _ _ _ _ c.usage.result c.usage.ensures.writes c.usage.ensures.status)

@@ -1,9 +1,6 @@
-use Rattle.std.proofs.Common.{[]}
-use Rattle.std.proofs.KnownBytes.{Keeps-refl}
-use Rattle.tcm_session.specs.Outcome.{input_limit}
-use Rattle.tcm_session.proofs.OutcomeLemmas.{BeginsOutcome-read}
-use Rattle.tcm_session.proofs.ReadLemmas.{Reads-none}
+use Rattle.tcm_session.specs.declared.fault.RunFault.TheVariants as fault
+use Rattle.tcm_session.proofs.RunLemmas.{runs_err, runs_none}
 use Rattle.tcm_session.proofs.program.commit.Goals as goal
 
-pub returns-in_err-session-clause-part : goal.returns-in_err-session-clause-part
-returns-in_err-session-clause-part g c = BeginsOutcome-read _ _ _ _ (Reads-none input_limit _ _ [] [] _ (Keeps-refl (g.S.Source.left c.args.input.now)) tt)
+pub returns-in_err-session : goal.returns-in_err-session
+returns-in_err-session g c = runs_err _ _ _ _ _ _ _ _ _ c.from_residual.result fault.Memory c.from_residual.ensures.1 (runs_none _ _ _ _)

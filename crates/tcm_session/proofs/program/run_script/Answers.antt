@@ -1,27 +1,20 @@
-use Rattle.tcm_session.proofs.OutcomeLemmas.{BeginsOutcome-read, BeginsOutcome-ending, HasOutcome-read, past_limit_of}
+use Rattle.tcm_session.proofs.RunLemmas.{runs_err, runs_part, runs_stopped, runs_whole}
 use Rattle.tcm_session.proofs.program.run_script.Goals as goal
 
-pub returns-in_err-ending-clause-part : goal.returns-in_err-ending-clause-part
-returns-in_err-ending-clause-part g c =
-    let reads = rw (c.requires, c.new-begun.ensures.items) at c.read_script.ensures.part in
-    BeginsOutcome-read _ _ _ _ reads
+pub returns-in_err-ending : goal.returns-in_err-ending
+returns-in_err-ending g c =
+    let stops = rw (c.requires, c.new-begun.ensures.items) at c.in_err-ending.ensures.err in
+    runs_err _ _ _ _ _ _ _ _ _ c.from_residual.result _ c.from_residual.ensures.1 (runs_stopped _ _ _ _ _ _ _ _ _ stops c.in_err-ending.ensures.cause)
 
-pub returns-in_err-status-clause-part : goal.returns-in_err-status-clause-part
-returns-in_err-status-clause-part g c =
+pub returns-in_err-finish : goal.returns-in_err-finish
+returns-in_err-finish g c =
     let reads = rw (c.requires, c.new-begun.ensures.items) at c.in_ok-ending.ensures.ok in
-    BeginsOutcome-ending _ _ _ _ _ _ c.in_ok-ending.ending _ reads (rw c.as_slice.ensures.value at c.finish.ensures.part)
+    let writes = rw c.as_slice.ensures.value at c.in_err-finish.ensures in
+    runs_err _ _ _ _ _ _ _ _ _ c.from_residual-in_err-finish.result _ c.from_residual-in_err-finish.ensures.1
+    (runs_part _ _ _ _ _ _ _ _ _ _ _ _ c.in_ok-ending.ending reads c.in_ok-ending.ensures.cause _ writes)
 
-pub returns-clause-part : goal.returns-clause-part
-returns-clause-part g c =
+pub returns : goal.returns
+returns g c =
     let reads = rw (c.requires, c.new-begun.ensures.items) at c.in_ok-ending.ensures.ok in
-    BeginsOutcome-ending _ _ _ _ _ _ c.in_ok-ending.ending _ reads (rw c.as_slice.ensures.value at c.finish.ensures.part)
-
-pub returns-clause-outcome : goal.returns-clause-outcome
-returns-clause-outcome g c =
-    let reads = rw (c.requires, c.new-begun.ensures.items) at c.in_ok-ending.ensures.ok in
-    HasOutcome-read _ _ _ _ _ _ c.in_ok-ending.ending _ _ reads (rw c.as_slice.ensures.value at c.in_ok-status.ensures.ok) c.in_ok-status.ensures.status
-
-pub returns-clause-past_limit : goal.returns-clause-past_limit
-returns-clause-past_limit g c eight =
-    let reads = rw (c.requires, c.new-begun.ensures.items) at c.in_ok-ending.ensures.ok in
-    past_limit_of _ _ _ _ _ _ c.in_ok-ending.ending _ reads c.in_ok-status.ensures.status eight
+    let writes = rw c.as_slice.ensures.value at c.in_ok-finish.ensures in
+    rw c.end_status.ensures (runs_whole _ _ _ _ _ _ _ _ _ _ _ _ c.in_ok-ending.ending reads c.in_ok-ending.ensures.cause _ writes)

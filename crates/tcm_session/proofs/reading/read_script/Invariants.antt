@@ -1,5 +1,4 @@
 use Rattle.std.proofs.Common.{◌-◌, ◌≡◌, ◌≤◌, vec_len}
-use Rattle.tcm_session.specs.Lines.{HasNoFeed}
 use Rattle.tcm_session.proofs.ReadLemmas.{ReadsSoFar}
 use Rattle.tcm_session.proofs.reading.read_script.Given as goal
 
@@ -9,7 +8,6 @@ invariant-loop-taken g l =
     let written = g.K.Sink.written in
     record {
       reads : ReadsSoFar l.taken (left l.initial.input) (left l.input) l.initial.session l.initial.begun.items (written l.initial.out) l.session l.begun.items (written l.out);
-      plain : HasNoFeed l.begun.items;
       limit : l.taken ≤ 536870912;
       buffer : vec_len l.buffer ≡ 65536;
       source_later : g.S.Source.faults l.initial.input ≤ g.S.Source.faults l.input;

@@ -1,7 +1,7 @@
 use Rattle.std.proofs.Common.{sym, ap, subst, ◌∙◌, ◌<◌, length, arith}
 use Rattle.transformations.specs.History.{next_image}
 use Rattle.transformations.specs.declared.image.Image.{Image}
-use Rattle.transformations.proofs.HistoryLemmas.{IsNext, next_at, state-more}
+use Rattle.transformations.proofs.histories.HistoryLemmas.{IsNext, next_at, state-more}
 use Rattle.tcm_session.proofs.replay.take_all.Goals as goal
 
 pub take_over-requires-clause-room : goal.take_over-requires-clause-room

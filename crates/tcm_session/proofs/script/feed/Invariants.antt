@@ -1,5 +1,5 @@
 use Rattle.std.proofs.Common.{◌≤◌, length}
-use Rattle.tcm_session.proofs.FeedLemmas.{Feeds}
+use Rattle.tcm_session.proofs.PieceLoop.{Feeds}
 use Rattle.tcm_session.proofs.script.feed.Given as goal
 
 abbrev pub invariant-loop-line : goal.invariant-loop-line

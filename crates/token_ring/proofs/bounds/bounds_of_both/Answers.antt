@@ -3,7 +3,7 @@ use Rattle.token_ring.specs.Bounds.{bounds_of}
 use Rattle.token_ring.proofs.BoundLemmas.{out_of_both}
 use Rattle.token_ring.proofs.bounds.bounds_of_both.Goals as goal
 
-both : (c : goal.After-tokens_in_range) → c.push_bounds-2.new.bounds.items ≡ bounds_of c.args.one.now ++ bounds_of c.args.other.now
+both : (c : goal.After-put_in_order) → c.push_bounds-2.new.bounds.items ≡ bounds_of c.args.one.now ++ bounds_of c.args.other.now
 both c =
     let first : c.push_bounds.new.bounds.items ≡ c.new-bounds.result.items ++ bounds_of c.args.one.now = c.in_ok-push_bounds.ensures in
     let second : c.push_bounds-2.new.bounds.items ≡ c.push_bounds.new.bounds.items ++ bounds_of c.args.other.now = c.in_ok-push_bounds-2.ensures in

@@ -6,9 +6,9 @@ use Rattle.std.specs.Slice.Iter.{iter_rest}
 use Rattle.cluster_terms.specs.Group.{nodes_of}
 use Rattle.cluster_terms.specs.Replication.{datacenter_group}
 use Rattle.topology_strategy.specs.Walk.{Found, taken_along, taken_in_all}
-use Rattle.topology_strategy.specs.declared.shape.Shape.{Shape}
-use Rattle.topology_strategy.proofs.ListLemmas.{zip_whole}
-use Rattle.topology_strategy.proofs.PlaceLemmas.{taken_more, taken_in_parts}
+use Rattle.node_directory.specs.declared.shape.Shape.{Shape}
+use Rattle.topology_strategy.proofs.MappedLists.{zip_whole}
+use Rattle.topology_strategy.proofs.TopologyPlacement.{taken_more, taken_in_parts}
 use Rattle.topology_strategy.proofs.counted_ring.take_in_all.Goals as goal
 
 pub loop-name-preserved : goal.loop-name-preserved

@@ -6,7 +6,7 @@ use Rattle.cluster_terms.specs.Group.{nodes_of}
 use Rattle.cluster_terms.specs.Replication.{datacenter_group}
 use Rattle.topology_strategy.specs.Shape.{shapes_of}
 use Rattle.topology_strategy.specs.Walk.{taken_in_all}
-use Rattle.topology_strategy.proofs.PlaceLemmas.{placed_by_walks}
+use Rattle.topology_strategy.proofs.TopologyPlacement.{placed_by_walks}
 use Rattle.topology_strategy.proofs.validity.placement_is_walked.Goals as goal
 
 pub returns-clause-walk : goal.returns-clause-walk

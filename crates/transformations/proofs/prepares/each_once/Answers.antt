@@ -1,5 +1,5 @@
 use Rattle.std.proofs.lemmas.List.Filters.{dedup_is}
-use Rattle.transformations.proofs.CountedLemmas.{each_once}
+use Rattle.transformations.proofs.commands.CountedLemmas.{each_once}
 use Rattle.transformations.proofs.prepares.each_once.Goals as goal
 
 pub returns : goal.returns

@@ -1,7 +1,7 @@
 use Rattle.std.proofs.Common.{ℕ, List, ap, ◌∙◌}
 use Rattle.std.specs.List.{list_any}
 use Rattle.cluster_terms.specs.Replication.{datacenter_group}
-use Rattle.transformations.proofs.CountedLemmas.{few_topology}
+use Rattle.transformations.proofs.commands.CountedLemmas.{few_topology}
 use Rattle.transformations.specs.Counted.{is_short_of}
 use Rattle.transformations.proofs.prepares.is_few.Goals as goal
 

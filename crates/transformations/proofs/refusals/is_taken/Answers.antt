@@ -3,7 +3,7 @@ use Rattle.std.specs.List.{list_any}
 use Rattle.std.specs.Ordering.{int_eq}
 use Rattle.cluster_terms.specs.declared.token.Pair.{Pair}
 use Rattle.transformations.specs.declared.sequence.SeqRow.{SeqRow}
-use Rattle.transformations.proofs.RefusalLemmas.{taken-by}
+use Rattle.transformations.proofs.commands.RefusalLemmas.{taken-by}
 use Rattle.transformations.proofs.refusals.is_taken.Goals as goal
 
 pub returns-else-has_token : goal.returns-else-has_token

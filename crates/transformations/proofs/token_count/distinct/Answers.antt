@@ -2,7 +2,7 @@ use Rattle.std.proofs.Common.{◌≡◌, length, arith}
 use Rattle.std.proofs.lemmas.List.Filters.{dedup_is}
 use Rattle.std.specs.Ordering.{int_eq}
 use Rattle.std.specs.Set.{distinct_count}
-use Rattle.transformations.proofs.RefusalLemmas.{length-sorted_once}
+use Rattle.transformations.proofs.commands.RefusalLemmas.{length-sorted_once}
 use Rattle.transformations.proofs.token_count.distinct.Goals as goal
 
 pub returns : goal.returns

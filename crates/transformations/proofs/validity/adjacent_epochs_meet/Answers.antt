@@ -1,5 +1,5 @@
 use Rattle.cluster_terms.proofs.CommonLemmas.{quorums_have_common}
-use Rattle.transformations.proofs.AdjacentLemmas.{each_exist, each_few, each_written, meet_itself, meet_next}
+use Rattle.transformations.proofs.quorums.AdjacentLemmas.{each_exist, each_few, each_written, meet_itself, meet_next}
 use Rattle.transformations.proofs.validity.adjacent_epochs_meet.Goals as goal
 
 pub returns-clause-within : goal.returns-clause-within

@@ -1,9 +1,14 @@
 use Rattle.std.proofs.Common.{refl}
-use Rattle.transformations.proofs.ValidLemmas.{valid_empty}
+use Rattle.transformations.proofs.histories.ValidLemmas.{valid_empty}
 use Rattle.cluster_metadata.specs.Running.{IsRunning}
 use Rattle.cluster_metadata.proofs.metadata.Metadata.empty.Goals as goal
 
 pub invariant_of-result : goal.invariant_of-result
 invariant_of-result c =
     let running : IsRunning c.empty-4.result c.new.result.items = rw (c.empty-4.ensures, c.new.ensures.items) (refl, refl) in
-    (rw (c.empty.ensures, c.empty-2.ensures, c.empty-3.ensures, c.empty-4.ensures) valid_empty, running, rw c.empty.ensures c.in_ok-directory.ensures)
+    record {
+      valid = rw (c.empty.ensures, c.empty-2.ensures, c.empty-3.ensures, c.empty-4.ensures) valid_empty;
+      replications = rw c.empty-3.ensures tt;
+      directory = rw c.empty.ensures c.in_ok-directory.ensures;
+      running = running;
+    }

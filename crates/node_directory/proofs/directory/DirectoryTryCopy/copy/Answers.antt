@@ -2,7 +2,7 @@ use Rattle.std.proofs.Common.{List, ◌++◌, sym, ap, ◌∙◌}
 use Rattle.std.specs.Map.{values_of}
 use Rattle.cluster_terms.specs.declared.node.NodeRow.{NodeRow}
 use Rattle.node_directory.specs.Directory.{are_distinct, names_of}
-use Rattle.node_directory.proofs.RowLemmas.{names-distinct, new-name}
+use Rattle.node_directory.proofs.NodeRows.{names-distinct, new-name}
 use Rattle.node_directory.proofs.directory.DirectoryTryCopy.copy.Goals as goal
 
 -- the names of a directory are distinct, so the next row's is not among those before it

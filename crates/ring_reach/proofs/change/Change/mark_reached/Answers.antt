@@ -7,10 +7,10 @@ use Rattle.cluster_terms.specs.Group.{nodes_of}
 use Rattle.cluster_terms.specs.Reach.{same_shape}
 use Rattle.cluster_terms.specs.declared.token.Pair.{Pair}
 use Rattle.token_ring.specs.Ring.{IsRing}
-use Rattle.ring_reach.specs.Members.{group_of}
-use Rattle.ring_reach.specs.Shape.{shape_of}
+use Rattle.node_directory.specs.Members.{group_of}
+use Rattle.node_directory.specs.Shape.{shape_of}
 use Rattle.ring_reach.specs.Sweep.{Course, marked_from, either}
-use Rattle.ring_reach.specs.declared.shape.Shape.{Shape}
+use Rattle.node_directory.specs.declared.shape.Shape.{Shape}
 use Rattle.ring_reach.proofs.MarkLemmas.{marked_none, marked_all, marked_round, common_some, common_none}
 use Rattle.ring_reach.proofs.change.Change.mark_reached.Goals as goal
 

@@ -1,7 +1,7 @@
 use Rattle.std.proofs.Common.{◌≡◌, suc, ◌-◌, ◌<◌, ◌||◌, false, ap, sym, ◌∙◌, length, get_or, arith}
 use Rattle.std.proofs.lemmas.List.{length-set}
 use Rattle.ring_reach.specs.Sweep.{course_of}
-use Rattle.ring_reach.specs.Tally.{lacks}
+use Rattle.node_directory.specs.Tally.{lacks}
 use Rattle.ring_reach.proofs.PassLemmas.{swept_next, marked_next}
 use Rattle.ring_reach.proofs.sweep.Sweep.pass_all.Goals as goal
 use Rattle.ring_reach.proofs.sweep.Sweep.pass_all.Goals.{then-marks-at, else-marks-at}

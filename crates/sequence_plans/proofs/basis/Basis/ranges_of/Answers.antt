@@ -1,10 +1,10 @@
 use Rattle.std.proofs.Common.{◌≡◌, ◌++◌, ℤ, List, Bool, ◌∙◌}
 use Rattle.std.proofs.lemmas.Result.{IfOk-weaker}
+use Rattle.cluster_terms.specs.Pair.{tokens_of}
 use Rattle.cluster_terms.specs.Reach.{is_reached}
 use Rattle.cluster_terms.specs.Replication.{groups_of}
 use Rattle.cluster_terms.specs.declared.row.TokenRange.{TokenRange}
 use Rattle.token_ring.specs.Ranges.{AreCutOut, HaveTokens}
-use Rattle.token_ring.specs.Ring.{tokens_of}
 use Rattle.transformations.specs.Ranges.{in_ranges, moved_by}
 use Rattle.transformations.specs.Rings.{cuts, widest}
 use Rattle.sequence_plans.proofs.BasisLemmas.{bounded-ranges, have_tokens-same, reached-ranges}

@@ -1,6 +1,6 @@
 use Rattle.std.proofs.Common.{◌≡◌, ◌∷◌, ◌++◌, [], ap, sym, ◌∙◌, subst}
 use Rattle.cluster_metadata.specs.Permission.{Permission}
-use Rattle.transformations.proofs.HistoryLemmas.{history_push, image_after-push}
+use Rattle.transformations.proofs.histories.HistoryLemmas.{history_push, image_after-push}
 use Rattle.transformations.specs.History.{IsHistory, commit_refusal, empty_image, image_after, next_image}
 use Rattle.tcm_session.proofs.session.Session.accept.Goals as goal
 

@@ -1,5 +1,5 @@
 use Rattle.std.proofs.Common.{ap, arith}
-use Rattle.transformations.proofs.HistoryLemmas.{epoch_after}
+use Rattle.transformations.proofs.histories.HistoryLemmas.{epoch_after}
 use Rattle.transformations.specs.declared.image.Image.{Image}
 use Rattle.tcm_session.proofs.session.Session.admit.Goals as goal
 

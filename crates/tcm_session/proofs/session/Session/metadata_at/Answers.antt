@@ -1,5 +1,5 @@
 use Rattle.std.proofs.Common.{◌≡◌, sym, subst}
-use Rattle.transformations.proofs.HistoryLemmas.{history_take}
+use Rattle.transformations.proofs.histories.HistoryLemmas.{history_take}
 use Rattle.transformations.specs.History.{IsHistory}
 use Rattle.tcm_session.proofs.session.Session.metadata_at.Goals as goal
 

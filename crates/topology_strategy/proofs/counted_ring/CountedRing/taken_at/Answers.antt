@@ -8,7 +8,7 @@ use Rattle.cluster_terms.proofs.PlacementLemmas.{placed_nowhere}
 use Rattle.topology_strategy.specs.GroupedRing.{GroupedRing}
 use Rattle.topology_strategy.specs.Shape.{shapes_of}
 use Rattle.topology_strategy.specs.Walk.{taken_in_all}
-use Rattle.topology_strategy.proofs.PlaceLemmas.{placed_by_walks}
+use Rattle.topology_strategy.proofs.TopologyPlacement.{placed_by_walks}
 use Rattle.topology_strategy.proofs.counted_ring.CountedRing.taken_at.Goals as goal
 
 pub returns-in_default : goal.returns-in_default

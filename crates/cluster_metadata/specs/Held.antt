@@ -1,0 +1,17 @@
+-- The invariant of a cluster's metadata.
+use Rattle.std.specs.Prelude.{◌≡◌, List}
+use Rattle.node_directory.specs.Directory.{Registry}
+use Rattle.transformations.specs.Meeting.{HaveReplications}
+use Rattle.transformations.specs.Valid.{IsValid}
+use Rattle.transformations.specs.declared.image.Image.{Image}
+use Rattle.cluster_metadata.specs.Change.{directory_of}
+use Rattle.cluster_metadata.specs.Running.{IsRunning}
+use Rattle.cluster_metadata.specs.declared.running.Running.{Running}
+
+-- the image is valid, each of its keyspaces has a replication, and there are the directory of its nodes and the values
+-- of its movements
+pub record IsHeld (image : Image) (dir : Registry) (values : List Running) : Type 0 where
+  pub valid : IsValid image
+  pub replications : HaveReplications image
+  pub directory : dir ≡ directory_of image
+  pub running : IsRunning image.sequences values

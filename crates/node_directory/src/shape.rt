@@ -1,0 +1,48 @@
+ghost use Rattle.std.specs.Prelude.{◌≡◌, IfOk};
+ghost use Rattle.cluster_terms.specs.Group.{nodes_of};
+ghost use Rattle.node_directory.specs.Members.{group_of};
+ghost use Rattle.node_directory.specs.Shape.{shape_of as shape};
+ghost use Rattle.node_directory.specs.Tally.{met_all, nothing};
+
+use crate::members::Members;
+use crate::tally::Tally;
+use cluster_terms::{Memory, Pair};
+use std::alloc::Global;
+
+/// The number of replicas that a group is to have in a ring, and how many of them may stand in a rack that already has
+/// a replica.
+#[derive(Clone, Copy, Debug, PartialEq, Eq)]
+pub struct Shape {
+    pub wanted: usize,
+    pub spare: usize,
+}
+
+/// The tally of the pairs' nodes, with at most as many nodes and racks as replicas are asked for.
+#[tactic(auto, using(crate::proofs::TallyLemmas::met_all_full))]
+fn tally_of<'a>(alloc: Global, members: &Members<'a>, pairs: &[Pair]) -> Result<Tally<'a>, Memory>
+    ensures { IfOk result (λ tally. tally ≡ met_all (group_of members.now) (nodes_of pairs.now) (nothing (group_of members.now).rf (group_of members.now).rf)) }
+{
+    let mut tally = Tally::new(alloc, members.rf(), members.rf())?;
+    for pair in pairs {
+        if !tally.lacks() {
+            return Ok(tally);
+        }
+        tally.meet(members, pair.node)?;
+    }
+    Ok(tally)
+}
+
+/// The shape of a group in a ring of these pairs.
+///
+/// Costs one pass over the pairs. The pass ends once it has met as many nodes and as many racks of the group as there
+/// are to be replicas. A pair costs a look at no more nodes and racks than that, and in a datacenter a look-up in the
+/// directory.
+pub fn shape_of(alloc: Global, members: &Members, pairs: &[Pair]) -> Result<Shape, Memory>
+    ensures { IfOk result (λ counted. counted ≡ shape (nodes_of pairs.now) (group_of members.now)) }
+{
+    let tally = tally_of(alloc, members, pairs)?;
+    Ok(Shape {
+        wanted: tally.node_count(),
+        spare: members.rf() - tally.rack_count(),
+    })
+}

@@ -1,7 +1,0 @@
-use Rattle.std.proofs.Common.{List, ℕ, Bor, sym, ◌∙◌}
-use Rattle.std.specs.Str.{bytes_eq}
-use Rattle.ring_reach.proofs.ListLemmas.{member_of_mapped}
-use Rattle.ring_reach.proofs.tally.has_rack.Goals as goal
-
-pub returns : goal.returns
-returns c = c.is_one_of.ensures ∙ sym (member_of_mapped bytes_eq (λ (r : Bor (List ℕ)). r.now) c.args.racks.now c.args.rack.now)

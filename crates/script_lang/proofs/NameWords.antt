@@ -1,0 +1,33 @@
+-- The commands that have names: what the definitions make of words that are names.
+use Rattle.std.proofs.Common.{◌≡◌, ℕ, ◌∙◌, if◌then◌else◌, List, [], ◌∷◌, length, map, Option, Some, None, get_or, arith, ap}
+use Rattle.std.proofs.lemmas.Bool.{cond-true}
+use Rattle.std.proofs.lemmas.Option.{cond_some}
+use Rattle.cluster_terms.specs.Name.{is_name}
+use Rattle.transformations.specs.declared.command.Command.TheVariants.{Register, DropKeyspace}
+use Rattle.script_lang.specs.Grammar.{register_command, drop_keyspace_command}
+
+-- the name that a word is, if it is one
+abbrev pub name_in : List ℕ → Option (List ℕ)
+name_in text = if is_name text then Some text else None
+
+-- NAME
+pub drop_keyspace_named : {B : Type 0} (word : B → List ℕ) (words : List B) (d : B) (name : List ℕ) → length words ≡ 1 → name_in (word (get_or words 0 d)) ≡ Some name → drop_keyspace_command (map word words) ≡ Some (DropKeyspace name)
+unfolding drop_keyspace_command
+drop_keyspace_named word [] d name one is = absurd (omega arith)
+drop_keyspace_named word (w ∷ []) d name one is =
+    let parts = cond_some (is_name (word w)) (word w) name is in
+    cond-true (is_name (word w)) (Some (DropKeyspace (word w))) None parts.0 ∙ ap (λ (text : List ℕ). Some (DropKeyspace text)) parts.1
+drop_keyspace_named word (w ∷ v ∷ ws) d name one is = absurd (omega arith)
+
+-- NAME DC RACK
+pub register_named : {B : Type 0} (word : B → List ℕ) (words : List B) (d : B) (name dc rack : List ℕ) → length words ≡ 3 → name_in (word (get_or words 0 d)) ≡ Some name → name_in (word (get_or words 1 d)) ≡ Some dc → name_in (word (get_or words 2 d)) ≡ Some rack → register_command (map word words) ≡ Some (Register name dc rack)
+unfolding register_command
+register_named word [] d name dc rack three is_n is_d is_r = absurd (omega arith)
+register_named word (w ∷ []) d name dc rack three is_n is_d is_r = absurd (omega arith)
+register_named word (w ∷ v ∷ []) d name dc rack three is_n is_d is_r = absurd (omega arith)
+register_named word (w ∷ v ∷ u ∷ []) d name dc rack three is_n is_d is_r =
+    let first = cond_some (is_name (word w)) (word w) name is_n in
+    let second = cond_some (is_name (word v)) (word v) dc is_d in
+    let third = cond_some (is_name (word u)) (word u) rack is_r in
+    grind (arith, first.0, first.1, second.0, second.1, third.0, third.1)
+register_named word (w ∷ v ∷ u ∷ t ∷ ws) d name dc rack three is_n is_d is_r = absurd (omega arith)

@@ -1,0 +1,10 @@
+//! Calls that no script makes, a test for each crate.
+
+mod directory;
+mod edges;
+mod metadata;
+mod reach;
+mod rings;
+mod sets;
+mod terms;
+mod wire;

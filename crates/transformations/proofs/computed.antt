@@ -1,0 +1,4 @@
+-- Facts on small clusters, each of which is computed.
+pub mod MeetingRows
+pub mod MovementRows
+pub mod Rows

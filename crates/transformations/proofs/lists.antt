@@ -1,0 +1,3 @@
+-- Lists of items, with some left out or put in.
+pub mod FilterLemmas
+pub mod ListLemmas

@@ -1,0 +1,5 @@
+-- The pairs of rings, and their tokens.
+pub mod OwnedLemmas
+pub mod RingPairs
+pub mod SwapLemmas
+pub mod WidestLemmas

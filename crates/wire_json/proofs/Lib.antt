@@ -1,0 +1,10 @@
+pub mod EntriesReadBack
+pub mod EntryFloats
+pub mod EntryTokens
+pub mod KeysLemmas
+pub mod KindsLemmas
+pub mod ReadingLemmas
+pub mod TextBytes
+pub mod TokenItems
+pub mod TokenValues
+pub mod WholeData

@@ -1,0 +1,5 @@
+pub mod Entries
+pub mod Kinds
+pub mod Reading
+pub mod Texts
+pub mod Values

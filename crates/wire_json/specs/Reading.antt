@@ -1,0 +1,70 @@
+-- The entry in a line of a log file, or the first rule that the line breaks.
+use Rattle.std.specs.Prelude.{ℕ, ◌≡◌, Bool, ◌&&◌, if◌then◌else◌, List, [], ◌∷◌, length, Option, Some, None, Result, Ok, Err, option_and_then, ok_or, nat_le, codes, ⊤, IsTrue}
+use Rattle.std.specs.Str.{is_utf8}
+use Rattle.serde_json.specs.Data.{Data}
+use Rattle.serde_json.specs.Read.{read}
+use Rattle.transformations.specs.History.{is_command}
+use Rattle.transformations.specs.declared.entry.Entry.{Entry as AnyEntry}
+use Rattle.wire_json.specs.Kinds.{command_at}
+use Rattle.wire_json.specs.Values.{has_keys, number_at}
+use Rattle.wire_json.specs.declared.line.Line.{Line}
+use Rattle.wire_json.specs.declared.line.Line.TheVariants.{Entry}
+use Rattle.wire_json.specs.declared.line.ReadLineFault.{ReadLineFault}
+use Rattle.wire_json.specs.declared.line.ReadLineFault.TheVariants.{Bad, Memory}
+
+-- continues with the value of a step, unless the step broke a rule
+infixl 10 ◌>>=◌
+abbrev pub ◌>>=◌ : {A B : Type 0} → Result A ReadLineFault → (A → Result B ReadLineFault) → Result B ReadLineFault
+Ok x >>= f = f x
+Err e >>= f = Err e
+
+-- a rule that requires a test to hold, and a rule that requires a value
+abbrev pub holds : ℕ → Bool → Result ⊤ ReadLineFault
+holds rule test = if test then Ok tt else Err (Bad rule)
+
+abbrev pub found : {A : Type 0} → ℕ → Option A → Result A ReadLineFault
+found rule o = ok_or o (Bad rule)
+
+-- the result of a function, seen through `view`, is the result given by a definition, unless memory ran out (of the
+-- code: no promise rests on it)
+abbrev pub Gives : {X Y : Type 0} → (X → Y) → Result X ReadLineFault → Result Y ReadLineFault → Type 0
+Gives view (Ok x) given = given ≡ Ok (view x)
+Gives view (Err Memory) given = ⊤
+Gives view (Err (Bad rule)) given = given ≡ Err (Bad rule)
+
+-- the most bytes of a line, without its line feed
+abbrev pub most_bytes : ℕ
+most_bytes = 4194304
+
+-- the JSON value in the bytes, if they are a JSON text in UTF-8
+abbrev pub value_of : List ℕ → Option Data
+value_of bytes = if is_utf8 bytes then read bytes else None
+
+-- the keys of an entry
+abbrev pub entry_keys : List (List ℕ)
+entry_keys = codes "command" ∷ codes "entry" ∷ codes "epoch" ∷ []
+
+-- the epoch of an entry: a whole number from 1 to 65,536
+abbrev pub epoch_at : List ℕ → Data → Option ℕ
+epoch_at key value = option_and_then (λ n. if nat_le 1 n && nat_le n 65536 then Some n else None) (number_at key value)
+
+-- the entry in a JSON value, or the first rule that the value breaks
+unfoldable pub entry_of : Data → Result AnyEntry ReadLineFault
+entry_of value = do
+  keys ← holds 3 (has_keys entry_keys value)
+  id ← found 4 (number_at (codes "entry") value)
+  epoch ← found 4 (epoch_at (codes "epoch") value)
+  command ← found 5 (command_at (codes "command") value)
+  Ok (record { id = id; epoch = epoch; cmd = command })
+
+-- the entry in a line, or the first rule that the line breaks; the line comes without its line feed
+unfoldable pub reading : List ℕ → Result Line ReadLineFault
+reading bytes = do
+  short ← holds 1 (nat_le (length bytes) most_bytes)
+  value ← found 2 (value_of bytes)
+  entry ← entry_of value
+  Ok (Entry entry)
+
+-- if the command of the entry lists tokens, they are 1 to 256 and ascend
+abbrev pub HasTokens : Line → Type 0
+HasTokens (Entry entry) = IsTrue (is_command entry.cmd)

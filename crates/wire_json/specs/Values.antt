@@ -1,0 +1,55 @@
+-- Typed values at the keys of a JSON object.
+use Rattle.std.specs.Prelude.{ℕ, ◌^◌, ℤ, Bool, false, if◌then◌else◌, List, [], ◌∷◌, Option, Some, None, option_map, option_and_then, unwrap_or, nat_lt}
+use Rattle.std.specs.Cmp.Lexicographic.{pointwise}
+use Rattle.std.specs.Str.{bytes_eq}
+use Rattle.cluster_terms.specs.Name.{is_name}
+use Rattle.cluster_terms.specs.ReplicationText.{replication_of}
+use Rattle.cluster_terms.specs.declared.replication.Replication.{Replication}
+use Rattle.serde_json.specs.Data.{Data, Items, no_items, item, Members, no_members, member}
+use Rattle.serde_json.specs.Find.{get, as_array, as_number, as_object, as_str, as_i64, as_u64}
+use Rattle.transformations.specs.History.{are_tokens}
+
+-- the keys of an object, which ascend
+abbrev pub keys_of : Members → List (List ℕ)
+keys_of no_members = []
+keys_of (member key value members) = key ∷ keys_of members
+
+-- whether a value is an object with exactly these keys
+abbrev pub has_keys : List (List ℕ) → Data → Bool
+has_keys keys value = unwrap_or (option_map (λ members. pointwise bytes_eq (keys_of members) keys) (as_object value)) false
+
+-- the text at a key, and the whole number below 2^64 at a key
+abbrev pub text_at : List ℕ → Data → Option (List ℕ)
+text_at key value = option_and_then as_str (get key value)
+
+abbrev pub number_at : List ℕ → Data → Option ℕ
+number_at key value = option_and_then as_u64 (option_and_then as_number (get key value))
+
+-- the name at a key, the replication at a key, and the node at a key: a whole number below 2^32
+abbrev pub name_at : List ℕ → Data → Option (List ℕ)
+name_at key value = option_and_then (λ text. if is_name text then Some text else None) (text_at key value)
+
+abbrev pub replication_at : List ℕ → Data → Option Replication
+replication_at key value = option_and_then replication_of (text_at key value)
+
+abbrev pub node_at : List ℕ → Data → Option ℕ
+node_at key value = option_and_then (λ n. if nat_lt n (2 ^ 32) then Some n else None) (number_at key value)
+
+-- a token: a whole number from -2^63 to 2^63 - 1
+abbrev pub token_of : Data → Option ℤ
+token_of value = option_and_then as_i64 (as_number value)
+
+abbrev pub token_at : List ℕ → Data → Option ℤ
+token_at key value = option_and_then token_of (get key value)
+
+-- tokens: a list of 1 to 256 tokens that ascend
+abbrev pub each_token_of : Items → Option (List ℤ)
+each_token_of no_items = Some []
+each_token_of (item value values) =
+    option_and_then (λ token. option_map (λ tokens. token ∷ tokens) (each_token_of values)) (token_of value)
+
+abbrev pub list_of : Items → Option (List ℤ)
+list_of values = option_and_then (λ tokens. if are_tokens tokens then Some tokens else None) (each_token_of values)
+
+abbrev pub tokens_at : List ℕ → Data → Option (List ℤ)
+tokens_at key value = option_and_then list_of (option_and_then as_array (get key value))

@@ -1,0 +1,65 @@
+//! Reads the tokens of a command from a JSON list.
+
+ghost use Rattle.std.specs.Prelude.{◌≡◌, IfOk, MatchOption};
+ghost use Rattle.serde_json.specs.View.{items_view, view};
+ghost use Rattle.transformations.specs.History.{ascend as ascend_test};
+ghost use Rattle.wire_json.specs.Values as spec;
+
+use crate::values::token_of;
+use cluster_terms::{Memory, Token, TokenList};
+use serde_json::Value;
+use std::alloc::Global;
+
+/// The most tokens that a command may give to a node.
+const MOST_TOKENS: usize = 256;
+
+/// Whether the tokens ascend: each is below the next.
+fn ascend(tokens: &[Token]) -> bool
+    ensures { result ≡ ascend_test tokens.now }
+{
+    for at in 1..tokens.len() {
+        if tokens[at] <= tokens[at - 1] {
+            return false;
+        }
+    }
+    true
+}
+
+/// The tokens in a list of values, or `None` if a value is not a token.
+fn each_token_of(alloc: Global, values: &Vec<Value>) -> Result<Option<TokenList>, Memory>
+    ensures { IfOk result (λ found. found ≡ spec.each_token_of (items_view values.now.items)) }
+{
+    let mut tokens = Vec::with_capacity(alloc, values.len())?;
+    for value in values {
+        match token_of(value) {
+            Some(token) => tokens.push(token)?,
+            None => return Ok(None),
+        }
+    }
+    Ok(Some(TokenList::from_vec(tokens)))
+}
+
+/// The tokens in a list of values, or `None` unless they are 1 to 256 tokens that ascend. A list of more than 256
+/// values is refused before any value is read.
+#[tactic(auto, using(crate::proofs::TokenItems::no_list, crate::proofs::TokenItems::list_by_order))]
+fn list_of(alloc: Global, values: &Vec<Value>) -> Result<Option<TokenList>, Memory>
+    ensures { IfOk result (λ found. found ≡ spec.list_of (items_view values.now.items)) }
+{
+    if values.is_empty() || MOST_TOKENS < values.len() {
+        return Ok(None);
+    }
+    match each_token_of(alloc, values)? {
+        Some(tokens) if ascend(tokens.as_slice()) => Ok(Some(tokens)),
+        _ => Ok(None),
+    }
+}
+
+/// The tokens at a key, or `None` unless a list of 1 to 256 tokens that ascend is there. Fails only if memory runs out.
+pub fn tokens_at(alloc: Global, value: &Value, key: &str) -> Result<Option<TokenList>, Memory>
+    ensures { IfOk result (λ found. found ≡ spec.tokens_at key.now (view value.now)) }
+{
+    match value.get(key).and_then(Value::as_array) {
+        Some(values) => list_of(alloc, values),
+        None => Ok(None),
+    }
+}

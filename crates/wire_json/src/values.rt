@@ -1,0 +1,95 @@
+//! Typed values at the keys of a JSON object.
+
+ghost use Rattle.std.specs.Prelude.{◌≡◌, map, option_map, IfOk};
+ghost use Rattle.std.specs.Cmp.Lexicographic.{pointwise};
+ghost use Rattle.std.specs.Str.{bytes_eq};
+ghost use Rattle.serde_json.specs.View.{members_view, view};
+ghost use Rattle.wire_json.specs.Values as spec;
+
+use cluster_terms::{Memory, Name, NodeId, Replication, Token};
+use serde_json::{Map, Value};
+use std::alloc::Global;
+
+// Whether an object has exactly these keys. The keys are given in ascending order.
+fn same_keys(members: &Map<String, Value>, keys: &[&str]) -> bool
+    ensures { result ≡ pointwise bytes_eq (spec.keys_of (members_view members.now.entries)) (map (λ key. key.now) keys.now) }
+{
+    let mut found = members.keys();
+    for wanted in keys {
+        match found.next() {
+            Some(key) if key.as_str() == *wanted => {}
+            _ => return false,
+        }
+    }
+    found.next().is_none()
+}
+
+/// Whether a value is an object with exactly these keys. The keys are given in ascending order.
+pub fn has_keys(value: &Value, keys: &[&str]) -> bool
+    ensures { result ≡ spec.has_keys (map (λ key. key.now) keys.now) (view value.now) }
+{
+    match value.as_object() {
+        Some(members) => same_keys(members, keys),
+        None => false,
+    }
+}
+
+/// The text at a key, or `None` if no text is there.
+pub fn text_at<'v>(value: &'v Value, key: &str) -> Option<&'v str>
+    ensures { option_map (λ text. text.now) result ≡ spec.text_at key.now (view value.now) }
+{
+    value.get(key)?.as_str()
+}
+
+/// The whole number below 2^64 at a key.
+pub fn number_at(value: &Value, key: &str) -> Option<u64>
+    ensures { result ≡ spec.number_at key.now (view value.now) }
+{
+    value.get(key)?.as_u64()
+}
+
+/// The node at a key: a whole number below 2^32.
+pub fn node_at(value: &Value, key: &str) -> Option<NodeId>
+    ensures { result ≡ spec.node_at key.now (view value.now) }
+{
+    let id = u32::try_from(number_at(value, key)?).ok()?;
+    Some(NodeId(id))
+}
+
+/// The name at a key, or `None` if no valid name is there. Fails only if memory runs out.
+pub fn name_at(alloc: Global, value: &Value, key: &str) -> Result<Option<Name>, Memory>
+    ensures { IfOk result (λ found. found ≡ spec.name_at key.now (view value.now)) }
+{
+    match text_at(value, key) {
+        Some(text) => Name::from_text(alloc, text),
+        None => Ok(None),
+    }
+}
+
+/// The replication at a key, or `None` if no text of a replication is there. Fails only if memory runs out.
+pub fn replication_at(
+    alloc: Global,
+    value: &Value,
+    key: &str,
+) -> Result<Option<Replication>, Memory>
+    ensures { IfOk result (λ found. found ≡ spec.replication_at key.now (view value.now)) }
+{
+    match text_at(value, key) {
+        Some(text) => Replication::parse(alloc, text),
+        None => Ok(None),
+    }
+}
+
+/// The token in a value: a whole number from -2^63 to 2^63 - 1.
+pub fn token_of(value: &Value) -> Option<Token>
+    ensures { result ≡ spec.token_of (view value.now) }
+{
+    value.as_i64().map(Token::new)
+}
+
+/// The token at a key.
+pub fn token_at(value: &Value, key: &str) -> Option<Token>
+    ensures { result ≡ spec.token_at key.now (view value.now) }
+{
+    token_of(value.get(key)?)
+}

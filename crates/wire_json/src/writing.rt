@@ -1,0 +1,34 @@
+//! Writes the lines of log files.
+
+ghost use Rattle.std.specs.Prelude.{◌≡◌, IfOk};
+ghost use Rattle.serde_json.specs.View.{view};
+ghost use Rattle.wire_json.specs.Texts as spec;
+
+use crate::command_values::command_value;
+use cluster_terms::{ByteText, Memory};
+use serde_json::{Value, json};
+use std::alloc::Global;
+use transformations::Entry;
+
+/// The line of an entry: its JSON object, with the keys in byte order and without spaces, and a line feed. Each entry
+/// has exactly one such line. `entries_read_back` tells which entries `read_line` reads back from it.
+///
+/// Fails only if memory runs out.
+#[tactic(auto, using(crate::proofs::EntryFloats::no_float), unfolding(crate::specs::Texts::text_of))]
+pub fn entry_line(alloc: Global, entry: &Entry) -> Result<ByteText, Memory>
+    ensures { IfOk result (λ line. line ≡ spec.line_of entry.now) }
+{
+    let value = entry_value(alloc, entry)?;
+    let mut line = value.to_vec(alloc)?;
+    line.push(b'\n')?;
+    Ok(ByteText::from_vec(line))
+}
+
+// The JSON object of an entry.
+fn entry_value(alloc: Global, entry: &Entry) -> Result<Value, Memory>
+    ensures { IfOk result (λ value. view value ≡ spec.entry_data entry.now) }
+{
+    let command = command_value(alloc, &entry.cmd)?;
+    let value = json!(in alloc; {"command": command, "entry": entry.id, "epoch": entry.epoch})?;
+    Ok(value)
+}
