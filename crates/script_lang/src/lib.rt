@@ -23,3 +23,4 @@ pub use placements::{place_head_text, placed_text};
 pub use refusals::refusal_text;
 pub use script_line::{ScriptLine, Target};
 pub use sets::sets_text;
+pub use shown::{Shown, labelled};

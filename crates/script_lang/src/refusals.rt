@@ -32,6 +32,7 @@ pub fn refusal_text(refusal: &Refusal, out: &mut ByteText) -> Result<(), Memory>
         Refusal::KeyspacesFull => out.extend(b"KEYSPACES-FULL"),
         Refusal::TooFewNodes(keyspace) => labelled(b"TOO-FEW-NODES ", keyspace, out),
         Refusal::Locked(node, end) => labelled(b"LOCKED ", &(*node, *end), out),
+        Refusal::IdReused(epoch) => labelled(b"ID-REUSED ", epoch, out),
         Refusal::EpochsFull => out.extend(b"EPOCHS-FULL"),
     }
 }

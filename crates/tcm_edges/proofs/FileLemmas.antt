@@ -1,5 +1,5 @@
 -- Lemmas on files, and on a list of files as a map.
-use Rattle.std.proofs.Common.{◌≡◌, ◌≢◌, ℕ, suc, ◌+◌, ◌<◌, ◌≤◌, Bool, true, false, cond, not, ltb, List, [], ◌∷◌, ◌++◌, Option, Some, None, refl, sym, ap, ◌∙◌, subst, length, get_or, set, position, arith, add_comm, add-one, append-nil, take, drop, take-append-drop, inl, inr, Result, Ok, Err, OnOk, IfErr}
+use Rattle.std.proofs.Common.{◌≡◌, ◌≢◌, ℕ, suc, ◌+◌, ◌<◌, ◌≤◌, Bool, true, false, cond, not, ltb, List, [], ◌∷◌, ◌++◌, Option, Some, None, refl, sym, ap, ◌∙◌, subst, length, get_or, set, position, arith, add_comm, add-one, append-nil, take, drop, take-append-drop, inl, inr, ◌==◌, leb, replicate, Result, Ok, Err, OnOk, IfErr}
 use Rattle.std.specs.List.{list_any, position_or_len}
 use Rattle.std.specs.Ordering.{nat_cmp, eq_by_cmp}
 use Rattle.std.specs.Cmp.Lexicographic.{slice_cmp}
@@ -8,13 +8,17 @@ use Rattle.std.specs.Str.{bytes_eq}
 use Rattle.std.proofs.lemmas.Map.Text.{is_eq-slice_cmp}
 use Rattle.std.proofs.lemmas.Cmp.{nat_list_cmp_total}
 use Rattle.std.proofs.lemmas.Slice.Eq.{bytes_eq-Decides}
-use Rattle.std.proofs.lemmas.Bool.{ltb-true, ltb-false, false≢true, false_from_ne_true, or_from, or_parts}
+use Rattle.std.proofs.lemmas.Bool.{le-leb, leb-false, leb-true, lt-leb, ltb-true, ltb-false, false≢true, false_from_ne_true, or_from, or_parts}
+use Rattle.std.proofs.lemmas.List.{length-replicate}
 use Rattle.std.proofs.Math.Seq.{get_or-append_seam, set-append_seam}
 use Rattle.std.specs.Io.KnownBytes.{Appends, Keeps}
 use Rattle.tcm_edges.specs.declared.fault.WriteFault.{WriteFault}
 use Rattle.tcm_edges.specs.declared.fault.WriteFault.TheVariants as write
 use Rattle.tcm_edges.specs.Causes.{OnFailed}
-use Rattle.tcm_edges.specs.Files.{Files, content, file_of, told_content, ChangesFile, GainsAll, GainsPart, OthersKept}
+use Rattle.tcm_edges.specs.declared.store.Loaded.{Loaded}
+use Rattle.tcm_edges.specs.declared.store.Loaded.TheVariants.{Bytes, TooLarge}
+use Rattle.tcm_edges.specs.FailingFiles.{after_append, after_failed_append, after_failed_replace}
+use Rattle.tcm_edges.specs.Files.{Files, content, file_of, told_content, untold_files, ChangesFile, GainsAll, GainsPart, IsLoad, IsOldOrNew, OthersKept, loaded_of}
 use Rattle.tcm_edges.specs.Owed.{WritesPrefix}
 use Rattle.tcm_edges.specs.Writes.{KeptAtMemory}
 use Rattle.tcm_edges.specs.StoredFiles.{is_named}
@@ -240,3 +244,95 @@ pub Keeps-of_others : (old new : Option Files) (name other : List ℕ) → Other
 Keeps-of_others None new name other kept apart = tt
 Keeps-of_others (Some old) None name other kept apart = absurd kept
 Keeps-of_others (Some old) (Some new) name other kept apart = ap content (kept other apart)
+
+-- ---- a load of a store that does not tell its files
+
+pub IsLoad-too_large : (name : List ℕ) (limit size : ℕ) → limit < size → IsLoad untold_files name limit (TooLarge size)
+IsLoad-too_large name limit size above =
+    let file : List ℕ = replicate size 0 in
+    let is_long : length file ≡ size = length-replicate size 0 in
+    record {
+      file = Some file;
+      told = tt;
+      answer = ap TooLarge (sym is_long) ∙ ap (λ b. cond b (Bytes file) (TooLarge (length file))) (sym (lt-leb (length file) limit (omega (arith, is_long))));
+    }
+
+pub IsLoad-bytes : (name bytes : List ℕ) (limit : ℕ) → length bytes ≤ limit → IsLoad untold_files name limit (Bytes bytes)
+IsLoad-bytes name bytes limit within =
+    record { file = Some bytes; told = tt; answer = ap (λ b. cond b (Bytes bytes) (TooLarge (length bytes))) (sym (le-leb (length bytes) limit within)) }
+
+-- ---- what a load tells of any store
+
+-- the answer of a load of a file that is there, by whether the limit allows it
+abbrev answer_by : Bool → List ℕ → Loaded
+answer_by b held = cond b (Bytes held) (TooLarge (length held))
+
+within_by : (held bytes : List ℕ) (limit : ℕ) (b : Bool) → leb (length held) limit ≡ b → Bytes bytes ≡ answer_by b held → length bytes ≤ limit
+within_by held bytes limit true is e =
+    let same_bytes : bytes ≡ held = cc in
+    omega (arith, ap length same_bytes, leb-true (length held) limit is)
+within_by held bytes limit false is e = absurd (cc)
+
+above_by : (held : List ℕ) (size limit : ℕ) (b : Bool) → leb (length held) limit ≡ b → TooLarge size ≡ answer_by b held → limit < size
+above_by held size limit true is e = absurd (cc)
+above_by held size limit false is e =
+    let same_size : size ≡ length held = cc in
+    omega (arith, same_size, leb-false (length held) limit is)
+
+-- the bytes of a load are at most as many as the limit
+pub IsLoad-within : (all : Option Files) (name : List ℕ) (limit : ℕ) (bytes : List ℕ) → IsLoad all name limit (Bytes bytes) → length bytes ≤ limit
+IsLoad-within all name limit bytes load = by load.file load.answer
+  where
+    by : (file : Option (List ℕ)) → Bytes bytes ≡ loaded_of file limit → length bytes ≤ limit
+    by None e = absurd (cc)
+    by (Some held) e = within_by held bytes limit (leb (length held) limit) refl e
+
+-- a file that is too large has more bytes than the limit
+pub IsLoad-above : (all : Option Files) (name : List ℕ) (limit size : ℕ) → IsLoad all name limit (TooLarge size) → limit < size
+IsLoad-above all name limit size load = by load.file load.answer
+  where
+    by : (file : Option (List ℕ)) → TooLarge size ≡ loaded_of file limit → limit < size
+    by None e = absurd (cc)
+    by (Some held) e = above_by held size limit (leb (length held) limit) refl e
+
+-- ---- calls that fail by a list
+
+-- a failed append that kept some of the bytes
+pub GainsPart-kept : (all was new : Files) (name bytes kept : List ℕ) (n : ℕ) → was ≡ all → new ≡ after_failed_append was name kept → kept ≡ take n bytes
+    → GainsPart bytes (file_of all name) (file_of new name)
+GainsPart-kept all was new name bytes kept n is_all is_new e =
+    let P : Files → Type 0 = λ f. GainsPart bytes (file_of all name) (file_of f name) in
+    subst P (sym (is_new ∙ ap (λ f. after_failed_append f name kept) is_all)) (by (length kept == 0))
+  where
+    by : (b : Bool) → GainsPart bytes (file_of all name) (file_of (cond b all (after_append all name kept)) name)
+    by true = inl refl
+    by false = inr (n, file_of-put all name _ ∙ ap (λ l. Some (content (file_of all name) ++ l)) e)
+
+pub other-kept_append : (all was new : Files) (name kept other : List ℕ) → was ≡ all → new ≡ after_failed_append was name kept → other ≢ name
+    → file_of new other ≡ file_of all other
+other-kept_append all was new name kept other is_all is_new apart =
+    ap (λ f. file_of f other) (is_new ∙ ap (λ f. after_failed_append f name kept) is_all) ∙ by (length kept == 0)
+  where
+    by : (b : Bool) → file_of (cond b all (after_append all name kept)) other ≡ file_of all other
+    by true = refl
+    by false = file_of-put_other all name _ other apart
+
+-- a failed replace that kept nothing, or the new contents
+pub IsOldOrNew-kept : (all was new : Files) (name bytes : List ℕ) (keep : ℕ) → was ≡ all → new ≡ after_failed_replace was name bytes keep
+    → IsOldOrNew bytes (file_of all name) (file_of new name)
+IsOldOrNew-kept all was new name bytes keep is_all is_new =
+    let P : Files → Type 0 = λ f. IsOldOrNew bytes (file_of all name) (file_of f name) in
+    subst P (sym (is_new ∙ ap (λ f. after_failed_replace f name bytes keep) is_all)) (by (keep == 0))
+  where
+    by : (b : Bool) → IsOldOrNew bytes (file_of all name) (file_of (cond b all (map.insert all name bytes)) name)
+    by true = inl refl
+    by false = inr (file_of-put all name bytes)
+
+pub other-kept_replace : (all was new : Files) (name bytes : List ℕ) (keep : ℕ) (other : List ℕ) → was ≡ all → new ≡ after_failed_replace was name bytes keep → other ≢ name
+    → file_of new other ≡ file_of all other
+other-kept_replace all was new name bytes keep other is_all is_new apart =
+    ap (λ f. file_of f other) (is_new ∙ ap (λ f. after_failed_replace f name bytes keep) is_all) ∙ by (keep == 0)
+  where
+    by : (b : Bool) → file_of (cond b all (map.insert all name bytes)) other ≡ file_of all other
+    by true = refl
+    by false = file_of-put_other all name bytes other apart

@@ -5,4 +5,4 @@ use Rattle.tcm_edges.specs.Calls.{Plan}
 -- the bytes written, and the plan of the calls
 pub record FailingText : Type 0 where
   pub bytes : List ℕ
-  pub plan : Plan
+  pub plan : Plan ℕ

@@ -1,5 +1,5 @@
 -- Files: bytes by name.
-use Rattle.std.specs.Prelude.{◌≡◌, ◌≢◌, ℕ, List, [], ◌++◌, length, take, ⊤, Option, None, Some, nat_le, if◌then◌else◌, unwrap_or, ◌⊎◌}
+use Rattle.std.specs.Prelude.{◌≡◌, ◌≢◌, ℕ, List, [], ◌++◌, length, take, ⊤, Option, None, Some, nat_le, if◌then◌else◌, unwrap_or, ◌⊎◌, IfSome}
 use Rattle.std.specs.Ordering.{nat_cmp}
 use Rattle.std.specs.Cmp.Lexicographic.{slice_cmp}
 use Rattle.std.specs.Option.{option_map}
@@ -19,6 +19,16 @@ file_of all name = map.get all name
 abbrev pub loaded_of : Option (List ℕ) → ℕ → Loaded
 loaded_of None limit = Absent
 loaded_of (Some bytes) limit = if nat_le (length bytes) limit then Bytes bytes else TooLarge (length bytes)
+
+-- the answer of a load of some file; if the store tells its files, it is the file with this name
+pub record IsLoad (all : Option Files) (name : List ℕ) (limit : ℕ) (loaded : Loaded) : Type 0 where
+  pub file : Option (List ℕ)
+  pub told : IfSome all (λ all. file ≡ file_of all name)
+  pub answer : loaded ≡ loaded_of file limit
+
+-- the files of a store that does not tell them
+abbrev pub untold_files : Option Files
+untold_files = None
 
 -- the contents of a file, which are empty if it is absent
 abbrev pub content : Option (List ℕ) → List ℕ

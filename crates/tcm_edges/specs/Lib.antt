@@ -2,6 +2,7 @@ pub mod Calls
 pub mod Causes
 pub mod Counted
 pub mod FailingFeed
+pub mod FailingFiles
 pub mod FailingText
 pub mod Feed
 pub mod Files

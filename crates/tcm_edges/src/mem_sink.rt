@@ -16,7 +16,7 @@ use std::marker::Model;
 #[derive(Debug, Drop)]
 pub struct MemSink {
     sink: SureSink,
-    calls: Calls,
+    calls: Calls<u64>,
 }
 
 impl Model for MemSink {

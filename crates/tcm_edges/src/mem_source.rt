@@ -17,7 +17,7 @@ use std::marker::Model;
 #[derive(Debug, Drop)]
 pub struct MemSource {
     source: SureSource,
-    calls: Calls,
+    calls: Calls<u64>,
 }
 
 impl Model for MemSource {

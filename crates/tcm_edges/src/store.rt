@@ -1,6 +1,6 @@
-ghost use Rattle.std.specs.Prelude.{◌≡◌, ℕ, Option, IfErr, IfOk, IfSome, OnOk};
+ghost use Rattle.std.specs.Prelude.{◌≡◌, ℕ, Option, IfErr, IfOk, OnOk};
 ghost use Rattle.tcm_edges.specs.Causes.{HasLoadCause, HasWriteCause, OnFailed};
-ghost use Rattle.tcm_edges.specs.Files.{Files, file_of, loaded_of, ChangesFile, OthersKept, GainsAll, GainsPart, IsReplaced, IsOldOrNew};
+ghost use Rattle.tcm_edges.specs.Files.{Files, IsLoad, ChangesFile, OthersKept, GainsAll, GainsPart, IsReplaced, IsOldOrNew};
 ghost use Rattle.tcm_edges.specs.Writes.{KeptAtLoadMemory, KeptAtMemory, TellsAlike};
 
 use crate::fault::{LoadFault, WriteFault};
@@ -25,11 +25,11 @@ pub trait Store {
     /// The count of failures.
     ghost faults: { Self → ℕ };
 
-    /// Loads the file with this name, if it has at most `limit` bytes. No file changes. Returns `Failed` if the outside
-    /// failed, and `Memory` if memory ran out; then the count of failures is unchanged, too.
+    /// Returns the bytes of the file with this name if there are at most `limit`, and otherwise only their number. No
+    /// file changes. Returns `Failed` if the outside failed, and `Memory` if memory ran out; then the count of failures
+    /// is unchanged, too.
     fn load(&mut self, name: &str, limit: u64) -> Result<Loaded, LoadFault>
-        ensures found { IfOk result (λ loaded. IfSome (files self.old)
-            (λ all. loaded ≡ loaded_of (file_of all name.now) limit)) }
+        ensures found { IfOk result (λ loaded. IsLoad (files self.old) name.now limit loaded) }
         ensures kept { files self.new ≡ files self.old }
         ensures cause { HasLoadCause (faults self.old) (faults self.new) result }
         ensures memory { KeptAtLoadMemory (faults self.old) (faults self.new) result };

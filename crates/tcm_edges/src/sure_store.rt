@@ -1,7 +1,7 @@
-ghost use Rattle.std.specs.Prelude.{◌≡◌, ◌++◌, Some, IfErr, IfOk, IfSome, IsOkUnless, MatchOption, None, OnErr, OnOk};
+ghost use Rattle.std.specs.Prelude.{◌≡◌, ◌++◌, Some, IfErr, IfOk, IsOkUnless, MatchOption, None, OnErr, OnOk};
 ghost use Rattle.std.specs.FinMap as map;
 ghost use Rattle.tcm_edges.specs.Causes.{HasLoadCause, HasWriteCause, OnFailed};
-ghost use Rattle.tcm_edges.specs.Files.{file_of, content, loaded_of, ChangesFile, OthersKept, GainsAll, GainsPart, IsReplaced, IsOldOrNew};
+ghost use Rattle.tcm_edges.specs.Files.{file_of, content, loaded_of, IsLoad, ChangesFile, OthersKept, GainsAll, GainsPart, IsReplaced, IsOldOrNew};
 ghost use Rattle.tcm_edges.specs.Writes.{KeptAtLoadMemory, KeptAtMemory, TellsAlike};
 
 use crate::fault::{LoadFault, WriteFault};
@@ -77,7 +77,7 @@ impl SureStore {
     }
 
     /// Adds bytes at the end of a file, and makes the file if it is absent. If memory runs out, changes nothing.
-    fn extend(&mut self, name: &str, bytes: &[u8]) -> Result<(), Memory>
+    pub(crate) fn extend(&mut self, name: &str, bytes: &[u8]) -> Result<(), Memory>
         ensures ok { OnOk result (self.new
             ≡ map.insert self.old name.now (content (file_of self.old name.now) ++ bytes.now)) }
         ensures err { OnErr result (self.new ≡ self.old) }
@@ -99,12 +99,12 @@ impl Store for SureStore {
     ghost faults = { λ _. 0 };
 
     fn load(&mut self, name: &str, limit: u64) -> Result<Loaded, LoadFault>
-        ensures found { IfOk result (λ loaded. IfSome (Some self.old)
-            (λ all. loaded ≡ loaded_of (file_of all name.now) limit)) }
+        ensures found { IfOk result (λ loaded. IsLoad (Some self.old) name.now limit loaded) }
         ensures kept { Some self.new ≡ Some self.old }
         ensures cause { HasLoadCause 0 0 result }
         ensures memory { KeptAtLoadMemory 0 0 result }
         ensures sure { IsOkUnless result LoadFault.Memory }
+        ensures answer { IfOk result (λ loaded. loaded ≡ loaded_of (file_of self.old name.now) limit) }
         ensures unchanged { self.new ≡ self.old }
     {
         let Some(bytes) = self.file(name) else {

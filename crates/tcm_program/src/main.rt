@@ -1,4 +1,4 @@
-//! The program `tcm`: a run of `tcm_session` over standard input and standard output.
+//! The program `tcm`: a run of `tcm_session` over standard input, standard output and the files of the system.
 #![tactic(auto)]
 
 #[cfg(test)]
@@ -8,7 +8,7 @@ use cluster_terms::Memory;
 use std::env;
 use std::io::ErrorKind;
 use std::process::ExitCode;
-use tcm_edges::{InputSource, OutputSink, SureStore};
+use tcm_edges::{FileStore, InputSource, OutputSink};
 use tcm_session::run;
 
 /// The words after the program's name, or no words if a word isn't UTF-8 text: then the program prints its usage line.
@@ -28,7 +28,8 @@ fn main(rt: HostRuntime) -> ExitCode {
     };
     let mut input = InputSource::new(rt.stdin());
     let mut out = OutputSink::new(rt.stdout());
-    let mut store = SureStore::new(rt.alloc());
-    let status = run(rt.alloc(), &words, &mut input, &mut out, &mut store);
+    let alloc = rt.alloc();
+    let mut store = FileStore::new(rt);
+    let status = run(alloc, &words, &mut input, &mut out, &mut store);
     ExitCode::from(status.0)
 }

@@ -1,12 +1,14 @@
-//! Worked scripts, each a run over objects in memory, and calls that no script makes.
+//! Worked scripts, each a run over objects in memory, runs over log files, and calls that no script makes.
 
 mod calls;
 mod cancels;
 mod faults;
+mod ids;
 mod joins;
 mod limits;
 mod lines;
 mod locks;
+mod logs;
 mod openings;
 mod quorums;
 mod racks;
@@ -21,8 +23,10 @@ use running::{Script, go_on};
 use std::test::Fail;
 
 /// Tables of scripts, each with the opening that its scripts go on from.
-const TABLES: [(&str, &[Script]); 19] = [
+const TABLES: [(&str, &[Script]); 21] = [
     (NOTHING, &lines::FORMS),
+    (NOTHING, &ids::FROM_NOTHING),
+    (FOUR, &ids::ON_FOUR),
     (NOTHING, &scripts::PLACEMENTS),
     (NOTHING, &scripts::NODES),
     (NOTHING, &refusals::FROM_NOTHING),

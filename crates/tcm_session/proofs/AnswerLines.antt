@@ -1,5 +1,5 @@
 -- The lines of answers: those of an answer without quorums begin with neither of their words.
-use Rattle.std.proofs.Common.{◌≡◌, ◌≢◌, ℕ, ◌+◌, ◌≤◌, ℤ, Bool, true, false, if◌then◌else◌, List, ◌++◌, flat_map, get_or, length, Option, Some, None, option_map, option_and_then, nat_le, codes, decimal, refl, sym, append_assoc, arith}
+use Rattle.std.proofs.Common.{◌≡◌, ◌≢◌, ℕ, ◌≤◌, ℤ, Bool, true, false, if◌then◌else◌, List, ◌++◌, flat_map, get_or, length, Option, Some, None, Result, Ok, Err, IfErr, option_map, option_and_then, nat_le, codes, decimal, refl, sym, append_assoc, arith}
 use Rattle.std.specs.List.{AllByRecursion}
 use Rattle.std.specs.Option.{IfSome}
 use Rattle.std.specs.Str.{bytes_eq}
@@ -10,13 +10,17 @@ use Rattle.cluster_terms.specs.declared.node.NodeRow.{NodeRow}
 use Rattle.cluster_terms.specs.declared.row.TokenRange.{TokenRange}
 use Rattle.transformations.proofs.lists.ListLemmas.{all_each, all_found, all_weaker}
 use Rattle.transformations.specs.History.{commit_refusal, state_after}
+use Rattle.transformations.specs.Log.{commands_of, commit_by, commit_of, decided, entry_with_id}
+use Rattle.transformations.specs.Same.{same_command}
 use Rattle.transformations.specs.Meeting.{datacenters_of, local_sets_at}
 use Rattle.transformations.specs.Rings.{cuts, reads_at, writes_at}
 use Rattle.transformations.specs.States.{node_tokens, state_of_row}
 use Rattle.transformations.specs.declared.command.Command.{Command}
+use Rattle.transformations.specs.declared.entry.Entry.{Entry}
 use Rattle.transformations.specs.declared.image.Image.{Image}
 use Rattle.transformations.specs.declared.keyspace.KeyspaceRow.{KeyspaceRow}
 use Rattle.transformations.specs.declared.refusal.Refusal.{Refusal}
+use Rattle.transformations.specs.declared.refusal.Refusal.TheVariants.{IdReused}
 use Rattle.transformations.specs.declared.sequence.SeqRow.{SeqRow}
 use Rattle.cluster_metadata.specs.Served.{keyspace_of}
 use Rattle.script_lang.proofs.SaidLemmas.{IsFormed}
@@ -25,7 +29,7 @@ use Rattle.script_lang.specs.Texts.{kind_text, left_text, line, list_text, named
 use Rattle.script_lang.specs.declared.script_line.ScriptLine.{ScriptLine}
 use Rattle.script_lang.specs.declared.script_line.ScriptLine.TheVariants.{Commit, Place, Nodes, Quorum, Local}
 use Rattle.script_lang.specs.declared.script_line.Target.TheVariants.{Epoch}
-use Rattle.tcm_session.specs.Machine.{decided, local_quorums, local_quorums_in, placements, quorums, reply, reply_to}
+use Rattle.tcm_session.specs.Machine.{commit_text, local_quorums, local_quorums_in, placements, quorums, reply, reply_to}
 use Rattle.tcm_session.specs.Shown.{IsOfNoQuorum, Shown, sets_in, shown_by, shown_text, word_of}
 use Rattle.tcm_session.proofs.PlainImages.{IsPlainImage, IsPlainRow, commit_plain, plain_at}
 use Rattle.tcm_session.proofs.PlainTexts.{HasPlainNames, decimal_all, first_digit, is_plain, plain_decimal, plain_joined, plain_kind, plain_left, plain_list, plain_pairs, plain_phase, plain_refusal, plain_right, plain_state, plain_tokens}
@@ -116,9 +120,25 @@ nodes_lines image is =
 
 -- ---- answers that show nothing
 
-commit_lines : (h : List Command) (c : Command) (o : Option Refusal) → IfSome o HasPlainNames → AreLines IsOfNoQuorum (decided h c o).text
-commit_lines h c (Some r) names = no_lines (refusal_text r) (plain_refusal r names)
-commit_lines h c None names = ok_lines (length h + 1)
+commit_lines : (answer : Result ℕ Refusal) → IfErr answer HasPlainNames → AreLines IsOfNoQuorum (commit_text answer)
+commit_lines (Ok epoch) names = ok_lines epoch
+commit_lines (Err r) names = no_lines (refusal_text r) (plain_refusal r names)
+
+-- the names that a refused commit shows
+committed_plain : (log : List Entry) (id : ℕ) (c : Command) → AllByRecursion IsFormed (commands_of log) → IfErr (commit_of log id c).answer HasPlainNames
+committed_plain log id c formed = by (entry_with_id log id)
+  where
+    again : (e : Entry) (b : Bool) → IfErr (if b then Ok e.epoch else Err (IdReused e.epoch)) HasPlainNames
+    again e true = tt
+    again e false = tt
+
+    decide : (o : Option Refusal) → IfSome o HasPlainNames → IfErr (decided log id c o).answer HasPlainNames
+    decide (Some r) names = names
+    decide None names = tt
+
+    by : (o : Option Entry) → IfErr (commit_by log id c o).answer HasPlainNames
+    by (Some e) = again e (same_command e.cmd c)
+    by None = decide (commit_refusal (commands_of log) c) (commit_plain (commands_of log) c formed)
 
 -- an answer at an epoch that may not have come
 either : (h : List Command) (b : Bool) (text : List ℕ) → AreLines IsOfNoQuorum text → AreLines IsOfNoQuorum (if b then text else no_text (codes "EPOCH " ++ decimal (length h)))
@@ -151,19 +171,23 @@ module _ (h : List Command) (e : ℕ) (t : ℤ) (show : Sets → Shown) where
       by None none = no_lines (codes "DC") refl
       by (Some f) none = absurd (none-some _ (sym none))
 
-other_said : (h : List Command) → AllByRecursion IsFormed h → (said : Option ScriptLine) → shown_by h said ≡ None → AreLines IsOfNoQuorum (reply_to h said).text
-other_said h formed None none = no_lines (codes "BAD-LINE") refl
-other_said h formed (Some (Commit id c)) none = commit_lines h c (commit_refusal h c) (commit_plain h c formed)
-other_said h formed (Some (Place (Epoch e) name)) none = either h (nat_le e (length h)) _ (placements_lines (state_after h e) (plain_at h e formed) name)
-other_said h formed (Some (Nodes (Epoch e))) none = either h (nat_le e (length h)) _ (nodes_lines (state_after h e) (plain_at h e formed))
-other_said h formed (Some (Quorum (Epoch e) name t)) none =
+other_said : (log : List Entry) → AllByRecursion IsFormed (commands_of log) → (said : Option ScriptLine) → shown_by (commands_of log) said ≡ None → AreLines IsOfNoQuorum (reply_to log said).text
+other_said log formed None none = no_lines (codes "BAD-LINE") refl
+other_said log formed (Some (Commit id c)) none = commit_lines (commit_of log id c).answer (committed_plain log id c formed)
+other_said log formed (Some (Place (Epoch e) name)) none =
+    let h = commands_of log in either h (nat_le e (length h)) _ (placements_lines (state_after h e) (plain_at h e formed) name)
+other_said log formed (Some (Nodes (Epoch e))) none =
+    let h = commands_of log in either h (nat_le e (length h)) _ (nodes_lines (state_after h e) (plain_at h e formed))
+other_said log formed (Some (Quorum (Epoch e) name t)) none =
+    let h = commands_of log in
     quorum_lines h e t (λ (s : Sets). record { datacenter = None; keyspace = name; token = t; epoch = e; sets = s }) (nat_le e (length h)) (keyspace_of (state_after h e) name) none
-other_said h formed (Some (Local (Epoch e) name dc t)) none =
+other_said log formed (Some (Local (Epoch e) name dc t)) none =
+    let h = commands_of log in
     local_lines h e t (λ (s : Sets). record { datacenter = Some dc; keyspace = name; token = t; epoch = e; sets = s }) dc (nat_le e (length h)) (keyspace_of (state_after h e) name) none
 
-pub other_lines : (h : List Command) (bytes : List ℕ) → AllByRecursion IsFormed h → shown_by h (line_of bytes) ≡ None → AreLines IsOfNoQuorum (reply h bytes).text
+pub other_lines : (log : List Entry) (bytes : List ℕ) → AllByRecursion IsFormed (commands_of log) → shown_by (commands_of log) (line_of bytes) ≡ None → AreLines IsOfNoQuorum (reply log bytes).text
 unfolding reply
-other_lines h bytes formed none = other_said h formed (line_of bytes) none
+other_lines log bytes formed none = other_said log formed (line_of bytes) none
 
 -- ---- answers that show quorums
 

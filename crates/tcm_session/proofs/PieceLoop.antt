@@ -1,57 +1,92 @@
 -- The loop that takes a piece of a script.
-use Rattle.std.proofs.Common.{◌≡◌, ℕ, List, [], ◌∷◌, ◌++◌, Option, sym, ap, ◌∙◌, subst, append_assoc}
+use Rattle.std.proofs.Common.{◌≡◌, ℕ, List, [], ◌∷◌, ◌++◌, Option, refl, sym, ap, ◌∙◌, subst, append_assoc, append-nil}
 use Rattle.std.specs.Io.KnownBytes.{Appends}
 use Rattle.tcm_edges.specs.Owed.{Owes, WritesPrefix}
-use Rattle.tcm_edges.proofs.OwedLemmas.{Owes-write, Owes-done, WritesPrefix-owed}
-use Rattle.transformations.specs.declared.command.Command.{Command}
+use Rattle.tcm_edges.proofs.OwedLemmas.{Owes-refl, Owes-write, Owes-done, WritesPrefix-owed}
+use Rattle.transformations.specs.declared.entry.Entry.{Entry}
 use Rattle.tcm_session.specs.Lines.{HasNoFeed, whole_lines, open_line}
-use Rattle.tcm_session.specs.Machine.{reply, answers, history_after}
-use Rattle.tcm_session.specs.Runs.{Takes}
-use Rattle.tcm_session.proofs.LinesLemmas.{whole_lines-line, open_line-line, whole_lines-none, open_line-none, HasNoFeed-append}
+use Rattle.tcm_session.specs.LogFiles.{Gains, entry_lines}
+use Rattle.tcm_session.specs.Machine.{Reply, answers, entries_added, log_after, reply}
+use Rattle.tcm_session.specs.Runs.{IsBegun, Standing, Takes, kept_of, lines_ended}
+use Rattle.tcm_session.proofs.GainLemmas.{Gains-append, Gains-nil}
+use Rattle.tcm_session.proofs.KeptLemmas.{IsBegun-nil, one_begun, one_line, reply-kept}
+use Rattle.tcm_session.proofs.LinesLemmas.{HasNoFeed-append, open_line-none, whole_lines-none}
+use Rattle.tcm_session.proofs.ReadLemmas.{entry_lines-append}
 
 -- what the whole piece makes is what the rest makes from here
-pub record Feeds (h : List Command) (o : List ℕ) (w : Option (List ℕ)) (piece : List ℕ) (h' : List Command) (o' : List ℕ) (w' : Option (List ℕ)) (rest : List ℕ) : Type 0 where
-  pub owes : Owes w w' (answers h (whole_lines (o ++ piece))) (answers h' (whole_lines (o' ++ rest)))
-  pub accepted : history_after h (whole_lines (o ++ piece)) ≡ history_after h' (whole_lines (o' ++ rest))
-  pub begun : open_line (o ++ piece) ≡ open_line (o' ++ rest)
-  pub plain : HasNoFeed o'
+pub record Feeds (file : Option (List ℕ)) (at : Standing) (piece : List ℕ) (at' : Standing) (rest : List ℕ) : Type 0 where
+  pub owes : Owes at.written at'.written (answers at.log (lines_ended at piece)) (answers at'.log (lines_ended at' rest))
+  pub log : log_after at.log (lines_ended at piece) ≡ log_after at'.log (lines_ended at' rest)
+  pub opened : open_line (at.begun ++ piece) ≡ open_line (at'.begun ++ rest)
+  pub begun : IsBegun at'.begun
+  -- the entries that are added so far
+  pub so_far : List Entry
+  pub added : entries_added at.log (lines_ended at piece) ≡ so_far ++ entries_added at'.log (lines_ended at' rest)
+  pub files : Gains file (entry_lines so_far) at.files at'.files
 
--- the lines of a line that has begun, its end, and what follows
-one_line : (o l more : List ℕ) → HasNoFeed o → HasNoFeed l → whole_lines (o ++ (l ++ 10 ∷ more)) ≡ (o ++ l) ∷ whole_lines more
-one_line o l more p q = ap whole_lines (sym (append_assoc o l (10 ∷ more))) ∙ whole_lines-line (o ++ l) more (HasNoFeed-append o l p q)
+-- nothing is taken yet
+pub Feeds-begin : (file : Option (List ℕ)) (at : Standing) (piece : List ℕ) → IsBegun at.begun → Feeds file at piece at piece
+Feeds-begin file at piece begun =
+    record { owes = Owes-refl at.written _; log = refl; opened = refl; begun = begun; so_far = []; added = refl; files = Gains-nil file at.files }
 
-one_begun : (o l more : List ℕ) → HasNoFeed o → HasNoFeed l → open_line (o ++ (l ++ 10 ∷ more)) ≡ open_line more
-one_begun o l more p q = ap open_line (sym (append_assoc o l (10 ∷ more))) ∙ open_line-line (o ++ l) more (HasNoFeed-append o l p q)
+-- the same of an equal log and equal lines
+from_here : {T : Type 0} (g : List Entry → List (List ℕ) → T) {log log' : List Entry} {lines lines' : List (List ℕ)} → log ≡ log' → lines ≡ lines' → g log lines ≡ g log' lines'
+from_here g same same_lines = (λ i. g (same i) (same_lines i))
 
-module _ (h : List Command) (o : List ℕ) (w : Option (List ℕ)) (piece : List ℕ) (h₁ : List Command) (o₁ : List ℕ) (w₁ : Option (List ℕ)) where
+module _ (file : Option (List ℕ)) (at : Standing) (piece : List ℕ) (at₁ : Standing) (rest l more : List ℕ) (f : Feeds file at piece at₁ rest) (e : rest ≡ l ++ 10 ∷ more) (plain : HasNoFeed l) where
+  -- the lines that the rest ends
+  next_lines : lines_ended at₁ rest ≡ (at₁.begun ++ l) ∷ whole_lines more
+  next_lines = ap (λ x. whole_lines (at₁.begun ++ x)) e ∙ one_line at₁.begun l more f.begun.plain plain
+
+  -- the reply to the next line, of which not all may be kept
+  next_reply : Reply
+  next_reply = reply at₁.log (kept_of (at₁.begun ++ l))
+
+  whole_reply : reply at₁.log (kept_of (at₁.begun ++ l)) ≡ reply at₁.log (at₁.begun ++ l)
+  whole_reply = reply-kept at₁.log (at₁.begun ++ l)
+
+  due : answers at₁.log (lines_ended at₁ rest) ≡ (reply at₁.log (kept_of (at₁.begun ++ l))).text ++ answers (at₁.log ++ (reply at₁.log (kept_of (at₁.begun ++ l))).added) (whole_lines more)
+  due = ap (answers at₁.log) next_lines ∙ ap (λ (r : Reply). r.text ++ answers (at₁.log ++ r.added) (whole_lines more)) (sym whole_reply)
+
   -- the next line is answered
-  pub Feeds-line : (rest l more : List ℕ) (h₂ : List Command) (w₂ : Option (List ℕ)) → Feeds h o w piece h₁ o₁ w₁ rest → rest ≡ l ++ 10 ∷ more → HasNoFeed l
-      → Appends w₁ w₂ (reply h₁ (o₁ ++ l)).text → h₂ ≡ (reply h₁ (o₁ ++ l)).history → Feeds h o w piece h₂ [] w₂ more
-  Feeds-line rest l more h₂ w₂ f e plain wrote next =
-      let lines : whole_lines (o₁ ++ rest) ≡ (o₁ ++ l) ∷ whole_lines more = ap (λ x. whole_lines (o₁ ++ x)) e ∙ one_line o₁ l more f.plain plain in
-      let due : answers h₁ (whole_lines (o₁ ++ rest)) ≡ (reply h₁ (o₁ ++ l)).text ++ answers h₂ (whole_lines more) =
-      ap (answers h₁) lines ∙ ap (λ x. (reply h₁ (o₁ ++ l)).text ++ answers x (whole_lines more)) (sym next) in
+  pub Feeds-line : (at₂ : Standing) → at₂.begun ≡ [] → Appends at₁.written at₂.written (reply at₁.log (kept_of (at₁.begun ++ l))).text
+      → at₂.log ≡ at₁.log ++ (reply at₁.log (kept_of (at₁.begun ++ l))).added
+      → Gains file (entry_lines (reply at₁.log (kept_of (at₁.begun ++ l))).added) at₁.files at₂.files → Feeds file at piece at₂ more
+  Feeds-line at₂ none wrote next gained =
+      let r = reply at₁.log (kept_of (at₁.begun ++ l)) in
+      let lines : lines_ended at₂ more ≡ whole_lines more = ap (λ o. whole_lines (o ++ more)) none in
       record {
-        owes = Owes-write w w₁ w₂ (answers h (whole_lines (o ++ piece))) (reply h₁ (o₁ ++ l)).text (answers h₂ (whole_lines more)) (subst (Owes w w₁ (answers h (whole_lines (o ++ piece)))) due f.owes) wrote;
-        accepted = f.accepted ∙ ap (history_after h₁) lines ∙ ap (λ x. history_after x (whole_lines more)) (sym next);
-        begun = f.begun ∙ ap (λ x. open_line (o₁ ++ x)) e ∙ one_begun o₁ l more f.plain plain;
-        plain = tt;
+        owes = Owes-write at.written at₁.written at₂.written (answers at.log (lines_ended at piece)) r.text (answers at₂.log (lines_ended at₂ more))
+            (subst (Owes at.written at₁.written (answers at.log (lines_ended at piece))) (due ∙ ap (λ t. r.text ++ t) (from_here answers (sym next) (sym lines))) f.owes) wrote;
+        log = f.log ∙ ap (log_after at₁.log) next_lines ∙ ap (λ (s : Reply). log_after (at₁.log ++ s.added) (whole_lines more)) (sym whole_reply) ∙ from_here log_after (sym next) (sym lines);
+        opened = f.opened ∙ ap (λ x. open_line (at₁.begun ++ x)) e ∙ one_begun at₁.begun l more f.begun.plain plain ∙ ap (λ o. open_line (o ++ more)) (sym none);
+        begun = subst IsBegun (sym none) IsBegun-nil;
+        so_far = f.so_far ++ r.added;
+        added = f.added ∙ ap (λ t. f.so_far ++ t)
+            (ap (entries_added at₁.log) next_lines ∙ ap (λ (s : Reply). s.added ++ entries_added (at₁.log ++ s.added) (whole_lines more)) (sym whole_reply) ∙ ap (λ t. r.added ++ t) (from_here entries_added (sym next) (sym lines)))
+            ∙ sym (append_assoc f.so_far r.added _);
+        files = subst (λ t. Gains file t at.files at₂.files) (sym (entry_lines-append f.so_far r.added)) (Gains-append file _ _ at.files at₁.files at₂.files f.files gained);
       }
 
   -- of the answer to the next line a prefix is written
-  pub Feeds-part : (rest l more : List ℕ) (w₂ : Option (List ℕ)) → Feeds h o w piece h₁ o₁ w₁ rest → rest ≡ l ++ 10 ∷ more → HasNoFeed l
-      → WritesPrefix w₁ w₂ (reply h₁ (o₁ ++ l)).text → WritesPrefix w w₂ (answers h (whole_lines (o ++ piece)))
-  Feeds-part rest l more w₂ f e plain part =
-      let lines : whole_lines (o₁ ++ rest) ≡ (o₁ ++ l) ∷ whole_lines more = ap (λ x. whole_lines (o₁ ++ x)) e ∙ one_line o₁ l more f.plain plain in
-      WritesPrefix-owed w w₁ w₂ (answers h (whole_lines (o ++ piece))) (reply h₁ (o₁ ++ l)).text (answers (reply h₁ (o₁ ++ l)).history (whole_lines more))
-      (subst (Owes w w₁ (answers h (whole_lines (o ++ piece)))) (ap (answers h₁) lines) f.owes) part
+  pub Feeds-part : (w₂ : Option (List ℕ)) → WritesPrefix at₁.written w₂ (reply at₁.log (kept_of (at₁.begun ++ l))).text → WritesPrefix at.written w₂ (answers at.log (lines_ended at piece))
+  Feeds-part w₂ part =
+      WritesPrefix-owed at.written at₁.written w₂ (answers at.log (lines_ended at piece)) _ _
+      (subst (Owes at.written at₁.written (answers at.log (lines_ended at piece))) due f.owes) part
 
-  -- no line is left: the rest is of the line that has begun
-  pub Feeds-end : (rest : List ℕ) → Feeds h o w piece h₁ o₁ w₁ rest → HasNoFeed rest → Takes piece h o w h₁ (o₁ ++ rest) w₁
-  Feeds-end rest f plain =
-      let none = whole_lines-none (o₁ ++ rest) (HasNoFeed-append o₁ rest f.plain plain) in
-      record {
-        accepted = sym (f.accepted ∙ ap (history_after h₁) none);
-        begun = sym (f.begun ∙ open_line-none (o₁ ++ rest) (HasNoFeed-append o₁ rest f.plain plain));
-        answered = Owes-done w w₁ (answers h (whole_lines (o ++ piece))) (subst (Owes w w₁ (answers h (whole_lines (o ++ piece)))) (ap (answers h₁) none) f.owes);
-      }
+-- of the next line nothing is written
+pub Feeds-stop : (file : Option (List ℕ)) (at : Standing) (piece : List ℕ) (at₁ : Standing) (rest : List ℕ) → Feeds file at piece at₁ rest → WritesPrefix at.written at₁.written (answers at.log (lines_ended at piece))
+Feeds-stop file at piece at₁ rest f = record { owed = answers at₁.log (lines_ended at₁ rest); owes = f.owes }
+
+-- no line is left: the rest is of the line that has begun
+pub Feeds-end : (file : Option (List ℕ)) (at : Standing) (piece : List ℕ) (at₁ : Standing) (rest : List ℕ) (begun' : List ℕ) → Feeds file at piece at₁ rest → HasNoFeed rest → begun' ≡ kept_of (at₁.begun ++ rest)
+    → Takes file piece at (record at₁ { begun = begun' })
+Feeds-end file at piece at₁ rest begun' f plain kept =
+    let bare = HasNoFeed-append at₁.begun rest f.begun.plain plain in
+    let none = whole_lines-none (at₁.begun ++ rest) bare in
+    record {
+      log = sym (f.log ∙ ap (log_after at₁.log) none);
+      begun = kept ∙ sym (ap kept_of (f.opened ∙ open_line-none (at₁.begun ++ rest) bare));
+      answered = Owes-done at.written at₁.written (answers at.log (lines_ended at piece)) (subst (Owes at.written at₁.written (answers at.log (lines_ended at piece))) (ap (answers at₁.log) none) f.owes);
+      files = subst (λ es. Gains file (entry_lines es) at.files at₁.files) (sym (f.added ∙ ap (λ ls. f.so_far ++ entries_added at₁.log ls) none ∙ append-nil f.so_far)) f.files;
+    }

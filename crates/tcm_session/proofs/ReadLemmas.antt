@@ -1,18 +1,25 @@
 -- Lemmas on reading a script in pieces.
-use Rattle.std.proofs.Common.{◌≡◌, ℕ, ◌+◌, ◌≤◌, IfErr, IsErrAnd, List, [], ◌++◌, length, Option, Result, Ok, Err, refl, sym, ap, ◌∙◌, subst, append_assoc, append-nil, length-append, arith}
+use Rattle.std.proofs.Common.{◌≡◌, ℕ, ◌+◌, ◌≤◌, IfErr, IsErrAnd, List, [], ◌++◌, length, Option, None, Result, Ok, Err, refl, sym, ap, ◌∙◌, subst, append_assoc, append-nil, length-append, arith}
 use Rattle.std.specs.Io.KnownBytes.{Appends, Consumes, Keeps}
 use Rattle.std.proofs.KnownBytes.{Consumes-trans, Consumes-nil, Consumes-kept, Appends-trans, Appends-nil}
+use Rattle.std.proofs.lemmas.Grind.{flat_map-append}
 use Rattle.tcm_edges.specs.Owed.{WritesPrefix}
 use Rattle.tcm_edges.proofs.OwedLemmas.{WritesPrefix-then, WritesPrefix-whole}
-use Rattle.transformations.specs.declared.command.Command.{Command}
+use Rattle.transformations.specs.declared.entry.Entry.{Entry}
+use Rattle.wire_json.specs.Texts.{entry_line}
+use Rattle.tcm_session.specs.Faults.{Shows}
 use Rattle.tcm_session.specs.Lines.{HasNoFeed, whole_lines, open_line}
-use Rattle.tcm_session.specs.Machine.{answers, history_after}
+use Rattle.tcm_session.specs.LogFiles.{Gains, entry_lines}
+use Rattle.tcm_session.specs.Machine.{answers, entries_added, log_after}
 use Rattle.tcm_session.specs.Outcome.{input_limit}
-use Rattle.tcm_session.specs.Runs.{Shows, StopsAt, Takes, ReadsOnce, ReadsTo, PastBy}
+use Rattle.tcm_session.specs.Counts.{Counts}
+use Rattle.tcm_session.specs.Runs.{IsBegun, PastBy, ReadsOnce, ReadsTo, Standing, StopsAt, Takes, kept_of, lines_ended}
 use Rattle.tcm_session.specs.declared.fault.RunFault.{RunFault}
 use Rattle.tcm_session.specs.declared.reading.ReadEnd.{ReadEnd}
 use Rattle.tcm_session.specs.declared.reading.ReadEnd.TheVariants as end
-use Rattle.tcm_session.proofs.AnswersLemmas.{answers-append, history_after-append}
+use Rattle.tcm_session.proofs.AnswersLemmas.{answers-append, entries_added-append, log_after-append}
+use Rattle.tcm_session.proofs.GainLemmas.{Gains-append, Gains-nil}
+use Rattle.tcm_session.proofs.KeptLemmas.{IsBegun-kept, answers-kept, entries_added-kept, kept_of-short, log_after-kept, open_line-kept}
 use Rattle.tcm_session.proofs.RunCauses.{not_source}
 use Rattle.tcm_session.proofs.LinesLemmas.{HasNoFeed-open, whole_lines-append, open_line-append, whole_lines-none, open_line-none}
 
@@ -23,90 +30,124 @@ lines_of_two o a b = ap whole_lines (sym (append_assoc o a b)) ∙ whole_lines-a
 begun_of_two : (o a b : List ℕ) → open_line (o ++ (a ++ b)) ≡ open_line (open_line (o ++ a) ++ b)
 begun_of_two o a b = ap open_line (sym (append_assoc o a b)) ∙ open_line-append (o ++ a) b
 
+pub entry_lines-append : (a b : List Entry) → entry_lines (a ++ b) ≡ entry_lines a ++ entry_lines b
+entry_lines-append a b = flat_map-append entry_line a b
+
 -- nothing was taken
-pub Takes-nil : (h : List Command) (o : List ℕ) (w : Option (List ℕ)) → HasNoFeed o → Takes [] h o w h o w
-Takes-nil h o w plain =
-    let none : whole_lines (o ++ []) ≡ [] = ap whole_lines (append-nil o) ∙ whole_lines-none o plain in
+pub Takes-nil : (file : Option (List ℕ)) (at : Standing) → IsBegun at.begun → Takes file [] at at
+Takes-nil file at begun =
+    let none : lines_ended at [] ≡ [] = ap whole_lines (append-nil at.begun) ∙ whole_lines-none at.begun begun.plain in
     record {
-      accepted = ap (history_after h) (sym none);
-      begun = sym (ap open_line (append-nil o) ∙ open_line-none o plain);
-      answered = subst (Appends w w) (ap (answers h) (sym none)) (Appends-nil w);
+      log = ap (log_after at.log) (sym none);
+      begun = sym (ap (λ o. kept_of (open_line o)) (append-nil at.begun) ∙ ap kept_of (open_line-none at.begun begun.plain) ∙ kept_of-short at.begun begun.few);
+      answered = subst (Appends at.written at.written) (ap (answers at.log) (sym none)) (Appends-nil at.written);
+      files = subst (λ ls. Gains file (entry_lines (entries_added at.log ls)) at.files at.files) (sym none) (Gains-nil file at.files);
     }
 
-module _ (a : List ℕ) (h : List Command) (o : List ℕ) (w : Option (List ℕ)) (h₁ : List Command) (o₁ : List ℕ) (w₁ : Option (List ℕ)) (first : Takes a h o w h₁ o₁ w₁) where
-  -- what a later piece makes from there, in terms of the beginning
-  later_lines : (b : List ℕ) → whole_lines (o ++ (a ++ b)) ≡ whole_lines (o ++ a) ++ whole_lines (o₁ ++ b)
-  later_lines b = lines_of_two o a b ∙ ap (λ x. whole_lines (o ++ a) ++ whole_lines (x ++ b)) (sym first.begun)
+module _ (file : Option (List ℕ)) (a : List ℕ) (at at₁ : Standing) (first : Takes file a at at₁) where
+  opened : List ℕ
+  opened = open_line (at.begun ++ a)
 
-  later_answers : (b : List ℕ) → answers h (whole_lines (o ++ (a ++ b))) ≡ answers h (whole_lines (o ++ a)) ++ answers h₁ (whole_lines (o₁ ++ b))
+  opened_plain : HasNoFeed (open_line (at.begun ++ a))
+  opened_plain = HasNoFeed-open (at.begun ++ a)
+
+  -- what a later piece makes from there, in terms of the beginning
+  later_lines : (b : List ℕ) → lines_ended at (a ++ b) ≡ lines_ended at a ++ whole_lines (open_line (at.begun ++ a) ++ b)
+  later_lines b = lines_of_two at.begun a b
+
+  later_answers : (b : List ℕ) → answers at.log (lines_ended at (a ++ b)) ≡ answers at.log (lines_ended at a) ++ answers at₁.log (lines_ended at₁ b)
   later_answers b =
-      ap (answers h) (later_lines b) ∙ answers-append h (whole_lines (o ++ a)) (whole_lines (o₁ ++ b))
-      ∙ ap (λ x. answers h (whole_lines (o ++ a)) ++ answers x (whole_lines (o₁ ++ b))) (sym first.accepted)
+      let same : answers (log_after at.log (lines_ended at a)) (whole_lines (open_line (at.begun ++ a) ++ b)) ≡ answers at₁.log (lines_ended at₁ b) =
+      ap (λ l. answers l (whole_lines (open_line (at.begun ++ a) ++ b))) (sym first.log)
+      ∙ sym (answers-kept at₁.log (open_line (at.begun ++ a)) b opened_plain)
+      ∙ ap (λ x. answers at₁.log (whole_lines (x ++ b))) (sym first.begun) in
+      ap (answers at.log) (later_lines b) ∙ answers-append at.log (lines_ended at a) (whole_lines (open_line (at.begun ++ a) ++ b))
+      ∙ ap (λ t. answers at.log (lines_ended at a) ++ t) same
+
+  later_added : (b : List ℕ) → entries_added at.log (lines_ended at (a ++ b)) ≡ entries_added at.log (lines_ended at a) ++ entries_added at₁.log (lines_ended at₁ b)
+  later_added b =
+      let same : entries_added (log_after at.log (lines_ended at a)) (whole_lines (open_line (at.begun ++ a) ++ b)) ≡ entries_added at₁.log (lines_ended at₁ b) =
+      ap (λ l. entries_added l (whole_lines (open_line (at.begun ++ a) ++ b))) (sym first.log)
+      ∙ sym (entries_added-kept at₁.log (open_line (at.begun ++ a)) b opened_plain)
+      ∙ ap (λ x. entries_added at₁.log (whole_lines (x ++ b))) (sym first.begun) in
+      ap (entries_added at.log) (later_lines b) ∙ entries_added-append at.log (lines_ended at a) (whole_lines (open_line (at.begun ++ a) ++ b))
+      ∙ ap (λ t. entries_added at.log (lines_ended at a) ++ t) same
+
+  later_log : (b : List ℕ) → log_after at.log (lines_ended at (a ++ b)) ≡ log_after at₁.log (lines_ended at₁ b)
+  later_log b =
+      ap (log_after at.log) (later_lines b) ∙ log_after-append at.log (lines_ended at a) (whole_lines (open_line (at.begun ++ a) ++ b))
+      ∙ ap (λ l. log_after l (whole_lines (open_line (at.begun ++ a) ++ b))) (sym first.log)
+      ∙ sym (log_after-kept at₁.log (open_line (at.begun ++ a)) b opened_plain)
+      ∙ ap (λ x. log_after at₁.log (whole_lines (x ++ b))) (sym first.begun)
 
   -- two pieces, one after the other
-  pub Takes-then : (b : List ℕ) (h₂ : List Command) (o₂ : List ℕ) (w₂ : Option (List ℕ)) → Takes b h₁ o₁ w₁ h₂ o₂ w₂ → Takes (a ++ b) h o w h₂ o₂ w₂
-  Takes-then b h₂ o₂ w₂ second =
+  pub Takes-then : (b : List ℕ) (at₂ : Standing) → Takes file b at₁ at₂ → Takes file (a ++ b) at at₂
+  Takes-then b at₂ second =
       record {
-        accepted = second.accepted ∙ ap (λ x. history_after x (whole_lines (o₁ ++ b))) first.accepted
-            ∙ sym (ap (history_after h) (later_lines b) ∙ history_after-append h (whole_lines (o ++ a)) (whole_lines (o₁ ++ b)));
-        begun = second.begun ∙ ap (λ x. open_line (x ++ b)) first.begun ∙ sym (begun_of_two o a b);
-        answered = subst (Appends w w₂) (sym (later_answers b)) (Appends-trans w w₁ w₂ _ _ first.answered second.answered);
+        log = second.log ∙ sym (later_log b);
+        begun = second.begun ∙ ap (λ x. kept_of (open_line (x ++ b))) first.begun
+            ∙ open_line-kept (open_line (at.begun ++ a)) b opened_plain ∙ sym (ap kept_of (begun_of_two at.begun a b));
+        answered = subst (Appends at.written at₂.written) (sym (later_answers b)) (Appends-trans at.written at₁.written at₂.written _ _ first.answered second.answered);
+        files = subst (λ t. Gains file t at.files at₂.files)
+            (sym (ap entry_lines (later_added b) ∙ entry_lines-append (entries_added at.log (lines_ended at a)) (entries_added at₁.log (lines_ended at₁ b))))
+            (Gains-append file _ _ at.files at₁.files at₂.files first.files second.files);
       }
 
   -- a piece, and a part of the next
-  pub StopsAt-then : (e : RunFault) (most : ℕ) (l l₁ l₂ : Option (List ℕ)) (w₂ : Option (List ℕ)) → Consumes l l₁ a → StopsAt e most l₁ l₂ h₁ o₁ w₁ w₂ → StopsAt e (length a + most) l l₂ h o w w₂
+  pub StopsAt-then : (e : RunFault) (most : ℕ) (l l₁ l₂ : Option (List ℕ)) (w₂ : Option (List ℕ)) → Consumes l l₁ a → StopsAt e most l₁ l₂ at₁ w₂ → StopsAt e (length a + most) l l₂ at w₂
   StopsAt-then e most l l₁ l₂ w₂ consumed second =
       record {
         bytes = a ++ second.bytes;
         consumed = Consumes-trans l l₁ l₂ a second.bytes consumed second.consumed;
         bounded = omega (arith, length-append a second.bytes, second.bounded);
-        part = subst (WritesPrefix w w₂) (sym (later_answers second.bytes)) (WritesPrefix-then w w₁ w₂ _ _ first.answered second.part);
-        whole = λ is. subst (Appends w w₂) (sym (later_answers second.bytes)) (Appends-trans w w₁ w₂ _ _ first.answered (second.whole is));
+        part = subst (WritesPrefix at.written w₂) (sym (later_answers second.bytes)) (WritesPrefix-then at.written at₁.written w₂ _ _ first.answered second.part);
+        whole = λ is. subst (Appends at.written w₂) (sym (later_answers second.bytes)) (Appends-trans at.written at₁.written w₂ _ _ first.answered (second.whole is));
       }
 
 -- a read that failed
-pub StopsAt-none : (e : RunFault) (most : ℕ) (l l' : Option (List ℕ)) (h : List Command) (o : List ℕ) (w : Option (List ℕ)) → Keeps l l' → HasNoFeed o → StopsAt e most l l' h o w w
-StopsAt-none e most l l' h o w kept plain =
-    let none = (Takes-nil h o w plain).answered in
+pub StopsAt-none : (e : RunFault) (most : ℕ) (l l' : Option (List ℕ)) (at : Standing) → Keeps l l' → IsBegun at.begun → StopsAt e most l l' at at.written
+StopsAt-none e most l l' at kept begun =
+    let none = (Takes-nil None at begun).answered in
     record {
       bytes = [];
       consumed = Consumes-kept l l l' [] (Consumes-nil l) kept;
       bounded = omega arith;
-      part = WritesPrefix-whole w w _ none;
+      part = WritesPrefix-whole at.written at.written _ none;
       whole = λ is. none;
     }
 
 -- a piece of which the answers are not all written, for no fault of the source
-pub StopsAt-piece : (e : RunFault) (most : ℕ) (l l' : Option (List ℕ)) (h : List Command) (o : List ℕ) (w w' : Option (List ℕ)) (bytes : List ℕ) (p q : ℕ)
-    → Consumes l l' bytes → length bytes ≤ most → WritesPrefix w w' (answers h (whole_lines (o ++ bytes))) → Shows e 0 0 p q → StopsAt e most l l' h o w w'
-StopsAt-piece e most l l' h o w w' bytes p q consumed fits part shown =
-    record { bytes = bytes; consumed = consumed; bounded = fits; part = part; whole = λ is. absurd (not_source e p q shown is) }
+pub StopsAt-piece : (e : RunFault) (most : ℕ) (l l' : Option (List ℕ)) (at : Standing) (w' : Option (List ℕ)) (bytes : List ℕ) (before after : Counts)
+    → before.source ≡ 0 → after.source ≡ 0
+    → Consumes l l' bytes → length bytes ≤ most → WritesPrefix at.written w' (answers at.log (lines_ended at bytes)) → Shows e before after → StopsAt e most l l' at w'
+StopsAt-piece e most l l' at w' bytes before after none none' consumed fits part shown =
+    record { bytes = bytes; consumed = consumed; bounded = fits; part = part; whole = λ is. absurd (not_source e before after none none' shown is) }
 
 -- ---- the loop over reads
 
 -- what is read so far is taken
-pub record ReadsSoFar (taken : ℕ) (left left' : Option (List ℕ)) (h : List Command) (o : List ℕ) (w : Option (List ℕ)) (h' : List Command) (o' : List ℕ) (w' : Option (List ℕ)) : Type 0 where
+pub record ReadsSoFar (file : Option (List ℕ)) (taken : ℕ) (left left' : Option (List ℕ)) (at at' : Standing) : Type 0 where
   pub bytes : List ℕ
   pub count : length bytes ≡ taken
   pub consumed : Consumes left left' bytes
-  pub takes : Takes bytes h o w h' o' w'
+  pub takes : Takes file bytes at at'
 
-pub ReadsSoFar-none : (l : Option (List ℕ)) (h : List Command) (o : List ℕ) (w : Option (List ℕ)) → HasNoFeed o → ReadsSoFar 0 l l h o w h o w
-ReadsSoFar-none l h o w plain = record { bytes = []; count = refl; consumed = Consumes-nil l; takes = Takes-nil h o w plain }
+pub ReadsSoFar-none : (file : Option (List ℕ)) (l : Option (List ℕ)) (at : Standing) → IsBegun at.begun → ReadsSoFar file 0 l l at at
+ReadsSoFar-none file l at begun = record { bytes = []; count = refl; consumed = Consumes-nil l; takes = Takes-nil file at begun }
 
-module _ (taken : ℕ) (l l₁ : Option (List ℕ)) (h : List Command) (o : List ℕ) (w : Option (List ℕ)) (h₁ : List Command) (o₁ : List ℕ) (w₁ : Option (List ℕ)) (so_far : ReadsSoFar taken l l₁ h o w h₁ o₁ w₁) where
-  pub ReadsSoFar-more : (n most : ℕ) (l₂ : Option (List ℕ)) (h₂ : List Command) (o₂ : List ℕ) (w₂ : Option (List ℕ)) → ReadsOnce n most l₁ l₂ h₁ o₁ w₁ h₂ o₂ w₂ → ReadsSoFar (taken + n) l l₂ h o w h₂ o₂ w₂
-  ReadsSoFar-more n most l₂ h₂ o₂ w₂ once =
+module _ (file : Option (List ℕ)) (taken : ℕ) (l l₁ : Option (List ℕ)) (at at₁ : Standing) (so_far : ReadsSoFar file taken l l₁ at at₁) where
+  pub ReadsSoFar-more : (n most : ℕ) (l₂ : Option (List ℕ)) (at₂ : Standing) → ReadsOnce file n most l₁ l₂ at₁ at₂ → ReadsSoFar file (taken + n) l l₂ at at₂
+  ReadsSoFar-more n most l₂ at₂ once =
       record {
         bytes = so_far.bytes ++ once.bytes;
         count = length-append so_far.bytes once.bytes ∙ (λ i. so_far.count i + once.count i);
         consumed = Consumes-trans l l₁ l₂ so_far.bytes once.bytes so_far.consumed once.consumed;
-        takes = Takes-then so_far.bytes h o w h₁ o₁ w₁ so_far.takes once.bytes h₂ o₂ w₂ once.takes;
+        takes = Takes-then file so_far.bytes at at₁ so_far.takes once.bytes at₂ once.takes;
       }
 
-  pub ReadsSoFar-stop : (e : RunFault) (most all : ℕ) (l₂ w₂ : Option (List ℕ)) → taken + most ≤ all → StopsAt e most l₁ l₂ h₁ o₁ w₁ w₂ → StopsAt e all l l₂ h o w w₂
+  pub ReadsSoFar-stop : (e : RunFault) (most all : ℕ) (l₂ w₂ : Option (List ℕ)) → taken + most ≤ all → StopsAt e most l₁ l₂ at₁ w₂ → StopsAt e all l l₂ at w₂
   ReadsSoFar-stop e most all l₂ w₂ fits part =
-      let stops = StopsAt-then so_far.bytes h o w h₁ o₁ w₁ so_far.takes e most l l₁ l₂ w₂ so_far.consumed part in
+      let stops = StopsAt-then file so_far.bytes at at₁ so_far.takes e most l l₁ l₂ w₂ so_far.consumed part in
       record {
         bytes = stops.bytes;
         consumed = stops.consumed;
@@ -115,18 +156,18 @@ module _ (taken : ℕ) (l l₁ : Option (List ℕ)) (h : List Command) (o : List
         whole = stops.whole;
       }
 
-  -- the line that has begun has no line feed
-  pub ReadsSoFar-plain : HasNoFeed o₁
-  ReadsSoFar-plain = subst HasNoFeed (sym so_far.takes.begun) (HasNoFeed-open (o ++ so_far.bytes))
+  -- what is kept of the line that has begun
+  pub ReadsSoFar-begun : IsBegun at₁.begun
+  ReadsSoFar-begun = subst IsBegun (sym so_far.takes.begun) (IsBegun-kept (open_line (at.begun ++ so_far.bytes)) (HasNoFeed-open (at.begun ++ so_far.bytes)))
 
   -- nothing more was read
-  pub ReadsSoFar-none_more : (e : RunFault) (all : ℕ) (l₂ : Option (List ℕ)) → taken ≤ all → Keeps l₁ l₂ → StopsAt e all l l₂ h o w w₁
-  ReadsSoFar-none_more e all l₂ fits kept = ReadsSoFar-stop e 0 all l₂ w₁ (omega arith) (StopsAt-none e 0 l₁ l₂ h₁ o₁ w₁ kept ReadsSoFar-plain)
+  pub ReadsSoFar-none_more : (e : RunFault) (all : ℕ) (l₂ : Option (List ℕ)) → taken ≤ all → Keeps l₁ l₂ → StopsAt e all l l₂ at at₁.written
+  ReadsSoFar-none_more e all l₂ fits kept = ReadsSoFar-stop e 0 all l₂ at₁.written (omega arith) (StopsAt-none e 0 l₁ l₂ at₁ kept ReadsSoFar-begun)
 
   -- the input is at its end after a read of nothing
-  pub ReadsTo-end : (n most : ℕ) (l₂ : Option (List ℕ)) (h₂ : List Command) (o₂ : List ℕ) (w₂ : Option (List ℕ)) → taken ≤ input_limit → n ≡ 0 → ReadsOnce n most l₁ l₂ h₁ o₁ w₁ h₂ o₂ w₂ → ReadsTo end.AtEnd l l₂ h o w h₂ o₂ w₂
-  ReadsTo-end n most l₂ h₂ o₂ w₂ fits none once =
-      let more = ReadsSoFar-more n most l₂ h₂ o₂ w₂ once in
+  pub ReadsTo-end : (n most : ℕ) (l₂ : Option (List ℕ)) (at₂ : Standing) → taken ≤ input_limit → n ≡ 0 → ReadsOnce file n most l₁ l₂ at₁ at₂ → ReadsTo file end.AtEnd l l₂ at at₂
+  ReadsTo-end n most l₂ at₂ fits none once =
+      let more = ReadsSoFar-more n most l₂ at₂ once in
       record {
         bytes = more.bytes;
         past = [];
@@ -136,7 +177,7 @@ module _ (taken : ℕ) (l l₁ : Option (List ℕ)) (h : List Command) (o : List
       }
 
   -- the bytes up to the limit are read, and then one more, or none
-  pub ReadsTo-limit : (ending : ReadEnd) (l₂ : Option (List ℕ)) (past : List ℕ) → taken ≡ input_limit → Consumes l₁ l₂ past → PastBy ending l₂ past → ReadsTo ending l l₂ h o w h₁ o₁ w₁
+  pub ReadsTo-limit : (ending : ReadEnd) (l₂ : Option (List ℕ)) (past : List ℕ) → taken ≡ input_limit → Consumes l₁ l₂ past → PastBy ending l₂ past → ReadsTo file ending l l₂ at at₁
   ReadsTo-limit end.AtEnd l₂ past full consumed by =
       record {
         bytes = so_far.bytes;

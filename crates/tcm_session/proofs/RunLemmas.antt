@@ -1,283 +1,405 @@
--- From the parts of a run to what it prints, reads and shows.
-use Rattle.std.proofs.Common.{◌≡◌, ℕ, ◌+◌, ◌≤◌, ◌≢◌, IsErrAnd, IfOk, inl, inr, ◌⊎◌, List, [], ◌++◌, length, Option, IfSome, Result, Ok, Err, true, false, refl, sym, ap, subst, length-append, arith}
+-- From the parts of a run to what it prints, reads and leaves.
+use Rattle.std.proofs.Common.{◌≡◌, ℕ, ◌+◌, ◌≤◌, ◌≢◌, IsErrAnd, IfErr, IfOk, inl, inr, ◌⊎◌, Bool, if◌then◌else◌, ◌||◌, ◌==◌, List, [], ◌++◌, length, Option, None, Some, IfSome, Result, Ok, Err, true, false, true≢false, refl, sym, ap, ◌∙◌, subst, length-append, arith}
 use Rattle.std.specs.Io.KnownBytes.{Appends, Consumes}
 use Rattle.std.proofs.KnownBytes.{Appends-trans, Consumes-nil, Keeps-refl}
-use Rattle.std.specs.Io.{StartsWith}
 use Rattle.std.proofs.Transfers.{starts_with_of_append, starts_with_of_eq}
+use Rattle.tcm_edges.specs.Files.{Files, IsLoad}
+use Rattle.tcm_edges.specs.declared.store.Loaded.{Loaded}
 use Rattle.tcm_edges.specs.Owed.{WritesPrefix}
-use Rattle.tcm_edges.proofs.OwedLemmas.{WritesPrefix-then}
-use Rattle.transformations.specs.declared.command.Command.{Command}
-use Rattle.tcm_session.specs.Endings.{ending_text, ending_status, fault_status, status_by}
+use Rattle.tcm_edges.proofs.OwedLemmas.{WritesPrefix-refl, WritesPrefix-then}
+use Rattle.transformations.specs.declared.entry.Entry.{Entry}
+use Rattle.tcm_session.specs.Counts.{Counts}
+use Rattle.tcm_session.specs.Endings.{IsCommitOf, ending_lines, ending_status, ending_text, fault_status, status_by}
+use Rattle.tcm_edges.specs.declared.fault.LoadFault.{LoadFault}
+use Rattle.tcm_edges.specs.declared.fault.LoadFault.TheVariants as load
+use Rattle.tcm_session.specs.Faults.{HasRunCause, of_load}
 use Rattle.tcm_session.specs.Lines.{whole_lines}
-use Rattle.tcm_session.specs.Machine.{answers}
-use Rattle.tcm_session.specs.Outcome.{HasOutcome, Outcome, commit_outcome, input_limit, is_commit, outcome, printed_by, usage_text}
-use Rattle.tcm_session.specs.Run.{HasRead, HasStatus, IsFinal, IsRun, IsStatus, Prints}
-use Rattle.tcm_session.specs.Runs.{HasRunCause, ReadsTo, RunsFor, Shows, StopsAt, Writes}
+use Rattle.tcm_session.specs.LogFiles.{Gains, cut_to_lines, entry_lines, log_of, refused_line_text}
+use Rattle.tcm_session.specs.Machine.{answers, entries_added}
+use Rattle.tcm_session.specs.Outcome.{Outcome, Start, commit_outcome, input_limit, is_commit, log_file, named_log, outcome, outcome_from, outcome_loaded, printed_by, script_outcome, unread_outcome, usage_text}
+use Rattle.tcm_session.specs.Run.{ComesSurely, ComesTo, HasStatus, IsFinal, IsRun, IsStatus, ReadsFor}
+use Rattle.tcm_session.specs.Runs.{IsEnd, MayHold, ReadsTo, RunsFor, RunsOn, Standing, StopsAt, Writes}
 use Rattle.tcm_session.specs.declared.fault.RunFault.{RunFault}
 use Rattle.tcm_session.specs.declared.fault.RunFault.TheVariants as fault
 use Rattle.tcm_session.specs.declared.program.Status.{Status}
+use Rattle.tcm_session.specs.declared.refused_line.RefusedLine.{RefusedLine}
 use Rattle.tcm_session.specs.declared.reading.ReadEnd.{ReadEnd}
 use Rattle.tcm_session.specs.declared.reading.ReadEnd.TheVariants as end
-use Rattle.tcm_session.proofs.RunCauses.{Shows-sourced, not_source}
-use Rattle.tcm_session.proofs.RunOutcomes.{begins_stopped, ended, of_commit, of_others, rest_of, told_rest}
+use Rattle.tcm_session.proofs.CutLemmas.{behind_held, behind_loaded, files_behind}
+use Rattle.tcm_session.proofs.KeptLemmas.{IsBegun-nil}
 use Rattle.tcm_session.proofs.ReadLemmas.{StopsAt-none}
+use Rattle.tcm_session.proofs.RunCauses.{not_source}
+use Rattle.tcm_session.proofs.RunOutcomes.{at_start, begins_stopped, ended, held_gained, of_commit, of_others, rest_of, script_log, script_reads, told_rest}
 
--- ---- what is printed
+-- ---- what a run comes to
 
-module _ (f : List ℕ → Outcome) (l w w' : Option (List ℕ)) (status : ℕ) (input : List ℕ) (told : IfSome l (λ bytes. bytes ≡ input)) where
-  -- a prefix, at a status that isn't final
-  prints_part : (IsFinal status → ⊥) → WritesPrefix w w' (printed_by (f input)) → Prints f l w w' status
-  prints_part not_final part =
-      record {
-        input = input;
-        told = told;
-        printed = part.owes.front;
-        wrote = part.owes.appends;
-        prefix = starts_with_of_append (printed_by (f input)) part.owes.front part.owed part.owes.split;
-        final = λ is. absurd (not_final is);
-      }
-
-  -- all of it
-  prints_whole : status ≡ (f input).status → Appends w w' (printed_by (f input)) → Prints f l w w' status
-  prints_whole is wrote =
-      record {
-        input = input;
-        told = told;
-        printed = printed_by (f input);
-        wrote = wrote;
-        prefix = starts_with_of_eq (printed_by (f input)) (printed_by (f input)) refl;
-        final = λ _. (is, refl);
-      }
-
-fault_not_final : (e : RunFault) → IsFinal (fault_status e) → ⊥
-fault_not_final fault.Memory is = is.0 refl
-fault_not_final fault.Source is = is.1 refl
-fault_not_final fault.Sink is = is.2 refl
-
--- ---- what a status shows
-
-module _ (s s' k k' : ℕ) (source_later : s ≤ s') (sink_later : k ≤ k') where
-  shows_fault : (e : RunFault) → Shows e s s' k k' → HasStatus s s' k k' (fault_status e)
-  shows_fault fault.Memory shown =
-      record {
-        is = refl;
-        source_later = source_later;
-        sink_later = sink_later;
-        source_cause = λ is. absurd (omega arith);
-        sink_cause = λ is. absurd (omega arith);
-        complete = λ no_source no_sink. inl refl;
-      }
-  shows_fault fault.Source shown =
-      record {
-        is = refl;
-        source_later = source_later;
-        sink_later = sink_later;
-        source_cause = λ is. shown;
-        sink_cause = λ is. absurd (omega arith);
-        complete = λ no_source no_sink. absurd (no_source shown);
-      }
-  shows_fault fault.Sink shown =
-      record {
-        is = refl;
-        source_later = source_later;
-        sink_later = sink_later;
-        source_cause = λ is. absurd (omega arith);
-        sink_cause = λ is. shown;
-        complete = λ no_source no_sink. absurd (no_sink shown);
-      }
-
-  shows_final : (status : ℕ) → IsStatus status → IsFinal status → HasStatus s s' k k' status
-  shows_final status is final =
-      record {
-        is = is;
-        source_later = source_later;
-        sink_later = sink_later;
-        source_cause = λ four. absurd (final.1 four);
-        sink_cause = λ five. absurd (final.2 five);
-        complete = λ no_source no_sink. inr final;
-      }
-
-  shows_end : (ending : ReadEnd) → HasStatus s s' k k' (ending_status ending)
-  shows_end end.AtEnd = shows_final 0 refl ((λ e. omega arith), (λ e. omega arith), (λ e. omega arith))
-  shows_end end.PastLimit = shows_final 8 refl ((λ e. omega arith), (λ e. omega arith), (λ e. omega arith))
-
--- ---- what is read
-
-module _ (l l' w w' : Option (List ℕ)) (read : List ℕ) (consumed : Consumes l l' read) (most : length read ≤ input_limit + 1) where
-  reads_fault : (e : RunFault) → (e ≡ fault.Source → Appends w w' (answers [] (whole_lines read))) → HasRead l l' w w' (fault_status e)
-  reads_fault fault.Memory whole =
-      record {
-        read = read;
-        consumed = consumed;
-        most = most;
-        at_end = λ is. absurd (omega arith);
-        past_limit = λ is. absurd (omega arith);
-        read_fault = λ is. absurd (omega arith);
-      }
-  reads_fault fault.Source whole =
-      record {
-        read = read;
-        consumed = consumed;
-        most = most;
-        at_end = λ is. absurd (omega arith);
-        past_limit = λ is. absurd (omega arith);
-        read_fault = λ is. whole refl;
-      }
-  reads_fault fault.Sink whole =
-      record {
-        read = read;
-        consumed = consumed;
-        most = most;
-        at_end = λ is. absurd (omega arith);
-        past_limit = λ is. absurd (omega arith);
-        read_fault = λ is. absurd (omega arith);
-      }
-
--- nothing, at a status that is none of these
-reads_nothing : (l w w' : Option (List ℕ)) (status : ℕ) → status ≢ 0 → status ≢ 8 → status ≢ 4 → HasRead l l w w' status
-reads_nothing l w w' status a b c =
+-- a prefix is printed, at a status that isn't final
+comes_part : (o : Outcome) (w w' : Option (List ℕ)) (f' : Option Files) (status : ℕ) → (IsFinal status → ⊥) → WritesPrefix w w' (printed_by o) → ComesTo o w w' f' status
+comes_part o w w' f' status not_final part =
     record {
-      read = [];
-      consumed = Consumes-nil l;
-      most = omega arith;
-      at_end = λ is. absurd (a is);
-      past_limit = λ is. absurd (b is);
-      read_fault = λ is. absurd (c is);
+      printed = part.owes.front;
+      wrote = part.owes.appends;
+      prefix = starts_with_of_append (printed_by o) part.owes.front part.owed part.owes.split;
+      status = λ is. absurd (not_final is);
+      whole = λ is. absurd (not_final is);
+      files = λ is. absurd (not_final is);
     }
 
-module _ (l l' w w₁ : Option (List ℕ)) (h : List Command) (o : List ℕ) where
-  most_read : (ending : ReadEnd) (reads : ReadsTo ending l l' [] [] w h o w₁) → length (reads.bytes ++ reads.past) ≤ input_limit + 1
-  most_read end.AtEnd reads = let none = ap length reads.ends.2 in omega (arith, length-append reads.bytes reads.past, reads.ends.1, none)
-  most_read end.PastLimit reads = omega (arith, length-append reads.bytes reads.past, reads.ends.0, reads.ends.1)
+-- all of it is printed
+comes_whole : (o : Outcome) (w w' : Option (List ℕ)) (f' : Option Files) (status : ℕ) → status ≡ o.status → Appends w w' (printed_by o) → MayHold f' o.files → ComesTo o w w' f' status
+comes_whole o w w' f' status is wrote held =
+    record {
+      printed = printed_by o;
+      wrote = wrote;
+      prefix = starts_with_of_eq (printed_by o) (printed_by o) refl;
+      status = λ _. is;
+      whole = λ _. refl;
+      files = λ _. held;
+    }
 
-  reads_end : (w' : Option (List ℕ)) (ending : ReadEnd) → ReadsTo ending l l' [] [] w h o w₁ → HasRead l l' w w' (ending_status ending)
-  reads_end w' end.AtEnd reads =
-      record {
-        read = reads.bytes ++ reads.past;
-        consumed = reads.consumed;
-        most = most_read end.AtEnd reads;
-        at_end = λ is. reads.ends.0;
-        past_limit = λ is. absurd (omega arith);
-        read_fault = λ is. absurd (omega arith);
-      }
-  reads_end w' end.PastLimit reads =
-      record {
-        read = reads.bytes ++ reads.past;
-        consumed = reads.consumed;
-        most = most_read end.PastLimit reads;
-        at_end = λ is. absurd (omega arith);
-        past_limit = λ is. omega (arith, length-append reads.bytes reads.past, reads.ends.0, reads.ends.1);
-        read_fault = λ is. absurd (omega arith);
-      }
+fault_not_final : (e : RunFault) → IsFinal (fault_status e) → ⊥
+fault_not_final fault.Memory is = is.memory refl
+fault_not_final fault.Source is = is.source refl
+fault_not_final fault.Sink is = is.sink refl
+fault_not_final fault.Store is = is.store refl
+
+-- the status of a fault is neither 0 nor 8, and 4 only at a fault of the source
+fault_not_0 : (e : RunFault) → fault_status e ≢ 0
+fault_not_0 fault.Memory is = omega arith
+fault_not_0 fault.Source is = omega arith
+fault_not_0 fault.Sink is = omega arith
+fault_not_0 fault.Store is = omega arith
+
+fault_not_8 : (e : RunFault) → fault_status e ≢ 8
+fault_not_8 fault.Memory is = omega arith
+fault_not_8 fault.Source is = omega arith
+fault_not_8 fault.Sink is = omega arith
+fault_not_8 fault.Store is = omega arith
+
+fault_4 : (e : RunFault) → fault_status e ≡ 4 → e ≡ fault.Source
+fault_4 fault.Memory is = absurd (omega arith)
+fault_4 fault.Source is = refl
+fault_4 fault.Sink is = absurd (omega arith)
+fault_4 fault.Store is = absurd (omega arith)
+
+fault_6 : (e : RunFault) → fault_status e ≡ 6 → e ≡ fault.Store
+fault_6 fault.Memory is = absurd (omega arith)
+fault_6 fault.Source is = absurd (omega arith)
+fault_6 fault.Sink is = absurd (omega arith)
+fault_6 fault.Store is = refl
 
 -- ---- a script
 
+module _ {S : Type 0} (start : Start) (left : S → Option (List ℕ)) (input input' : S) (w w' : Option (List ℕ)) (f' : Option Files) where
+  -- it stopped at a fault, after these bytes were read
+  script_stopped : (e : RunFault) (given read : List ℕ) → IfSome (left input) (λ bytes. bytes ≡ given) → WritesPrefix w w' (printed_by (script_outcome start given))
+      → Consumes (left input) (left input') read → length read ≤ input_limit + 1 → (e ≡ fault.Source → Appends w w' (answers start.log (whole_lines read)))
+      → RunsFor (script_outcome start) left input input' w w' f' (fault_status e)
+  script_stopped e given read told part consumed most whole =
+      record {
+        given = given;
+        told = told;
+        comes = comes_part (script_outcome start given) w w' f' (fault_status e) (fault_not_final e) part;
+        reads = record {
+          reads = record {
+            read = read;
+            consumed = consumed;
+            most = most;
+            at_end = λ is. absurd (fault_not_0 e is);
+            read_fault = λ is. subst (λ log. Appends w w' (answers log (whole_lines read))) (sym (script_log start given)) (whole (fault_4 e is));
+          };
+          past_limit = λ is _. absurd (fault_not_8 e is);
+          unread = λ no. absurd (true≢false (sym (script_reads start given) ∙ no));
+        };
+      }
+
 -- a fault that a `?` passes on
-pub runs_err : (f : List ℕ → Outcome) (l l' w w' : Option (List ℕ)) (s s' k k' : ℕ) (r : Result Status RunFault) (e : RunFault) → IsErrAnd r (λ y. y ≡ e)
-    → RunsFor f l l' w w' s s' k k' (fault_status e) → RunsFor f l l' w w' s s' k k' (status_by r)
-runs_err f l l' w w' s s' k k' (Ok x) e is runs = absurd is
-runs_err f l l' w w' s s' k k' (Err y) e is runs = subst (λ x. RunsFor f l l' w w' s s' k k' (fault_status x)) (sym is) runs
+pub runs_err : {S : Type 0} (outcome_of : List ℕ → Outcome) (left : S → Option (List ℕ)) (input input' : S) (w w' : Option (List ℕ)) (f' : Option Files) (r : Result Status RunFault) (e : RunFault) → IsErrAnd r (λ y. y ≡ e)
+    → RunsFor outcome_of left input input' w w' f' (fault_status e) → RunsFor outcome_of left input input' w w' f' (status_by r)
+runs_err outcome_of left input input' w w' f' (Ok x) e is runs = absurd is
+runs_err outcome_of left input input' w w' f' (Err y) e is runs = subst (λ x. RunsFor outcome_of left input input' w w' f' (fault_status x)) (sym is) runs
 
 -- reading stopped at a fault
-pub runs_stopped : {T : Type 0} (l l' w w' : Option (List ℕ)) (s s' k k' : ℕ) (e : RunFault) → StopsAt e input_limit l l' [] [] w w' → HasRunCause {T = T} s s' k k' (Err e)
-    → RunsFor commit_outcome l l' w w' s s' k k' (fault_status e)
-runs_stopped l l' w w' s s' k k' e stops cause =
-    let begins = begins_stopped e l l' w w' stops in
-    record {
-      prints = prints_part commit_outcome l w w' (fault_status e) begins.input begins.told (fault_not_final e) begins.part;
-      reads = reads_fault l l' w w' stops.bytes stops.consumed (omega (arith, stops.bounded)) e stops.whole;
-      shows = shows_fault s s' k k' cause.source_later cause.sink_later e cause.shown;
-    }
+pub runs_stopped : {S : Type 0} (start : Start) (left : S → Option (List ℕ)) (input input' : S) (w w' : Option (List ℕ)) (f f' : Option Files) (e : RunFault)
+    → StopsAt e input_limit (left input) (left input') (at_start start w f) w' → RunsFor (script_outcome start) left input input' w w' f' (fault_status e)
+runs_stopped start left input input' w w' f f' e stops =
+    let begins = begins_stopped start e (left input) (left input') w w' f stops in
+    script_stopped start left input input' w w' f' e begins.input stops.bytes begins.told begins.part stops.consumed (omega (arith, stops.bounded)) stops.whole
 
--- memory is wanting before anything is read
-pub runs_none : (l w : Option (List ℕ)) (s k : ℕ) → RunsFor commit_outcome l l w w s s k k 1
-runs_none l w s k =
-    runs_stopped {T = ℕ} l l w w s s k k fault.Memory (StopsAt-none fault.Memory input_limit l l [] [] w (Keeps-refl l) tt)
-    (record { source_later = omega arith; sink_later = omega arith; shown = tt })
+-- a fault comes before anything is read
+pub runs_none : {S : Type 0} (start : Start) (left : S → Option (List ℕ)) (input : S) (w : Option (List ℕ)) (f' : Option Files) (e : RunFault) → RunsFor (script_outcome start) left input input w w f' (fault_status e)
+runs_none start left input w f' e =
+    runs_stopped start left input input w w f' f' e (StopsAt-none e input_limit (left input) (left input) (at_start start w f') (Keeps-refl (left input)) IsBegun-nil)
 
--- what the end of a run shows, the whole of it shows
-wider : (e : RunFault) (s s' k k₁ k' : ℕ) → k ≤ k₁ → Shows e 0 0 k₁ k' → Shows e s s' k k'
-wider fault.Memory s s' k k₁ k' later shown = tt
-wider fault.Source s s' k k₁ k' later shown = absurd (omega (arith, shown))
-wider fault.Sink s s' k k₁ k' later shown = omega (arith, shown)
+module _ {S : Type 0} (start : Start) (left : S → Option (List ℕ)) (input input' : S) (w w' : Option (List ℕ)) (f f' : Option Files) (at' : Standing) (ending : ReadEnd)
+    (reads : ReadsTo start.file ending (left input) (left input') (at_start start w f) at') (before after : Counts) (none : before.source ≡ 0) (none' : after.source ≡ 0) where
+  most_read : (ending : ReadEnd) (reads : ReadsTo start.file ending (left input) (left input') (at_start start w f) at') → length (reads.bytes ++ reads.past) ≤ input_limit + 1
+  most_read end.AtEnd reads = let nothing = ap length reads.ends.2 in omega (arith, length-append reads.bytes reads.past, reads.ends.1, nothing)
+  most_read end.PastLimit reads = omega (arith, length-append reads.bytes reads.past, reads.ends.0, reads.ends.1)
 
-module _ {X : Type 0} (l l' w w₁ w' : Option (List ℕ)) (s s' k k₁ k' : ℕ) (h : List Command) (o : List ℕ) (ending : ReadEnd) (reads : ReadsTo ending l l' [] [] w h o w₁) (cause : HasRunCause s s' k k₁ (Ok ending)) where
   -- of what is due last a prefix is written
-  pub runs_part : (e : RunFault) → Writes {T = X} (ending_text ending h o) w₁ w' k₁ k' (Err e) → RunsFor commit_outcome l l' w w' s s' k k' (fault_status e)
+  pub runs_part : {X : Type 0} (e : RunFault) → Writes {T = X} (ending_text ending at'.log at'.begun) at'.written w' before after (Err e) → RunsFor (script_outcome start) left input input' w w' f' (fault_status e)
   runs_part e writes =
-      let is = ended l l' w w₁ h o ending reads in
-      record {
-        prints = prints_part commit_outcome l w w' (fault_status e) is.input is.told (fault_not_final e)
-            (subst (WritesPrefix w w') (sym is.printed) (WritesPrefix-then w w₁ w' _ _ reads.takes.answered writes.part));
-        reads = reads_fault l l' w w' (reads.bytes ++ reads.past) reads.consumed (most_read l l' w w₁ h o ending reads) e (λ is. absurd (not_source e k₁ k' writes.cause.shown is));
-        shows = shows_fault s s' k k' cause.source_later (omega (arith, cause.sink_later, writes.cause.sink_later)) e (wider e s s' k k₁ k' cause.sink_later writes.cause.shown);
-      }
+      let is = ended start (left input) (left input') w f at' ending reads in
+      script_stopped start left input input' w w' f' e is.input (reads.bytes ++ reads.past) is.told
+      (subst (WritesPrefix w w') (sym is.printed) (WritesPrefix-then w at'.written w' _ _ reads.takes.answered writes.part))
+      reads.consumed (most_read ending reads) (λ source. absurd (not_source e before after none none' writes.cause.shown source))
 
   -- all of it is written
-  pub runs_whole : (x : X) → Writes (ending_text ending h o) w₁ w' k₁ k' (Ok x) → RunsFor commit_outcome l l' w w' s s' k k' (ending_status ending)
-  runs_whole x writes =
-      let is = ended l l' w w₁ h o ending reads in
+  reads_end : (o : Outcome) → o.reads ≡ true → (ending : ReadEnd) (reads : ReadsTo start.file ending (left input) (left input') (at_start start w f) at') → ReadsFor o left input input' w w' (ending_status ending)
+  reads_end o is_read end.AtEnd reads =
       record {
-        prints = prints_whole commit_outcome l w w' (ending_status ending) is.input is.told (sym is.status)
-            (subst (Appends w w') (sym is.printed) (Appends-trans w w₁ w' _ _ reads.takes.answered writes.whole));
-        reads = reads_end l l' w w₁ h o w' ending reads;
-        shows = shows_end s s' k k' cause.source_later (omega (arith, cause.sink_later, writes.cause.sink_later)) ending;
-      }
-
--- ---- by the words
-
-module _ (words : List (List ℕ)) (l l' w w' : Option (List ℕ)) (s s' k k' : ℕ) where
-  pub runs_commit : (status : ℕ) → is_commit words ≡ true → RunsFor commit_outcome l l' w w' s s' k k' status → RunsFor (outcome words) l l' w w' s s' k k' status
-  runs_commit status e runs =
-      let same = sym (of_commit words e runs.prints.input) in
-      record {
-        prints = record {
-          input = runs.prints.input;
-          told = runs.prints.told;
-          printed = runs.prints.printed;
-          wrote = runs.prints.wrote;
-          prefix = subst (λ (x : Outcome). StartsWith (printed_by x) runs.prints.printed) same runs.prints.prefix;
-          final = subst (λ (x : Outcome). IsFinal status → (status ≡ x.status) × (runs.prints.printed ≡ printed_by x)) same runs.prints.final;
+        reads = record {
+          read = reads.bytes ++ reads.past;
+          consumed = reads.consumed;
+          most = most_read end.AtEnd reads;
+          at_end = λ is. reads.ends.0;
+          read_fault = λ is. absurd (omega arith);
         };
-        reads = runs.reads;
-        shows = runs.shows;
+        past_limit = λ is _. absurd (omega arith);
+        unread = λ no. absurd (true≢false (sym is_read ∙ no));
       }
-
--- the usage line
-module _ (words : List (List ℕ)) (l w w' : Option (List ℕ)) (s k k' : ℕ) (e : is_commit words ≡ false) where
-  pub runs_others : (r : Result Status RunFault) → Writes usage_text w w' k k' r → IfOk r (λ status. status.0 ≡ 2) → RunsFor (outcome words) l l w w' s s k k' (status_by r)
-  runs_others (Ok x) writes two =
-      let is = sym (of_others words e (rest_of l)) in
-      subst (RunsFor (outcome words) l l w w' s s k k') (sym two)
-      (record {
-        prints = prints_whole (outcome words) l w w' 2 (rest_of l) (told_rest l) (ap (λ (x : Outcome). x.status) is)
-            (subst (λ (x : Outcome). Appends w w' (printed_by x)) is writes.whole);
-        reads = reads_nothing l w w' 2 (λ is. omega arith) (λ is. omega arith) (λ is. omega arith);
-        shows = shows_final s s k k' (omega arith) writes.cause.sink_later 2 refl ((λ e. omega arith), (λ e. omega arith), (λ e. omega arith));
-      })
-  runs_others (Err f) writes two =
-      let is = sym (of_others words e (rest_of l)) in
+  reads_end o is_read end.PastLimit reads =
       record {
-        prints = prints_part (outcome words) l w w' (fault_status f) (rest_of l) (told_rest l) (fault_not_final f)
-            (subst (λ (x : Outcome). WritesPrefix w w' (printed_by x)) is writes.part);
-        reads = reads_fault l l w w' [] (Consumes-nil l) (omega arith) f (λ is. absurd (not_source f k k' writes.cause.shown is));
-        shows = shows_fault s s k k' (omega arith) writes.cause.sink_later f (Shows-sourced f s s k k' writes.cause.shown);
+        reads = record {
+          read = reads.bytes ++ reads.past;
+          consumed = reads.consumed;
+          most = most_read end.PastLimit reads;
+          at_end = λ is. absurd (omega arith);
+          read_fault = λ is. absurd (omega arith);
+        };
+        past_limit = λ is _. omega (arith, length-append reads.bytes reads.past, reads.ends.0, reads.ends.1);
+        unread = λ no. absurd (true≢false (sym is_read ∙ no));
       }
 
--- it has no fault of the source
-pub others_not_4 : (w w' : Option (List ℕ)) (k k' : ℕ) (r : Result Status RunFault) → Writes usage_text w w' k k' r → IfOk r (λ status. status.0 ≡ 2) → status_by r ≢ 4
-others_not_4 w w' k k' (Ok x) writes two four = omega (arith, two, four)
-others_not_4 w w' k k' (Err f) writes two four = by f writes.cause.shown four
-  where
-    by : (f : RunFault) → Shows f 0 0 k k' → fault_status f ≡ 4 → ⊥
-    by fault.Memory shown four = omega arith
-    by fault.Source shown four = not_source fault.Source k k' shown refl
-    by fault.Sink shown four = omega arith
+  pub runs_whole : {X : Type 0} (x : X) → MayHold f start.files → Writes (ending_text ending at'.log at'.begun) at'.written w' before after (Ok x)
+      → Gains start.file (entry_lines (entries_added at'.log (ending_lines ending at'.begun))) at'.files f' → RunsFor (script_outcome start) left input input' w w' f' (ending_status ending)
+  runs_whole x held writes gained =
+      let is = ended start (left input) (left input') w f at' ending reads in
+      record {
+        given = is.input;
+        told = is.told;
+        comes = comes_whole (script_outcome start is.input) w w' f' (ending_status ending) (sym is.status)
+            (subst (Appends w w') (sym is.printed) (Appends-trans w at'.written w' _ _ reads.takes.answered writes.whole))
+            (subst (MayHold f') (sym is.files) (held_gained start.file _ at'.files f' _ (held_gained start.file _ f at'.files start.files held reads.takes.files) gained));
+        reads = reads_end (script_outcome start is.input) (script_reads start is.input) ending reads;
+      }
 
--- ---- where nothing fails
+-- ---- an outcome that reads nothing
 
-pub sure_outcome : (words : List (List ℕ)) (l w w' : Option (List ℕ)) (status : ℕ) → IsRun words l w w' status → (status ≡ 1) ⊎ IsFinal status → (status ≡ 1) ⊎ HasOutcome (outcome words) l w w' status
-sure_outcome words l w w' status run (inl one) = inl one
-sure_outcome words l w w' status run (inr final) =
-    let is = run.prints.final final in
-    inr (record { input = run.prints.input; told = run.prints.told; status = is.0; printed = subst (Appends w w') is.1 run.prints.wrote })
+module _ {S : Type 0} (status : ℕ) (last : List ℕ) (all : Files) (left : S → Option (List ℕ)) (input : S) (w w' : Option (List ℕ)) (f' : Option Files) (before after : Counts) (none : before.source ≡ 0) (none' : after.source ≡ 0) where
+  reads_nothing : (ended : ℕ) → ended ≢ 0 → ended ≢ 4 → ReadsFor (unread_outcome status last all) left input input w w' ended
+  reads_nothing ended not_0 not_4 =
+      record {
+        reads = record {
+          read = [];
+          consumed = Consumes-nil (left input);
+          most = omega arith;
+          at_end = λ is. absurd (not_0 is);
+          read_fault = λ is. absurd (not_4 is);
+        };
+        past_limit = λ is no. absurd (true≢false (sym no));
+        unread = λ _. (refl, not_4);
+      }
+
+  pub runs_unread : (r : Result Status RunFault) → status ≢ 0 → status ≢ 4 → MayHold f' all → Writes last w w' before after r → IfOk r (λ s. s.0 ≡ status)
+      → RunsFor (λ _. unread_outcome status last all) left input input w w' f' (status_by r)
+  runs_unread (Ok s) not_0 not_4 held writes is =
+      subst (RunsFor (λ _. unread_outcome status last all) left input input w w' f') (sym is)
+      (record {
+        given = rest_of (left input);
+        told = told_rest (left input);
+        comes = comes_whole (unread_outcome status last all) w w' f' status refl writes.whole held;
+        reads = reads_nothing status not_0 not_4;
+      })
+  runs_unread (Err e) not_0 not_4 held writes is =
+      record {
+        given = rest_of (left input);
+        told = told_rest (left input);
+        comes = comes_part (unread_outcome status last all) w w' f' (fault_status e) (fault_not_final e) writes.part;
+        reads = reads_nothing (fault_status e) (fault_not_0 e) (λ four. not_source e before after none none' writes.cause.shown (fault_4 e four));
+      }
+
+-- ---- what a status shows
+
+-- four of eight tests
+of_eight : (a b c d e f g h : Bool) → (a || c || d || h) ≡ true → (a || b || c || d || e || f || g || h) ≡ true
+of_eight true b c d e f g h is = refl
+of_eight false true c d e f g h is = refl
+of_eight false false true d e f g h is = refl
+of_eight false false false true e f g h is = refl
+of_eight false false false false true f g h is = refl
+of_eight false false false false false true g h is = refl
+of_eight false false false false false false true h is = refl
+of_eight false false false false false false false h is = is
+
+final_end : (status : ℕ) → IsEnd status → IsStatus status × IsFinal status
+final_end status is = (
+  of_eight (status == 0) (status == 1) (status == 2) (status == 3) (status == 4) (status == 5) (status == 6) (status == 8) is,
+  record {
+    memory = λ e. true≢false (sym (subst IsEnd e is));
+    source = λ e. true≢false (sym (subst IsEnd e is));
+    sink = λ e. true≢false (sym (subst IsEnd e is));
+    store = λ e. true≢false (sym (subst IsEnd e is));
+  },
+)
+
+pub shows_status : (before after : Counts) (r : Result Status RunFault) → HasRunCause before after r → IfOk r (λ s. IsEnd s.0) → HasStatus before after (status_by r)
+shows_status before after (Ok s) cause is =
+    let final = final_end s.0 is in
+    record {
+      is = final.0;
+      later = cause.later;
+      source_cause = λ four. absurd (final.1.source four);
+      sink_cause = λ five. absurd (final.1.sink five);
+      store_cause = λ six. absurd (final.1.store six);
+      complete = λ a b c. inr final.1;
+    }
+shows_status before after (Err fault.Memory) cause is =
+    record {
+      is = refl;
+      later = cause.later;
+      source_cause = λ e. absurd (omega arith);
+      sink_cause = λ e. absurd (omega arith);
+      store_cause = λ e. absurd (omega arith);
+      complete = λ a b c. inl refl;
+    }
+shows_status before after (Err fault.Source) cause is =
+    record {
+      is = refl;
+      later = cause.later;
+      source_cause = λ e. cause.shown;
+      sink_cause = λ e. absurd (omega arith);
+      store_cause = λ e. absurd (omega arith);
+      complete = λ a b c. absurd (a cause.shown);
+    }
+shows_status before after (Err fault.Sink) cause is =
+    record {
+      is = refl;
+      later = cause.later;
+      source_cause = λ e. absurd (omega arith);
+      sink_cause = λ e. cause.shown;
+      store_cause = λ e. absurd (omega arith);
+      complete = λ a b c. absurd (b cause.shown);
+    }
+shows_status before after (Err fault.Store) cause is =
+    record {
+      is = refl;
+      later = cause.later;
+      source_cause = λ e. absurd (omega arith);
+      sink_cause = λ e. absurd (omega arith);
+      store_cause = λ e. cause.shown;
+      complete = λ a b c. absurd (c cause.shown);
+    }
+
+-- a status of 6 is a fault of the store
+pub not_6 : (r : Result Status RunFault) → IfOk r (λ s. IsEnd s.0) → IfErr r (λ e. e ≢ fault.Store) → status_by r ≢ 6
+not_6 (Ok s) is none six = (final_end s.0 is).1.store six
+not_6 (Err e) is none six = none (fault_6 e six)
+
+-- ---- a run with a log file
+
+pub memory_not_source : fault.Memory ≢ fault.Source
+memory_not_source e = cc
+
+-- a fault comes before anything is read or written
+pub runs_early : {S : Type 0} (left : S → Option (List ℕ)) (input : S) (w : Option (List ℕ)) (outcome_of : List ℕ → Outcome) (f' : Option Files) (e : RunFault) → e ≢ fault.Source → RunsFor outcome_of left input input w w f' (fault_status e)
+runs_early left input w outcome_of f' e other =
+    let given = rest_of (left input) in
+    let not_4 : fault_status e ≢ 4 = λ four. other (fault_4 e four) in
+    record {
+      given = given;
+      told = told_rest (left input);
+      comes = comes_part (outcome_of given) w w f' (fault_status e) (fault_not_final e) (WritesPrefix-refl w (printed_by (outcome_of given)));
+      reads = record {
+        reads = record {
+          read = [];
+          consumed = Consumes-nil (left input);
+          most = omega arith;
+          at_end = λ is. absurd (fault_not_0 e is);
+          read_fault = λ is. absurd (not_4 is);
+        };
+        past_limit = λ is _. absurd (fault_not_8 e is);
+        unread = λ _. (refl, not_4);
+      };
+    }
+
+module _ {S : Type 0} (left : S → Option (List ℕ)) (input input' : S) (w w' : Option (List ℕ)) where
+  -- the log is refused, or a script runs from it
+  pub runs_refused : (name : List ℕ) (all : Files) (file : List ℕ) (refused : RefusedLine) (f' : Option Files) (status : ℕ) → log_of file ≡ Err refused
+      → RunsFor (λ _. unread_outcome 3 (refused_line_text refused) all) left input input' w w' f' status → RunsFor (outcome_from name all file (log_of file)) left input input' w w' f' status
+  runs_refused name all file refused f' status is runs = subst (λ r. RunsFor (outcome_from name all file r) left input input' w w' f' status) (sym is) runs
+
+  pub runs_resumed : (name : List ℕ) (all : Files) (file : List ℕ) (log : List Entry) (f' : Option Files) (status : ℕ) → log_of file ≡ Ok log
+      → RunsFor (script_outcome (record { log = log; file = Some name; files = cut_to_lines name file all })) left input input' w w' f' status → RunsFor (outcome_from name all file (log_of file)) left input input' w w' f' status
+  runs_resumed name all file log f' status is runs = subst (λ r. RunsFor (outcome_from name all file r) left input input' w w' f' status) (sym is) runs
+
+  -- some file was loaded
+  pub runs_loaded : (name : List ℕ) (files f' : Option Files) (loaded : Loaded) (load : IsLoad files name input_limit loaded) (status : ℕ)
+      → RunsFor (outcome_loaded name (files_behind files name load.file) loaded) left input input' w w' f' status → RunsOn (commit_outcome (Some name)) left input input' w w' files f' status
+  runs_loaded name files f' loaded load status runs =
+      let all = files_behind files name load.file in
+      record {
+        all = all;
+        held = behind_held files name load.file;
+        runs = subst (λ it. RunsFor (outcome_loaded name all it) left input input' w w' f' status) (behind_loaded files name input_limit loaded load) runs;
+      }
+
+  -- some files, where nothing is known of them
+  pub runs_unloaded : (outcome_of : Files → List ℕ → Outcome) (files f' : Option Files) (status : ℕ) → ((all : Files) → MayHold files all → RunsFor (outcome_of all) left input input' w w' f' status)
+      → RunsOn outcome_of left input input' w w' files f' status
+  runs_unloaded outcome_of files f' status runs =
+      let all = files_behind files [] None in
+      let held = behind_held files [] None in
+      record { all = all; held = held; runs = runs all held }
+
+  -- the words
+  pub runs_commit : (words : List (List ℕ)) (file : Option (List ℕ)) (files f' : Option Files) (status : ℕ) → is_commit words ≡ true → log_file words ≡ file
+      → RunsOn (commit_outcome file) left input input' w w' files f' status → RunsOn (outcome words) left input input' w w' files f' status
+  runs_commit words file files f' status e named on =
+      let same : commit_outcome file ≡ outcome words = (λ i all given. sym (of_commit words e all given ∙ ap (λ f. commit_outcome f all given) named) i) in
+      subst (λ o. RunsOn o left input input' w w' files f' status) same on
+
+  pub runs_usage : (words : List (List ℕ)) (files f' : Option Files) (status : ℕ) → is_commit words ≡ false
+      → RunsOn (λ all _. unread_outcome 2 usage_text all) left input input' w w' files f' status → RunsOn (outcome words) left input input' w w' files f' status
+  runs_usage words files f' status e on =
+      let usage : Files → List ℕ → Outcome = λ all _. unread_outcome 2 usage_text all in
+      let same : usage ≡ outcome words = (λ i all given. sym (of_others words e all given) i) in
+      subst (λ o. RunsOn o left input input' w w' files f' status) same on
+
+-- the fault of a load is none of the source
+pub load_not_source : (e : LoadFault) → of_load e ≢ fault.Source
+load_not_source load.Failed is = cc
+load_not_source load.Memory is = cc
+
+-- a fault that a `?` passes on
+pub runs_err_on : {S : Type 0} (outcome_of : Files → List ℕ → Outcome) (left : S → Option (List ℕ)) (input input' : S) (w w' : Option (List ℕ)) (f f' : Option Files) (r : Result Status RunFault) (e : RunFault) → IsErrAnd r (λ y. y ≡ e)
+    → RunsOn outcome_of left input input' w w' f f' (fault_status e) → RunsOn outcome_of left input input' w w' f f' (status_by r)
+runs_err_on outcome_of left input input' w w' f f' r e is on =
+    record { all = on.all; held = on.held; runs = runs_err (outcome_of on.all) left input input' w w' f' r e is on.runs }
+
+-- ---- the words that were found
+
+-- words that are `commit`, with the file that they name
+pub said_commit : (words : List (List ℕ)) (o : Option (Option (List ℕ))) (file : Option (List ℕ)) → o ≡ Some file → IsCommitOf words o → (is_commit words ≡ true) × (log_file words ≡ file)
+said_commit words o file is said = subst (IsCommitOf words) is said
+
+pub said_others : (words : List (List ℕ)) (o : Option (Option (List ℕ))) → o ≡ None → IsCommitOf words o → is_commit words ≡ false
+said_others words o is said = subst (IsCommitOf words) is said
+
+pub named_file : (words : List (List ℕ)) (file : Option (List ℕ)) → is_commit words ≡ true → log_file words ≡ file → named_log words ≡ file
+named_file words file e is = ap (λ b. if b then log_file words else None) e ∙ is
+
+-- ---- over objects that never fail
+
+pub comes_surely : {S : Type 0} (words : List (List ℕ)) (left : S → Option (List ℕ)) (input input' : S) (bytes w w' : List ℕ) (all all' : Files) (status : ℕ) → left input ≡ Some bytes
+    → IsRun words left input input' (Some w) (Some w') (Some all) (Some all') status → (status ≡ 1) ⊎ IsFinal status → (status ≡ 1) ⊎ ComesSurely (outcome words all bytes) w w' all' status
+comes_surely words left input input' bytes w w' all all' status is run (inl one) = inl one
+comes_surely words left input input' bytes w w' all all' status is run (inr final) =
+    let given : bytes ≡ run.given.input = subst (λ l. IfSome l (λ b. b ≡ run.given.input)) is run.given.told_input in
+    let same : outcome words run.given.all run.given.input ≡ outcome words all bytes = (λ i. outcome words (sym run.given.told_files i) (sym given i)) in
+    inr (record {
+      status = run.comes.status final ∙ ap (λ (o : Outcome). o.status) same;
+      printed = subst (λ t. Appends (Some w) (Some w') t) (run.comes.whole final ∙ ap printed_by same) run.comes.wrote;
+      files = run.comes.files final ∙ ap (λ (o : Outcome). o.files) same;
+    })

@@ -1,22 +1,27 @@
--- From what was read and written to the outcome of a run.
+-- From what was read and written to the outcome of a script.
 use Rattle.std.proofs.Common.{◌≡◌, ℕ, ◌+◌, ◌-◌, ◌<◌, ◌≤◌, Bool, true, false, cond, leb, List, [], ◌++◌, length, take, Option, Some, None, IfSome, refl, sym, ap, ◌∙◌, subst, append_assoc, append-nil, length-append, arith}
 use Rattle.std.proofs.Math.Seq.{take-append-add}
 use Rattle.std.proofs.lemmas.Bool.Decides.{nat_tests}
 use Rattle.std.proofs.lemmas.List.{take_at}
 use Rattle.std.specs.Io.KnownBytes.{Consumes, IsAtEnd}
+use Rattle.tcm_edges.specs.Files.{Files}
 use Rattle.tcm_edges.specs.Owed.{WritesPrefix}
 use Rattle.tcm_edges.proofs.OwedLemmas.{WritesPrefix-more}
-use Rattle.transformations.specs.declared.command.Command.{Command}
-use Rattle.tcm_session.specs.Endings.{ending_text, ending_status}
+use Rattle.transformations.specs.declared.entry.Entry.{Entry}
+use Rattle.tcm_session.specs.Endings.{ending_lines, ending_status, ending_text}
 use Rattle.tcm_session.specs.Lines.{whole_lines, open_line, if_any, script_lines}
-use Rattle.tcm_session.specs.Machine.{answers, history_after}
-use Rattle.tcm_session.specs.Outcome.{Outcome, outcome, commit_outcome, is_commit, input_limit, large_outcome, printed_by, too_large_text, usage_outcome, whole_outcome}
-use Rattle.tcm_session.specs.Runs.{ReadsTo, StopsAt}
+use Rattle.tcm_session.specs.LogFiles.{Gains, entry_lines, with_added}
+use Rattle.tcm_session.specs.Machine.{answers, entries_added, log_after}
+use Rattle.tcm_session.specs.Outcome.{Outcome, Start, commit_outcome, files_with, input_limit, is_commit, large_outcome, log_file, outcome, printed_by, script_outcome, too_large_text, unread_outcome, usage_text, whole_outcome}
+use Rattle.tcm_session.specs.Runs.{MayHold, ReadsTo, Standing, StopsAt, standing}
 use Rattle.tcm_session.specs.declared.fault.RunFault.{RunFault}
 use Rattle.tcm_session.specs.declared.reading.ReadEnd.{ReadEnd}
 use Rattle.tcm_session.specs.declared.reading.ReadEnd.TheVariants as end
-use Rattle.tcm_session.proofs.AnswersLemmas.{answers-append}
+use Rattle.tcm_session.proofs.AnswersLemmas.{answers-append, entries_added-append}
+use Rattle.tcm_session.proofs.GainLemmas.{with_added-append, with_added-nil}
+use Rattle.tcm_session.proofs.KeptLemmas.{answers-any_kept, entries_added-any_kept}
 use Rattle.tcm_session.proofs.LinesLemmas.{whole_lines-append}
+use Rattle.tcm_session.proofs.ReadLemmas.{entry_lines-append}
 
 -- ---- the outcome by the length of the input
 
@@ -26,13 +31,30 @@ leb-true m n h = grind (arith, nat_tests)
 leb-false : (m n : ℕ) → n < m → leb m n ≡ false
 leb-false m n h = grind (arith, nat_tests)
 
-short : (input : List ℕ) → length input ≤ input_limit → commit_outcome input ≡ whole_outcome input
-unfolding commit_outcome
-short input h = ap (λ b. cond b (whole_outcome input) (large_outcome input)) (leb-true (length input) input_limit h)
+short : (start : Start) (input : List ℕ) → length input ≤ input_limit → script_outcome start input ≡ whole_outcome start input
+unfolding script_outcome
+short start input h = ap (λ b. cond b (whole_outcome start input) (large_outcome start input)) (leb-true (length input) input_limit h)
 
-long : (input : List ℕ) → input_limit < length input → commit_outcome input ≡ large_outcome input
-unfolding commit_outcome
-long input h = ap (λ b. cond b (whole_outcome input) (large_outcome input)) (leb-false (length input) input_limit h)
+long : (start : Start) (input : List ℕ) → input_limit < length input → script_outcome start input ≡ large_outcome start input
+unfolding script_outcome
+long start input h = ap (λ b. cond b (whole_outcome start input) (large_outcome start input)) (leb-false (length input) input_limit h)
+
+-- it reads the input, and answers lines from the log that it begins with
+pub script_reads : (start : Start) (input : List ℕ) → (script_outcome start input).reads ≡ true
+unfolding script_outcome
+script_reads start input = by (leb (length input) input_limit)
+  where
+    by : (b : Bool) → (cond b (whole_outcome start input) (large_outcome start input)).reads ≡ true
+    by true = refl
+    by false = refl
+
+pub script_log : (start : Start) (input : List ℕ) → (script_outcome start input).log ≡ start.log
+unfolding script_outcome
+script_log start input = by (leb (length input) input_limit)
+  where
+    by : (b : Bool) → (cond b (whole_outcome start input) (large_outcome start input)).log ≡ start.log
+    by true = refl
+    by false = refl
 
 -- ---- what is left of an input, and the whole of it
 
@@ -60,55 +82,59 @@ record Begins (text front : List ℕ) : Type 0 where
   more : List ℕ
   is : text ≡ front ++ more
 
-answers_begin : (h : List Command) (a b : List (List ℕ)) (text : List ℕ) → Begins (answers h (a ++ b) ++ text) (answers h a)
-answers_begin h a b text =
+answers_begin : (log : List Entry) (a b : List (List ℕ)) (text : List ℕ) → Begins (answers log (a ++ b) ++ text) (answers log a)
+answers_begin log a b text =
     record {
-      more = answers (history_after h a) b ++ text;
-      is = ap (λ t. t ++ text) (answers-append h a b) ∙ append_assoc (answers h a) (answers (history_after h a) b) text;
+      more = answers (log_after log a) b ++ text;
+      is = ap (λ t. t ++ text) (answers-append log a b) ∙ append_assoc (answers log a) (answers (log_after log a) b) text;
     }
 
-lines_begin : (h : List Command) (a b : List ℕ) (others : List (List ℕ)) (text : List ℕ) → Begins (answers h (whole_lines (a ++ b) ++ others) ++ text) (answers h (whole_lines a))
-lines_begin h a b others text =
+lines_begin : (log : List Entry) (a b : List ℕ) (others : List (List ℕ)) (text : List ℕ) → Begins (answers log (whole_lines (a ++ b) ++ others) ++ text) (answers log (whole_lines a))
+lines_begin log a b others text =
     let split : whole_lines (a ++ b) ++ others ≡ whole_lines a ++ (whole_lines (open_line a ++ b) ++ others) =
     ap (λ x. x ++ others) (whole_lines-append a b) ∙ append_assoc (whole_lines a) (whole_lines (open_line a ++ b)) others in
-    let begun = answers_begin h (whole_lines a) (whole_lines (open_line a ++ b) ++ others) text in
-    record { more = begun.more; is = ap (λ x. answers h x ++ text) split ∙ begun.is }
+    let begun = answers_begin log (whole_lines a) (whole_lines (open_line a ++ b) ++ others) text in
+    record { more = begun.more; is = ap (λ x. answers log x ++ text) split ∙ begun.is }
 
 -- of a front that is within the limit, the answers are a front of what the outcome prints
-printed_begins : (front rest : List ℕ) → length front ≤ input_limit → Begins (printed_by (commit_outcome (front ++ rest))) (answers [] (whole_lines front))
-printed_begins front rest fits = by (leb (length (front ++ rest)) input_limit) refl
+printed_begins : (start : Start) (front rest : List ℕ) → length front ≤ input_limit → Begins (printed_by (script_outcome start (front ++ rest))) (answers start.log (whole_lines front))
+printed_begins start front rest fits = by (leb (length (front ++ rest)) input_limit) refl
   where
-    by : (b : Bool) → leb (length (front ++ rest)) input_limit ≡ b → Begins (printed_by (commit_outcome (front ++ rest))) (answers [] (whole_lines front))
+    by : (b : Bool) → leb (length (front ++ rest)) input_limit ≡ b → Begins (printed_by (script_outcome start (front ++ rest))) (answers start.log (whole_lines front))
     by true e =
         let within : length (front ++ rest) ≤ input_limit = grind (arith, nat_tests) in
-        let begun = lines_begin [] front rest (if_any (open_line (front ++ rest))) [] in
-        record { more = begun.more; is = ap printed_by (short (front ++ rest) within) ∙ begun.is }
+        let begun = lines_begin start.log front rest (if_any (open_line (front ++ rest))) [] in
+        record { more = begun.more; is = ap printed_by (short start (front ++ rest) within) ∙ begun.is }
     by false e =
         let beyond : input_limit < length (front ++ rest) = grind (arith, nat_tests) in
         let full : length front + (input_limit - length front) ≡ input_limit = omega arith in
         let cut : take input_limit (front ++ rest) ≡ front ++ take (input_limit - length front) rest =
         ap (λ n. take n (front ++ rest)) (sym full) ∙ take-append-add front rest (input_limit - length front) in
-        let begun = lines_begin [] front (take (input_limit - length front) rest) [] too_large_text in
+        let begun = lines_begin start.log front (take (input_limit - length front) rest) [] too_large_text in
         record {
           more = begun.more;
-          is = ap printed_by (long (front ++ rest) beyond)
-              ∙ ap (λ x. answers [] (whole_lines x) ++ too_large_text) cut
-              ∙ ap (λ x. answers [] x ++ too_large_text) (sym (append-nil (whole_lines (front ++ take (input_limit - length front) rest))))
+          is = ap printed_by (long start (front ++ rest) beyond)
+              ∙ ap (λ x. answers start.log (whole_lines x) ++ too_large_text) cut
+              ∙ ap (λ x. answers start.log x ++ too_large_text) (sym (append-nil (whole_lines (front ++ take (input_limit - length front) rest))))
               ∙ begun.is;
         }
 
 -- ---- the input of a run, and what belongs to its outcome
 
 -- there is an input, of whose outcome a prefix is printed
-pub record Begins_outcome (l w w' : Option (List ℕ)) : Type 0 where
+pub record Begins_outcome (start : Start) (l w w' : Option (List ℕ)) : Type 0 where
   pub input : List ℕ
   pub told : IfSome l (λ bytes. bytes ≡ input)
-  pub part : WritesPrefix w w' (printed_by (commit_outcome input))
+  pub part : WritesPrefix w w' (printed_by (script_outcome start input))
+
+-- a script stands at its beginning
+abbrev pub at_start : Start → Option (List ℕ) → Option Files → Standing
+at_start start w f = standing start.log [] w f
 
 -- reading stopped at a fault
-pub begins_stopped : (e : RunFault) (l l' w w' : Option (List ℕ)) → StopsAt e input_limit l l' [] [] w w' → Begins_outcome l w w'
-begins_stopped e l l' w w' stops =
-    let begun = printed_begins stops.bytes (rest_of l') stops.bounded in
+pub begins_stopped : (start : Start) (e : RunFault) (l l' w w' : Option (List ℕ)) (f : Option Files) → StopsAt e input_limit l l' (at_start start w f) w' → Begins_outcome start l w w'
+begins_stopped start e l l' w w' f stops =
+    let begun = printed_begins start stops.bytes (rest_of l') stops.bounded in
     record {
       input = stops.bytes ++ rest_of l';
       told = told_input l l' stops.bytes stops.consumed;
@@ -116,31 +142,41 @@ begins_stopped e l l' w w' stops =
     }
 
 -- the input of a script that was read to its end, or up to the limit, and what its outcome says
-pub record Ended (ending : ReadEnd) (l : Option (List ℕ)) (h' : List Command) (o' : List ℕ) (text : List ℕ) : Type 0 where
+pub record Ended (start : Start) (ending : ReadEnd) (l : Option (List ℕ)) (bytes : List ℕ) (at' : Standing) : Type 0 where
   pub input : List ℕ
   pub told : IfSome l (λ xs. xs ≡ input)
-  pub status : (commit_outcome input).status ≡ ending_status ending
-  pub printed : printed_by (commit_outcome input) ≡ text ++ ending_text ending h' o'
+  pub status : (script_outcome start input).status ≡ ending_status ending
+  pub printed : printed_by (script_outcome start input) ≡ answers start.log (whole_lines bytes) ++ ending_text ending at'.log at'.begun
+  pub files : (script_outcome start input).files
+      ≡ with_added start.file (entry_lines (entries_added at'.log (ending_lines ending at'.begun)))
+      (with_added start.file (entry_lines (entries_added start.log (whole_lines bytes))) start.files)
 
-module _ (l l' w w₁ : Option (List ℕ)) (h' : List Command) (o' : List ℕ) where
-  ended_at_end : (reads : ReadsTo end.AtEnd l l' [] [] w h' o' w₁) → Ended end.AtEnd l h' o' (answers [] (whole_lines reads.bytes))
+module _ (start : Start) (l l' w : Option (List ℕ)) (f : Option Files) (at' : Standing) where
+  ended_at_end : (reads : ReadsTo start.file end.AtEnd l l' (at_start start w f) at') → Ended start end.AtEnd l reads.bytes at'
   ended_at_end reads =
+      let lines = whole_lines reads.bytes in
+      let opened = if_any (open_line reads.bytes) in
       let nothing : rest_of l' ≡ [] = rest_at_end l' reads.ends.0 in
       let bare : (reads.bytes ++ reads.past) ++ rest_of l' ≡ reads.bytes =
       ap (λ x. (reads.bytes ++ x) ++ rest_of l') reads.ends.2 ∙ ap (λ x. (reads.bytes ++ []) ++ x) nothing ∙ append-nil _ ∙ append-nil reads.bytes in
-      let text : answers [] (script_lines reads.bytes) ≡ answers [] (whole_lines reads.bytes) ++ answers h' (if_any o') =
-      answers-append [] (whole_lines reads.bytes) (if_any (open_line reads.bytes))
-      ∙ ap (λ x. answers [] (whole_lines reads.bytes) ++ answers x (if_any (open_line reads.bytes))) (sym reads.takes.accepted)
-      ∙ ap (λ x. answers [] (whole_lines reads.bytes) ++ answers h' (if_any x)) (sym reads.takes.begun) in
-      let is : commit_outcome ((reads.bytes ++ reads.past) ++ rest_of l') ≡ whole_outcome reads.bytes = ap commit_outcome bare ∙ short reads.bytes reads.ends.1 in
+      let is : script_outcome start ((reads.bytes ++ reads.past) ++ rest_of l') ≡ whole_outcome start reads.bytes = ap (script_outcome start) bare ∙ short start reads.bytes reads.ends.1 in
+      let last_text : answers (log_after start.log lines) opened ≡ answers at'.log (if_any at'.begun) =
+      ap (λ x. answers x opened) (sym reads.takes.log) ∙ sym (answers-any_kept at'.log (open_line reads.bytes)) ∙ ap (λ x. answers at'.log (if_any x)) (sym reads.takes.begun) in
+      let last_added : entries_added (log_after start.log lines) opened ≡ entries_added at'.log (if_any at'.begun) =
+      ap (λ x. entries_added x opened) (sym reads.takes.log) ∙ sym (entries_added-any_kept at'.log (open_line reads.bytes)) ∙ ap (λ x. entries_added at'.log (if_any x)) (sym reads.takes.begun) in
+      let added : entry_lines (entries_added start.log (script_lines reads.bytes)) ≡ entry_lines (entries_added start.log lines) ++ entry_lines (entries_added at'.log (if_any at'.begun)) =
+      ap entry_lines (entries_added-append start.log lines opened) ∙ entry_lines-append (entries_added start.log lines) (entries_added (log_after start.log lines) opened)
+      ∙ ap (λ es. entry_lines (entries_added start.log lines) ++ entry_lines es) last_added in
       record {
         input = (reads.bytes ++ reads.past) ++ rest_of l';
         told = told_input l l' (reads.bytes ++ reads.past) reads.consumed;
         status = ap (λ (o : Outcome). o.status) is;
-        printed = ap printed_by is ∙ append-nil _ ∙ text;
+        printed = ap printed_by is ∙ append-nil _ ∙ answers-append start.log lines opened ∙ ap (λ x. answers start.log lines ++ x) last_text;
+        files = ap (λ (o : Outcome). o.files) is ∙ ap (λ t. with_added start.file t start.files) added
+            ∙ with_added-append start.file (entry_lines (entries_added start.log lines)) (entry_lines (entries_added at'.log (if_any at'.begun))) start.files;
       }
 
-  ended_past : (reads : ReadsTo end.PastLimit l l' [] [] w h' o' w₁) → Ended end.PastLimit l h' o' (answers [] (whole_lines reads.bytes))
+  ended_past : (reads : ReadsTo start.file end.PastLimit l l' (at_start start w f) at') → Ended start end.PastLimit l reads.bytes at'
   ended_past reads =
       let whole : (reads.bytes ++ reads.past) ++ rest_of l' ≡ reads.bytes ++ (reads.past ++ rest_of l') = append_assoc reads.bytes reads.past (rest_of l') in
       let size : length ((reads.bytes ++ reads.past) ++ rest_of l') ≡ length reads.bytes + length reads.past + length (rest_of l') =
@@ -148,26 +184,34 @@ module _ (l l' w w₁ : Option (List ℕ)) (h' : List Command) (o' : List ℕ) w
       let beyond : input_limit < length ((reads.bytes ++ reads.past) ++ rest_of l') = omega (arith, size, reads.ends.0, reads.ends.1) in
       let cut : take input_limit ((reads.bytes ++ reads.past) ++ rest_of l') ≡ reads.bytes =
       ap (take input_limit) whole ∙ take_at reads.bytes (reads.past ++ rest_of l') input_limit reads.ends.0 in
-      let is : commit_outcome ((reads.bytes ++ reads.past) ++ rest_of l') ≡ large_outcome ((reads.bytes ++ reads.past) ++ rest_of l') =
-      long ((reads.bytes ++ reads.past) ++ rest_of l') beyond in
+      let is : script_outcome start ((reads.bytes ++ reads.past) ++ rest_of l') ≡ large_outcome start ((reads.bytes ++ reads.past) ++ rest_of l') =
+      long start ((reads.bytes ++ reads.past) ++ rest_of l') beyond in
       record {
         input = (reads.bytes ++ reads.past) ++ rest_of l';
         told = told_input l l' (reads.bytes ++ reads.past) reads.consumed;
         status = ap (λ (o : Outcome). o.status) is;
-        printed = ap printed_by is ∙ ap (λ x. answers [] (whole_lines x) ++ too_large_text) cut;
+        printed = ap printed_by is ∙ ap (λ x. answers start.log (whole_lines x) ++ too_large_text) cut;
+        files = ap (λ (o : Outcome). o.files) is ∙ ap (λ x. files_with start (whole_lines x)) cut
+            ∙ sym (with_added-nil start.file (with_added start.file (entry_lines (entries_added start.log (whole_lines reads.bytes))) start.files));
       }
 
-  pub ended : (ending : ReadEnd) (reads : ReadsTo ending l l' [] [] w h' o' w₁) → Ended ending l h' o' (answers [] (whole_lines reads.bytes))
+  pub ended : (ending : ReadEnd) (reads : ReadsTo start.file ending l l' (at_start start w f) at') → Ended start ending l reads.bytes at'
   ended end.AtEnd reads = ended_at_end reads
   ended end.PastLimit reads = ended_past reads
+
+-- ---- files that a store may hold
+
+pub held_gained : (name : Option (List ℕ)) (text : List ℕ) (old new : Option Files) (all : Files) → MayHold old all → Gains name text old new → MayHold new (with_added name text all)
+held_gained name text None new all held gained = subst (λ f. MayHold f (with_added name text all)) (sym gained) tt
+held_gained name text (Some these) new all held gained = subst (λ f. MayHold f (with_added name text all)) (sym gained) (ap (with_added name text) held)
 
 -- ---- the outcome by the words
 
 module _ (words : List (List ℕ)) where
-  pub of_commit : is_commit words ≡ true → (input : List ℕ) → outcome words input ≡ commit_outcome input
+  pub of_commit : is_commit words ≡ true → (all : Files) (input : List ℕ) → outcome words all input ≡ commit_outcome (log_file words) all input
   unfolding outcome
-  of_commit e input = ap (λ b. cond b (commit_outcome input) usage_outcome) e
+  of_commit e all input = ap (λ b. cond b (commit_outcome (log_file words) all input) (unread_outcome 2 usage_text all)) e
 
-  pub of_others : is_commit words ≡ false → (input : List ℕ) → outcome words input ≡ usage_outcome
+  pub of_others : is_commit words ≡ false → (all : Files) (input : List ℕ) → outcome words all input ≡ unread_outcome 2 usage_text all
   unfolding outcome
-  of_others e input = ap (λ b. cond b (commit_outcome input) usage_outcome) e
+  of_others e all input = ap (λ b. cond b (commit_outcome (log_file words) all input) (unread_outcome 2 usage_text all)) e

@@ -1,21 +1,23 @@
 -- What an answer shows: its text, and where its sets come from.
-use Rattle.std.proofs.Common.{◌≡◌, ◌≢◌, ℕ, suc, ◌+◌, ◌≤◌, inl, inr, Bool, true, false, if◌then◌else◌, ℤ, List, [], ◌∷◌, ◌++◌, get_or, take, length, Option, Some, None, option_map, option_and_then, nat_le, codes, decimal, refl, sym, ap, ◌∙◌, subst, arith, length-take-le}
+use Rattle.std.proofs.Common.{◌≡◌, ◌≢◌, ℕ, suc, ◌≤◌, inl, inr, Bool, true, false, if◌then◌else◌, ℤ, List, [], ◌∷◌, ◌++◌, get_or, take, length, Option, Some, None, Result, Ok, Err, option_map, option_and_then, nat_le, codes, decimal, refl, sym, ap, ◌∙◌, subst, arith, length-take-le}
 use Rattle.std.specs.Option.{IfSome}
 use Rattle.std.proofs.lemmas.Bool.Decides.{nat_tests}
 use Rattle.std.proofs.lemmas.Option.{none-some}
 use Rattle.cluster_terms.specs.Arc.{IsToken}
 use Rattle.cluster_terms.specs.Quorum.{Sets, datacenter_of}
 use Rattle.transformations.proofs.histories.HistoryLemmas.{epoch_after}
-use Rattle.transformations.specs.History.{commit_refusal, state_after}
+use Rattle.transformations.specs.History.{state_after}
+use Rattle.transformations.specs.Log.{commands_of, commit_of}
 use Rattle.transformations.specs.Meeting.{datacenters_of, local_sets_at, sets_at}
 use Rattle.transformations.specs.declared.command.Command.{Command}
+use Rattle.transformations.specs.declared.entry.Entry.{Entry}
 use Rattle.transformations.specs.declared.image.Image.{Image}
 use Rattle.transformations.specs.declared.keyspace.KeyspaceRow.{KeyspaceRow}
 use Rattle.transformations.specs.declared.refusal.Refusal.{Refusal}
 use Rattle.cluster_metadata.specs.Served.{keyspace_of}
 use Rattle.script_lang.proofs.SaidLemmas.{IsSaid}
 use Rattle.script_lang.specs.Grammar.{line_of}
-use Rattle.tcm_session.specs.Machine.{decided, local_quorums, local_quorums_in, placements, query_answer, quorums, reply, reply_to}
+use Rattle.tcm_session.specs.Machine.{commit_text, local_quorums, local_quorums_in, placements, query_answer, quorums, reply, reply_to}
 use Rattle.tcm_session.specs.declared.query.Query.TheVariants as query
 use Rattle.tcm_session.specs.Shown.{IsOfNoQuorum, Shown, sets_in, shown_at, shown_by, shown_text}
 use Rattle.script_lang.specs.Texts.{no_text, nodes_text, ok_text, place_text, quorum_text, refusal_text}
@@ -110,17 +112,17 @@ local_texts h e name dc t s shows =
     ∙ ap (λ n. quorum_text (codes "LOCAL") n p.sets) (epoch_at h e p.within)
     ∙ ap shown_text (sym p.is)
 
-texts_said : (h : List Command) (said : Option ScriptLine) (s : Shown) → shown_by h said ≡ Some s → (reply_to h said).text ≡ shown_text s
-texts_said h None s shows = absurd (none-some s shows)
-texts_said h (Some (Commit id c)) s shows = absurd (none-some s shows)
-texts_said h (Some (Place target name)) s shows = absurd (none-some s shows)
-texts_said h (Some (Nodes target)) s shows = absurd (none-some s shows)
-texts_said h (Some (Quorum (Epoch e) name t)) s shows = quorum_texts h e name t s shows
-texts_said h (Some (Local (Epoch e) name dc t)) s shows = local_texts h e name dc t s shows
+texts_said : (log : List Entry) (said : Option ScriptLine) (s : Shown) → shown_by (commands_of log) said ≡ Some s → (reply_to log said).text ≡ shown_text s
+texts_said log None s shows = absurd (none-some s shows)
+texts_said log (Some (Commit id c)) s shows = absurd (none-some s shows)
+texts_said log (Some (Place target name)) s shows = absurd (none-some s shows)
+texts_said log (Some (Nodes target)) s shows = absurd (none-some s shows)
+texts_said log (Some (Quorum (Epoch e) name t)) s shows = quorum_texts (commands_of log) e name t s shows
+texts_said log (Some (Local (Epoch e) name dc t)) s shows = local_texts (commands_of log) e name dc t s shows
 
-pub texts : (h : List Command) (bytes : List ℕ) (s : Shown) → shown_by h (line_of bytes) ≡ Some s → (reply h bytes).text ≡ shown_text s
+pub texts : (log : List Entry) (bytes : List ℕ) (s : Shown) → shown_by (commands_of log) (line_of bytes) ≡ Some s → (reply log bytes).text ≡ shown_text s
 unfolding reply
-texts h bytes s shows = texts_said h (line_of bytes) s shows
+texts log bytes s shows = texts_said log (line_of bytes) s shows
 
 -- ---- answers that show nothing
 
@@ -150,9 +152,9 @@ nodes_others : (image : Image) → IsOfNoQuorum (nodes_text image)
 unfolding nodes_text
 nodes_others image = by_first (nodes_text image) (λ e. omega arith) (λ e. omega arith)
 
-commit_others : (h : List Command) (c : Command) (o : Option Refusal) → IsOfNoQuorum (decided h c o).text
-commit_others h c (Some r) = no_answer (refusal_text r)
-commit_others h c None = by_first (ok_text (length h + 1)) (λ e. omega arith) (λ e. omega arith)
+commit_others : (answer : Result ℕ Refusal) → IsOfNoQuorum (commit_text answer)
+commit_others (Ok epoch) = by_first (ok_text epoch) (λ e. omega arith) (λ e. omega arith)
+commit_others (Err r) = no_answer (refusal_text r)
 
 -- a query of quorums that is refused
 module _ (h : List Command) (e : ℕ) (name : List ℕ) (t : ℤ) (show : Sets → Shown) where
@@ -173,16 +175,20 @@ module _ (h : List Command) (e : ℕ) (name : List ℕ) (t : ℤ) (show : Sets �
       by None none = no_answer (codes "DC")
       by (Some f) none = absurd (none-some _ (sym none))
 
-others_said : (h : List Command) (said : Option ScriptLine) → shown_by h said ≡ None → IsOfNoQuorum (reply_to h said).text
-others_said h None none = no_answer (codes "BAD-LINE")
-others_said h (Some (Commit id c)) none = commit_others h c (commit_refusal h c)
-others_said h (Some (Place (Epoch e) name)) none = either (nat_le e (length h)) _ (codes "EPOCH " ++ decimal (length h)) (place_others (state_after h e) (keyspace_of (state_after h e) name))
-others_said h (Some (Nodes (Epoch e))) none = either (nat_le e (length h)) _ (codes "EPOCH " ++ decimal (length h)) (nodes_others (state_after h e))
-others_said h (Some (Quorum (Epoch e) name t)) none =
+others_said : (log : List Entry) (said : Option ScriptLine) → shown_by (commands_of log) said ≡ None → IsOfNoQuorum (reply_to log said).text
+others_said log None none = no_answer (codes "BAD-LINE")
+others_said log (Some (Commit id c)) none = commit_others (commit_of log id c).answer
+others_said log (Some (Place (Epoch e) name)) none =
+    let h = commands_of log in either (nat_le e (length h)) _ (codes "EPOCH " ++ decimal (length h)) (place_others (state_after h e) (keyspace_of (state_after h e) name))
+others_said log (Some (Nodes (Epoch e))) none =
+    let h = commands_of log in either (nat_le e (length h)) _ (codes "EPOCH " ++ decimal (length h)) (nodes_others (state_after h e))
+others_said log (Some (Quorum (Epoch e) name t)) none =
+    let h = commands_of log in
     quorum_others h e name t (λ (s : Sets). record { datacenter = None; keyspace = name; token = t; epoch = e; sets = s }) (nat_le e (length h)) (keyspace_of (state_after h e) name) (codes "EPOCH " ++ decimal (length h)) none
-others_said h (Some (Local (Epoch e) name dc t)) none =
+others_said log (Some (Local (Epoch e) name dc t)) none =
+    let h = commands_of log in
     local_others h e name t (λ (s : Sets). record { datacenter = Some dc; keyspace = name; token = t; epoch = e; sets = s }) dc (nat_le e (length h)) (keyspace_of (state_after h e) name) (codes "EPOCH " ++ decimal (length h)) none
 
-pub others : (h : List Command) (bytes : List ℕ) → shown_by h (line_of bytes) ≡ None → IsOfNoQuorum (reply h bytes).text
+pub others : (log : List Entry) (bytes : List ℕ) → shown_by (commands_of log) (line_of bytes) ≡ None → IsOfNoQuorum (reply log bytes).text
 unfolding reply
-others h bytes none = others_said h (line_of bytes) none
+others log bytes none = others_said log (line_of bytes) none

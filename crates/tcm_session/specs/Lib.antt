@@ -1,6 +1,9 @@
+pub mod Counts
 pub mod Endings
 pub mod Faults
 pub mod Lines
+pub mod Loading
+pub mod LogFiles
 pub mod Machine
 pub mod Outcome
 pub mod Placers
@@ -8,3 +11,4 @@ pub mod Rings
 pub mod Run
 pub mod Runs
 pub mod Shown
+pub mod Steps

@@ -1,10 +1,12 @@
--- The session machine: the answer to each line, and the history of accepted commands after it.
-use Rattle.std.specs.Prelude.{ℕ, ℤ, ◌+◌, if◌then◌else◌, List, [], ◌∷◌, ◌++◌, length, Option, Some, None, nat_le, codes, decimal}
+-- The session machine: the answer to each line, and the entries that it adds to the log.
+use Rattle.std.specs.Prelude.{ℕ, ℤ, if◌then◌else◌, List, [], ◌∷◌, ◌++◌, length, Option, Some, None, Result, Ok, Err, nat_le, codes, decimal}
 use Rattle.cluster_terms.specs.Quorum.{datacenter_of}
 use Rattle.cluster_terms.specs.declared.replication.Replication.{Replication}
-use Rattle.transformations.specs.History.{commit_refusal, state_after}
+use Rattle.transformations.specs.History.{state_after}
+use Rattle.transformations.specs.Log.{commands_of, commit_of}
 use Rattle.transformations.specs.Meeting.{datacenters_of, local_sets_at, sets_at}
 use Rattle.transformations.specs.declared.command.Command.{Command}
+use Rattle.transformations.specs.declared.entry.Entry.{Entry}
 use Rattle.transformations.specs.declared.image.Image.{Image}
 use Rattle.transformations.specs.declared.keyspace.KeyspaceRow.{KeyspaceRow}
 use Rattle.transformations.specs.declared.refusal.Refusal.{Refusal}
@@ -17,18 +19,19 @@ use Rattle.script_lang.specs.declared.script_line.Target.TheVariants.{Epoch}
 use Rattle.tcm_session.specs.declared.query.Query.{Query}
 use Rattle.tcm_session.specs.declared.query.Query.TheVariants as query
 
--- the answer to a line, and the history after it
+-- the answer to a line, and the entries that the line adds to the log, one or none
 pub record Reply : Type 0 where
   pub text : List ℕ
-  pub history : List Command
+  pub added : List Entry
 
--- a command is refused with its first refusal, or becomes the next entry of the history
-abbrev pub decided : List Command → Command → Option Refusal → Reply
-decided history command (Some refusal) = record { text = no_text (refusal_text refusal); history = history }
-decided history command None = record { text = ok_text (length history + 1); history = history ++ command ∷ [] }
+-- a commit is answered with its epoch, or with its refusal
+abbrev pub commit_text : Result ℕ Refusal → List ℕ
+commit_text (Ok epoch) = ok_text epoch
+commit_text (Err refusal) = no_text (refusal_text refusal)
 
-abbrev pub commit_reply : List Command → Command → Reply
-commit_reply history command = decided history command (commit_refusal history command)
+abbrev pub commit_reply : List Entry → ℕ → Command → Reply
+commit_reply log id command =
+    let committed = commit_of log id command in record { text = commit_text committed.answer; added = committed.added }
 
 -- the placements of a keyspace
 abbrev pub placements : Image → Option KeyspaceRow → List ℕ
@@ -62,25 +65,36 @@ abbrev pub query_answer : List Command → ℕ → Query → List ℕ
 query_answer history epoch asked =
     if nat_le epoch (length history) then answer_from asked (state_after history epoch) else no_text (codes "EPOCH " ++ decimal (length history))
 
--- the reply to the content of a line; a query or a line that isn't in the grammar leaves the history unchanged; the id
--- of a commit is ignored
-abbrev pub reply_to : List Command → Option ScriptLine → Reply
-reply_to history None = record { text = no_text (codes "BAD-LINE"); history = history }
-reply_to history (Some (Commit id command)) = commit_reply history command
-reply_to history (Some (Place (Epoch e) name)) = record { text = query_answer history e (query.Place name); history = history }
-reply_to history (Some (Nodes (Epoch e))) = record { text = query_answer history e query.Nodes; history = history }
-reply_to history (Some (Quorum (Epoch e) name t)) = record { text = query_answer history e (query.Quorum name t); history = history }
-reply_to history (Some (Local (Epoch e) name dc t)) = record { text = query_answer history e (query.Local name dc t); history = history }
+-- a query adds nothing
+abbrev pub query_reply : List Entry → ℕ → Query → Reply
+query_reply log epoch asked = record { text = query_answer (commands_of log) epoch asked; added = [] }
+
+-- the reply to the content of a line; a line that isn't in the grammar adds nothing
+abbrev pub reply_to : List Entry → Option ScriptLine → Reply
+reply_to log None = record { text = no_text (codes "BAD-LINE"); added = [] }
+reply_to log (Some (Commit id command)) = commit_reply log id command
+reply_to log (Some (Place (Epoch e) name)) = query_reply log e (query.Place name)
+reply_to log (Some (Nodes (Epoch e))) = query_reply log e query.Nodes
+reply_to log (Some (Quorum (Epoch e) name t)) = query_reply log e (query.Quorum name t)
+reply_to log (Some (Local (Epoch e) name dc t)) = query_reply log e (query.Local name dc t)
 
 -- the reply to a line
-unfoldable pub reply : List Command → List ℕ → Reply
-reply history bytes = reply_to history (line_of bytes)
+unfoldable pub reply : List Entry → List ℕ → Reply
+reply log bytes = reply_to log (line_of bytes)
 
--- the answers to lines, one after another, and the history after these lines
-abbrev pub answers : List Command → List (List ℕ) → List ℕ
-answers history [] = []
-answers history (bytes ∷ lines) = (reply history bytes).text ++ answers (reply history bytes).history lines
+-- the log after a line, and after lines, one after another
+abbrev pub log_next : List Entry → List ℕ → List Entry
+log_next log bytes = log ++ (reply log bytes).added
 
-abbrev pub history_after : List Command → List (List ℕ) → List Command
-history_after history [] = history
-history_after history (bytes ∷ lines) = history_after (reply history bytes).history lines
+abbrev pub log_after : List Entry → List (List ℕ) → List Entry
+log_after log [] = log
+log_after log (bytes ∷ lines) = log_after (log_next log bytes) lines
+
+-- the answers to lines, one after another, and the entries that the lines add
+abbrev pub answers : List Entry → List (List ℕ) → List ℕ
+answers log [] = []
+answers log (bytes ∷ lines) = (reply log bytes).text ++ answers (log_next log bytes) lines
+
+abbrev pub entries_added : List Entry → List (List ℕ) → List Entry
+entries_added log [] = []
+entries_added log (bytes ∷ lines) = (reply log bytes).added ++ entries_added (log_next log bytes) lines

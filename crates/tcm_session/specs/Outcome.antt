@@ -1,60 +1,107 @@
--- The outcome of a run: the lines that it answers, what it prints, and its status.
-use Rattle.std.specs.Prelude.{◌≡◌, ℕ, Bool, false, if◌then◌else◌, List, [], ◌∷◌, ◌++◌, length, take, nat_le, codes, Option, IfSome}
-use Rattle.std.specs.Io.KnownBytes.{Appends}
+-- The outcome of a run: the lines that it answers, what it prints, its status, and the files after it.
+use Rattle.std.specs.Prelude.{ℕ, Bool, true, false, ◌&&◌, not, if◌then◌else◌, List, [], ◌∷◌, ◌++◌, length, take, nat_le, codes, Option, Some, None, Result, Ok, Err}
 use Rattle.std.specs.Str.{bytes_eq}
-use Rattle.tcm_session.specs.Lines.{whole_lines, script_lines}
-use Rattle.tcm_session.specs.Machine.{answers}
+use Rattle.tcm_edges.specs.Files.{Files, file_of, loaded_of}
+use Rattle.tcm_edges.specs.declared.store.Loaded.{Loaded}
+use Rattle.tcm_edges.specs.declared.store.Loaded.TheVariants as loaded
+use Rattle.transformations.specs.declared.entry.Entry.{Entry}
 use Rattle.script_lang.specs.Texts.{line}
+use Rattle.tcm_session.specs.Lines.{whole_lines, script_lines}
+use Rattle.tcm_session.specs.LogFiles.{cut_to_lines, entry_lines, log_of, refused_line_text, with_added}
+use Rattle.tcm_session.specs.Machine.{answers, entries_added}
+use Rattle.tcm_session.specs.declared.refused_line.RefusedLine.{RefusedLine}
 
--- the status, the lines that are answered, and the text that is printed after their answers
+-- the log from which lines are answered, these lines, the text that is printed after their answers, and the status
 pub record Outcome : Type 0 where
   pub status : ℕ
+  pub log : List Entry
   pub lines : List (List ℕ)
   pub last : List ℕ
+  -- whether the input is read, and the files afterwards
+  pub reads : Bool
+  pub files : Files
 
--- the bytes that an outcome prints: the answers to its lines, from an empty history on, and its last text
+-- the bytes that an outcome prints
 abbrev pub printed_by : Outcome → List ℕ
-printed_by o = answers [] o.lines ++ o.last
+printed_by o = answers o.log o.lines ++ o.last
 
--- the most bytes of an input; one more byte is read, to see whether the input is larger
+-- the most bytes of an input, and of a file; of an input one more byte is read, to see whether it is larger
 abbrev pub input_limit : ℕ
 input_limit = 536870912
 
--- whether the words after the program's name are the one word `commit`
-abbrev pub is_commit : List (List ℕ) → Bool
-is_commit (word ∷ []) = bytes_eq word (codes "commit")
-is_commit _ = false
-
--- the text that is printed for other words
-abbrev pub usage_text : List ℕ
-usage_text = line (codes "usage: tcm commit [LOG] | replay FILE.. | snapshot LOG E | gen START N")
-
--- the text that is printed for an input that is too large, with the limit in bytes
+-- the text that is printed for an input or a file that is too large, with the limit in bytes
 abbrev pub too_large_text : List ℕ
 too_large_text = line (codes "TOO-LARGE 536870912")
 
--- a script: all lines are answered; if it is too large, only the lines that end within the limit are
-abbrev pub whole_outcome : List ℕ → Outcome
-whole_outcome input = record { status = 0; lines = script_lines input; last = [] }
+-- the text that is printed for words that name no command
+abbrev pub usage_text : List ℕ
+usage_text = line (codes "usage: tcm commit [LOG] | replay FILE.. | snapshot LOG E | gen START N")
 
-abbrev pub large_outcome : List ℕ → Outcome
-large_outcome input = record { status = 8; lines = whole_lines (take input_limit input); last = too_large_text }
+-- an outcome that reads no input, answers no line and changes no file
+abbrev pub unread_outcome : ℕ → List ℕ → Files → Outcome
+unread_outcome status last all = record { status = status; log = []; lines = []; last = last; reads = false; files = all }
 
-unfoldable pub commit_outcome : List ℕ → Outcome
-commit_outcome input = if nat_le (length input) input_limit then whole_outcome input else large_outcome input
+-- ---- a script
 
--- for other words no line is answered
-abbrev pub usage_outcome : Outcome
-usage_outcome = record { status = 2; lines = []; last = usage_text }
+-- where a script begins: the log, the name of the file that its entries are added to, if there is one, and the files
+pub record Start : Type 0 where
+  pub log : List Entry
+  pub file : Option (List ℕ)
+  pub files : Files
 
--- the outcome of a run, by its words and its input
-unfoldable pub outcome : List (List ℕ) → List ℕ → Outcome
-outcome words input = if is_commit words then commit_outcome input else usage_outcome
+-- the files once the entries that these lines add are added to the file
+abbrev pub files_with : Start → List (List ℕ) → Files
+files_with start lines = with_added start.file (entry_lines (entries_added start.log lines)) start.files
 
--- the status and the bytes that the sink gained are the outcome of some input; if the source tells its bytes, they are
--- this input
-pub record HasOutcome (outcome_of : List ℕ → Outcome) (left written written' : Option (List ℕ)) (ended : ℕ) : Type 0 where
-  pub input : List ℕ
-  pub told : IfSome left (λ bytes. bytes ≡ input)
-  pub status : ended ≡ (outcome_of input).status
-  pub printed : Appends written written' (printed_by (outcome_of input))
+-- all lines are answered; if the script is too large, only the lines that end within the limit are
+abbrev pub whole_outcome : Start → List ℕ → Outcome
+whole_outcome start input =
+    let lines = script_lines input in
+    record { status = 0; log = start.log; lines = lines; last = []; reads = true; files = files_with start lines }
+
+abbrev pub large_outcome : Start → List ℕ → Outcome
+large_outcome start input =
+    let lines = whole_lines (take input_limit input) in
+    record { status = 8; log = start.log; lines = lines; last = too_large_text; reads = true; files = files_with start lines }
+
+unfoldable pub script_outcome : Start → List ℕ → Outcome
+script_outcome start input = if nat_le (length input) input_limit then whole_outcome start input else large_outcome start input
+
+-- ---- by the words
+
+-- whether the words after the program's name are `commit`, alone or with the name of a log file
+abbrev pub is_commit : List (List ℕ) → Bool
+is_commit (word ∷ []) = bytes_eq word (codes "commit")
+is_commit (word ∷ file ∷ []) = bytes_eq word (codes "commit") && not (bytes_eq file [])
+is_commit _ = false
+
+-- the log file that such words name
+abbrev pub log_file : List (List ℕ) → Option (List ℕ)
+log_file (word ∷ file ∷ []) = Some file
+log_file _ = None
+
+-- the log file of a run; other words name none
+abbrev pub named_log : List (List ℕ) → Option (List ℕ)
+named_log words = if is_commit words then log_file words else None
+
+-- a script from the log in a file; if the log is refused, no line is answered
+abbrev pub outcome_from : List ℕ → Files → List ℕ → Result (List Entry) RefusedLine → List ℕ → Outcome
+outcome_from name all file (Ok log) input =
+    script_outcome (record { log = log; file = Some name; files = cut_to_lines name file all }) input
+outcome_from name all file (Err refused) input = unread_outcome 3 (refused_line_text refused) all
+
+-- a file that is absent is an empty log
+abbrev pub outcome_loaded : List ℕ → Files → Loaded → List ℕ → Outcome
+outcome_loaded name all loaded.Absent input = script_outcome (record { log = []; file = Some name; files = all }) input
+outcome_loaded name all (loaded.TooLarge size) input = unread_outcome 8 too_large_text all
+outcome_loaded name all (loaded.Bytes file) input = outcome_from name all file (log_of file) input
+
+-- the outcome of `commit`, without and with a log file
+abbrev pub commit_outcome : Option (List ℕ) → Files → List ℕ → Outcome
+commit_outcome None all input = script_outcome (record { log = []; file = None; files = all }) input
+commit_outcome (Some name) all input = outcome_loaded name all (loaded_of (file_of all name) input_limit) input
+
+-- the outcome of a run, by its words, the files and its input
+unfoldable pub outcome : List (List ℕ) → Files → List ℕ → Outcome
+outcome words all input =
+    if is_commit words then commit_outcome (log_file words) all input else unread_outcome 2 usage_text all

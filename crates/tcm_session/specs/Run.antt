@@ -1,58 +1,86 @@
--- The promises of a run about its words, its input, the bytes that it prints and its status.
-use Rattle.std.specs.Prelude.{◌≡◌, ◌≢◌, ℕ, ◌+◌, ◌≤◌, IsTrue, ◌==◌, ◌||◌, List, [], length, Option, IfSome, ◌⊎◌}
+-- The promises of a run about its words, its input, the files, the bytes that it prints and its status.
+use Rattle.std.specs.Prelude.{◌≡◌, ◌≢◌, ℕ, ◌+◌, ◌≤◌, true, false, IsTrue, ◌==◌, ◌||◌, List, ◌++◌, length, Option, IfSome, ◌⊎◌}
 use Rattle.std.specs.Io.{StartsWith}
 use Rattle.std.specs.Io.KnownBytes.{Appends, Consumes, IsAtEnd}
 use Rattle.tcm_edges.specs.Causes.{Rose}
+use Rattle.tcm_edges.specs.Files.{Files}
+use Rattle.transformations.specs.declared.entry.Entry.{Entry}
+use Rattle.tcm_session.specs.Counts.{Counts, NoneFell}
 use Rattle.tcm_session.specs.Lines.{whole_lines}
 use Rattle.tcm_session.specs.Machine.{answers}
 use Rattle.tcm_session.specs.Outcome.{Outcome, input_limit, outcome, printed_by}
 use Rattle.tcm_session.specs.Shown.{PrintsMeeting}
 
--- the statuses: the end of the input, out of memory, the usage line, a fault of the source or of the sink, an input that
--- is too large
+-- the statuses: the end of the input, out of memory, the usage line, a log that is refused, a fault of the source, of
+-- the sink or of the store, an input or a file that is too large
 abbrev pub IsStatus : ℕ → Type 0
-IsStatus status = IsTrue ((status == 0) || (status == 1) || (status == 2) || (status == 4) || (status == 5) || (status == 8))
+IsStatus status =
+    IsTrue ((status == 0) || (status == 1) || (status == 2) || (status == 3) || (status == 4) || (status == 5) || (status == 6) || (status == 8))
 
--- the status of a run that came to its end: memory didn't run out, and neither the source nor the sink failed
-abbrev pub IsFinal : ℕ → Type 0
-IsFinal status = (status ≢ 1) × (status ≢ 4) × (status ≢ 5)
+-- the status of a run that came to its end: memory didn't run out, and neither source, sink nor store failed
+pub record IsFinal (status : ℕ) : Type 0 where
+  pub memory : status ≢ 1
+  pub source : status ≢ 4
+  pub sink : status ≢ 5
+  pub store : status ≢ 6
 
--- the bytes that a run prints, if `outcome_of` gives the outcome of each input
-pub record Prints (outcome_of : List ℕ → Outcome) (left written written' : Option (List ℕ)) (status : ℕ) : Type 0 where
-  -- the input: the bytes of the source, if the source tells them
+-- the input and the files of a run: if the source tells its bytes, they are the input, and if the store tells its
+-- files, they are these
+pub record Given (left : Option (List ℕ)) (files : Option Files) : Type 0 where
   pub input : List ℕ
-  pub told : IfSome left (λ bytes. bytes ≡ input)
-  -- the printed bytes, which the sink gains
+  pub all : Files
+  pub told_input : IfSome left (λ bytes. bytes ≡ input)
+  pub told_files : IfSome files (λ these. these ≡ all)
+
+-- a run that comes to this outcome
+pub record ComesTo (o : Outcome) (written written' : Option (List ℕ)) (files' : Option Files) (ended : ℕ) : Type 0 where
+  -- the printed bytes, which the sink gains: the bytes of the outcome begin with them
   pub printed : List ℕ
   pub wrote : Appends written written' printed
-  -- the outcome's bytes begin with them
-  pub prefix : StartsWith (printed_by (outcome_of input)) printed
-  -- at a final status they are all of the outcome's bytes, and the status is the outcome's
-  pub final : IsFinal status → (status ≡ (outcome_of input).status) × (printed ≡ printed_by (outcome_of input))
+  pub prefix : StartsWith (printed_by o) printed
+  -- at a final status the status, the printed bytes and the files are those of the outcome
+  pub status : IsFinal ended → ended ≡ o.status
+  pub whole : IsFinal ended → printed ≡ printed_by o
+  pub files : IsFinal ended → IfSome files' (λ these. these ≡ o.files)
 
--- a run for these words: it prints the bytes of their outcome, and the quorums in the printed lines meet (`ShownMeet`)
-pub record IsRun (words : List (List ℕ)) (left written written' : Option (List ℕ)) (status : ℕ) : Type 0 where
-  pub prints : Prints (outcome words) left written written' status
-  pub quorums : PrintsMeeting (outcome words prints.input).lines prints.printed
-
--- the bytes that a run reads from its source
-pub record HasRead (left left' written written' : Option (List ℕ)) (status : ℕ) : Type 0 where
+-- the bytes that a run reads from its source, with the log from which it answers lines
+pub record HasRead (log : List Entry) (left left' written written' : Option (List ℕ)) (status : ℕ) : Type 0 where
   -- the bytes that are read: at most one more than the limit
   pub read : List ℕ
   pub consumed : Consumes left left' read
   pub most : length read ≤ input_limit + 1
-  -- at status 0 the source is at its end; at status 8 the byte past the limit was read
+  -- at status 0 the source is at its end; at status 4 the printed bytes are exactly the answers to the lines that end
+  -- among the bytes read
   pub at_end : status ≡ 0 → IsAtEnd left'
-  pub past_limit : status ≡ 8 → length read ≡ input_limit + 1
-  -- at status 4 the printed bytes are exactly the answers to the lines that end among the bytes read
-  pub read_fault : status ≡ 4 → Appends written written' (answers [] (whole_lines read))
+  pub read_fault : status ≡ 4 → Appends written written' (answers log (whole_lines read))
 
--- the meaning of a status, by the counts of faults of the source and of the sink, before the run and after it
-pub record HasStatus (source source' sink sink' : ℕ) (status : ℕ) : Type 0 where
+-- an outcome that reads no input leaves the source as it was, and doesn't end in 4; at its status 8, a script has read
+-- the byte past the limit
+pub record ReadsFor {S : Type 0} (o : Outcome) (left : S → Option (List ℕ)) (input input' : S) (written written' : Option (List ℕ)) (status : ℕ) : Type 0 where
+  pub reads : HasRead o.log (left input) (left input') written written' status
+  pub past_limit : status ≡ 8 → o.reads ≡ true → length reads.read ≡ input_limit + 1
+  pub unread : o.reads ≡ false → (input' ≡ input) × (status ≢ 4)
+
+-- a run for these words: it prints the bytes of their outcome, the quorums in the printed lines meet (`ShownMeet`), and
+-- it reads as its outcome says
+pub record IsRun {S : Type 0} (words : List (List ℕ)) (left : S → Option (List ℕ)) (input input' : S) (written written' : Option (List ℕ)) (files files' : Option Files) (status : ℕ) : Type 0 where
+  pub given : Given (left input) files
+  pub comes : ComesTo (outcome words given.all given.input) written written' files' status
+  pub reads : ReadsFor (outcome words given.all given.input) left input input' written written' status
+  pub quorums : PrintsMeeting (outcome words given.all given.input).log (outcome words given.all given.input).lines comes.printed
+
+-- the meaning of a status, by the counts of faults before the run and after it
+pub record HasStatus (before after : Counts) (status : ℕ) : Type 0 where
   pub is : IsStatus status
-  pub source_later : source ≤ source'
-  pub sink_later : sink ≤ sink'
-  pub source_cause : status ≡ 4 → Rose source source'
-  pub sink_cause : status ≡ 5 → Rose sink sink'
-  -- if neither count rises, the run came to its end or memory ran out
-  pub complete : (Rose source source' → ⊥) → (Rose sink sink' → ⊥) → (status ≡ 1) ⊎ IsFinal status
+  pub later : NoneFell before after
+  pub source_cause : status ≡ 4 → Rose before.source after.source
+  pub sink_cause : status ≡ 5 → Rose before.sink after.sink
+  pub store_cause : status ≡ 6 → Rose before.store after.store
+  -- if no count rises, the run came to its end or memory ran out
+  pub complete : (Rose before.source after.source → ⊥) → (Rose before.sink after.sink → ⊥) → (Rose before.store after.store → ⊥) → (status ≡ 1) ⊎ IsFinal status
+
+-- a run over objects that never fail, and that found memory
+pub record ComesSurely (o : Outcome) (written written' : List ℕ) (files' : Files) (ended : ℕ) : Type 0 where
+  pub status : ended ≡ o.status
+  pub printed : written' ≡ written ++ printed_by o
+  pub files : files' ≡ o.files

@@ -1,42 +1,71 @@
--- The parts of a run: the history, the line that has begun, and the bytes that are written (of the code: no promise
--- rests on these).
-use Rattle.std.specs.Prelude.{◌≡◌, ℕ, ◌≤◌, List, [], ◌++◌, length, Option, Result, IfErr, OnOk, ⊤}
+-- The parts of a run: where it stands, and what it reads, answers and writes (of the code: no promise rests on these).
+use Rattle.std.specs.Prelude.{◌≡◌, ◌≢◌, ℕ, ◌≤◌, ◌==◌, ◌||◌, IsTrue, List, [], ◌++◌, length, take, Option, None, Result, OnOk, IfErr, IfSome}
 use Rattle.std.specs.Io.KnownBytes.{Appends, Consumes, IsAtEnd}
-use Rattle.tcm_edges.specs.Causes.{Rose}
+use Rattle.tcm_edges.specs.Files.{Files}
 use Rattle.tcm_edges.specs.Owed.{WritesPrefix}
-use Rattle.transformations.specs.declared.command.Command.{Command}
-use Rattle.tcm_session.specs.Lines.{whole_lines, open_line}
-use Rattle.tcm_session.specs.Machine.{answers, history_after}
+use Rattle.transformations.specs.declared.entry.Entry.{Entry}
+use Rattle.tcm_session.specs.Counts.{Counts}
+use Rattle.tcm_session.specs.Faults.{HasRunCause}
+use Rattle.tcm_session.specs.Lines.{HasNoFeed, whole_lines, open_line}
+use Rattle.tcm_session.specs.LogFiles.{Gains, entry_lines}
+use Rattle.tcm_session.specs.Machine.{answers, entries_added, log_after}
 use Rattle.tcm_session.specs.Outcome.{Outcome, input_limit}
-use Rattle.tcm_session.specs.Run.{HasRead, HasStatus, Prints}
+use Rattle.tcm_session.specs.Run.{ComesTo, ReadsFor}
 use Rattle.tcm_session.specs.declared.fault.RunFault.{RunFault}
 use Rattle.tcm_session.specs.declared.fault.RunFault.TheVariants as fault
 use Rattle.tcm_session.specs.declared.reading.ReadEnd.{ReadEnd}
 use Rattle.tcm_session.specs.declared.reading.ReadEnd.TheVariants as end
 
--- bytes were taken after the open line: the lines that end among them are answered, and the rest is the new open line
-pub record Takes (bytes : List ℕ) (history : List Command) (opened : List ℕ) (written : Option (List ℕ)) (history' : List Command) (opened' : List ℕ) (written' : Option (List ℕ)) : Type 0 where
-  pub accepted : history' ≡ history_after history (whole_lines (opened ++ bytes))
-  pub begun : opened' ≡ open_line (opened ++ bytes)
-  pub answered : Appends written written' (answers history (whole_lines (opened ++ bytes)))
+-- the bytes that are kept of a line: at most one more than a line may have, so a line that is too long stays too long
+abbrev pub most_kept : ℕ
+most_kept = 16385
 
--- reading stopped at a fault, after at most `most` bytes were read after the open line; a prefix of the answers to the
--- lines that end among them is written, and at a fault of the source all these answers
-pub record StopsAt (cause : RunFault) (most : ℕ) (left left' : Option (List ℕ)) (history : List Command) (opened : List ℕ) (written written' : Option (List ℕ)) : Type 0 where
+abbrev pub kept_of : List ℕ → List ℕ
+kept_of bytes = take most_kept bytes
+
+-- the bytes that are kept of a line that has begun
+pub record IsBegun (bytes : List ℕ) : Type 0 where
+  pub plain : HasNoFeed bytes
+  pub few : length bytes ≤ most_kept
+
+-- where a run stands: the log, what is kept of the line that has begun, the bytes that are written, and the files
+pub record Standing : Type 0 where
+  pub log : List Entry
+  pub begun : List ℕ
+  pub written : Option (List ℕ)
+  pub files : Option Files
+
+abbrev pub standing : List Entry → List ℕ → Option (List ℕ) → Option Files → Standing
+standing log begun written files = record { log = log; begun = begun; written = written; files = files }
+
+-- the lines that end among bytes after the line that has begun
+abbrev pub lines_ended : Standing → List ℕ → List (List ℕ)
+lines_ended at bytes = whole_lines (at.begun ++ bytes)
+
+-- bytes were taken: the lines that end among them are answered, and their entries are in the file
+pub record Takes (file : Option (List ℕ)) (bytes : List ℕ) (at at' : Standing) : Type 0 where
+  pub log : at'.log ≡ log_after at.log (lines_ended at bytes)
+  pub begun : at'.begun ≡ kept_of (open_line (at.begun ++ bytes))
+  pub answered : Appends at.written at'.written (answers at.log (lines_ended at bytes))
+  pub files : Gains file (entry_lines (entries_added at.log (lines_ended at bytes))) at.files at'.files
+
+-- reading stopped at a fault, after at most `most` bytes were read; a prefix of the answers to the lines that end among
+-- them is written, and at a fault of the source all these answers
+pub record StopsAt (cause : RunFault) (most : ℕ) (left left' : Option (List ℕ)) (at : Standing) (written' : Option (List ℕ)) : Type 0 where
   pub bytes : List ℕ
   pub consumed : Consumes left left' bytes
   pub bounded : length bytes ≤ most
-  pub part : WritesPrefix written written' (answers history (whole_lines (opened ++ bytes)))
-  pub whole : cause ≡ fault.Source → Appends written written' (answers history (whole_lines (opened ++ bytes)))
+  pub part : WritesPrefix at.written written' (answers at.log (lines_ended at bytes))
+  pub whole : cause ≡ fault.Source → Appends at.written written' (answers at.log (lines_ended at bytes))
 
 -- one read of n bytes, at most `most`, which are taken
-pub record ReadsOnce (n most : ℕ) (left left' : Option (List ℕ)) (history : List Command) (opened : List ℕ) (written : Option (List ℕ)) (history' : List Command) (opened' : List ℕ) (written' : Option (List ℕ)) : Type 0 where
+pub record ReadsOnce (file : Option (List ℕ)) (n most : ℕ) (left left' : Option (List ℕ)) (at at' : Standing) : Type 0 where
   pub bytes : List ℕ
   pub count : length bytes ≡ n
   pub bounded : n ≤ most
   pub consumed : Consumes left left' bytes
   pub at_end : n ≡ 0 → IsAtEnd left'
-  pub takes : Takes bytes history opened written history' opened' written'
+  pub takes : Takes file bytes at at'
 
 -- the bytes that are read at the limit: no byte at the end of the input, else one byte
 abbrev pub PastBy : ReadEnd → Option (List ℕ) → List ℕ → Type 0
@@ -55,33 +84,40 @@ EndsBy end.AtEnd left' bytes past = IsAtEnd left' × (length bytes ≤ input_lim
 EndsBy end.PastLimit left' bytes past = (length bytes ≡ input_limit) × (length past ≡ 1)
 
 -- a script was read to its end, or one byte past the limit
-pub record ReadsTo (ending : ReadEnd) (left left' : Option (List ℕ)) (history : List Command) (opened : List ℕ) (written : Option (List ℕ)) (history' : List Command) (opened' : List ℕ) (written' : Option (List ℕ)) : Type 0 where
+pub record ReadsTo (file : Option (List ℕ)) (ending : ReadEnd) (left left' : Option (List ℕ)) (at at' : Standing) : Type 0 where
   pub bytes : List ℕ
   pub past : List ℕ
   pub consumed : Consumes left left' (bytes ++ past)
   pub ends : EndsBy ending left' bytes past
-  pub takes : Takes bytes history opened written history' opened' written'
-
--- a fault of the source or of the sink shows that its count of faults rose; running out of memory shows nothing
-abbrev pub Shows : RunFault → ℕ → ℕ → ℕ → ℕ → Type 0
-Shows fault.Memory source source' sink sink' = ⊤
-Shows fault.Source source source' sink sink' = Rose source source'
-Shows fault.Sink source source' sink sink' = Rose sink sink'
-
--- the counts of faults of source and sink never fall, and a fault of either comes only if its count rose
-pub record HasRunCause {T : Type 0} (source source' sink sink' : ℕ) (result : Result T RunFault) : Type 0 where
-  pub source_later : source ≤ source'
-  pub sink_later : sink ≤ sink'
-  pub shown : IfErr result (λ e. Shows e source source' sink sink')
+  pub takes : Takes file bytes at at'
 
 -- a text is written, or a prefix of it at a fault
-pub record Writes {T : Type 0} (text : List ℕ) (written written' : Option (List ℕ)) (sink sink' : ℕ) (result : Result T RunFault) : Type 0 where
+pub record Writes {T : Type 0} (text : List ℕ) (written written' : Option (List ℕ)) (before after : Counts) (result : Result T RunFault) : Type 0 where
   pub whole : OnOk result (Appends written written' text)
   pub part : WritesPrefix written written' text
-  pub cause : HasRunCause 0 0 sink sink' result
+  pub cause : HasRunCause before after result
 
--- a run up to its status: the bytes that it prints, the bytes that it reads, and the meaning of the status
-pub record RunsFor (outcome_of : List ℕ → Outcome) (left left' written written' : Option (List ℕ)) (source source' sink sink' status : ℕ) : Type 0 where
-  pub prints : Prints outcome_of left written written' status
-  pub reads : HasRead left left' written written' status
-  pub shows : HasStatus source source' sink sink' status
+-- a run that was given some input: it comes to the outcome of this input, and reads as the outcome says
+pub record RunsFor {S : Type 0} (outcome_of : List ℕ → Outcome) (left : S → Option (List ℕ)) (input input' : S) (written written' : Option (List ℕ)) (files' : Option Files) (status : ℕ) : Type 0 where
+  pub given : List ℕ
+  pub told : IfSome (left input) (λ bytes. bytes ≡ given)
+  pub comes : ComesTo (outcome_of given) written written' files' status
+  pub reads : ReadsFor (outcome_of given) left input input' written written' status
+
+-- a store may hold these files: it tells nothing else
+abbrev pub MayHold : Option Files → Files → Type 0
+MayHold files all = IfSome files (λ these. these ≡ all)
+
+-- a run over a store that may hold some files
+pub record RunsOn {S : Type 0} (outcome_of : Files → List ℕ → Outcome) (left : S → Option (List ℕ)) (input input' : S) (written written' : Option (List ℕ)) (files files' : Option Files) (status : ℕ) : Type 0 where
+  pub all : Files
+  pub held : MayHold files all
+  pub runs : RunsFor (outcome_of all) left input input' written written' files' status
+
+-- the statuses of runs that no fault ends
+abbrev pub IsEnd : ℕ → Type 0
+IsEnd status = IsTrue ((status == 0) || (status == 2) || (status == 3) || (status == 8))
+
+-- without the name of a file, the store isn't used, and so it doesn't fail
+abbrev pub LeavesStore : {D T : Type 0} → Option (List ℕ) → D → D → Result T RunFault → Type 0
+LeavesStore name store store' result = name ≡ None → (store' ≡ store) × IfErr result (λ e. e ≢ fault.Store)

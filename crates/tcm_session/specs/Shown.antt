@@ -3,8 +3,10 @@ use Rattle.std.specs.Prelude.{◌≡◌, ℕ, ◌+◌, if◌then◌else◌, ℤ,
 use Rattle.std.specs.List.{Contains, slice_get}
 use Rattle.cluster_terms.specs.Quorum.{Meet, Sets, datacenter_of}
 use Rattle.transformations.specs.History.{state_after}
+use Rattle.transformations.specs.Log.{commands_of}
 use Rattle.transformations.specs.Meeting.{datacenters_of, makes_movement_epoch, local_sets_at, sets_at}
 use Rattle.transformations.specs.declared.command.Command.{Command}
+use Rattle.transformations.specs.declared.entry.Entry.{Entry}
 use Rattle.transformations.specs.declared.image.Image.{Image}
 use Rattle.transformations.specs.declared.keyspace.KeyspaceRow.{KeyspaceRow}
 use Rattle.cluster_metadata.specs.Served.{keyspace_of}
@@ -14,7 +16,7 @@ use Rattle.script_lang.specs.declared.script_line.ScriptLine.{ScriptLine}
 use Rattle.script_lang.specs.declared.script_line.ScriptLine.TheVariants.{Quorum, Local}
 use Rattle.script_lang.specs.declared.script_line.Target.TheVariants.{Epoch}
 use Rattle.tcm_session.specs.Lines.{whole_lines}
-use Rattle.tcm_session.specs.Machine.{history_after, reply}
+use Rattle.tcm_session.specs.Machine.{log_after, log_next}
 
 -- the quorums that an answer shows: the datacenter of a local query, the keyspace, the token, the epoch, and the sets
 pub record Shown : Type 0 where
@@ -58,14 +60,14 @@ shown_by history (Some (Quorum (Epoch e) name t)) = shown_at history e name None
 shown_by history (Some (Local (Epoch e) name dc t)) = shown_at history e name (Some dc) t
 shown_by history _ = None
 
--- the quorums that the answers to lines show, in their order
+-- the quorums that the answers to lines show, in their order, from a log on
 abbrev pub and_shown : Option Shown → List Shown → List Shown
 and_shown None later = later
 and_shown (Some s) later = s ∷ later
 
-abbrev pub shown : List Command → List (List ℕ) → List Shown
-shown history [] = []
-shown history (bytes ∷ lines) = and_shown (shown_by history (line_of bytes)) (shown (reply history bytes).history lines)
+abbrev pub shown : List Entry → List (List ℕ) → List Shown
+shown log [] = []
+shown log (bytes ∷ lines) = and_shown (shown_by (commands_of log) (line_of bytes)) (shown (log_next log bytes) lines)
 
 -- two answers are to the same question
 pub record AskAlike (p q : Shown) : Type 0 where
@@ -92,6 +94,6 @@ abbrev pub LinesAreShown : List ℕ → List Shown → Type 0
 LinesAreShown bytes answers = (l : List ℕ) → Contains (whole_lines bytes) l → BeginsWithWord l → IsShownLine answers l
 
 -- the quorums in the printed lines are the quorums that the answers to these lines show, and they meet
-pub record PrintsMeeting (lines : List (List ℕ)) (printed : List ℕ) : Type 0 where
-  pub texts : LinesAreShown printed (shown [] lines)
-  pub meet : ShownMeet (history_after [] lines) (shown [] lines)
+pub record PrintsMeeting (log : List Entry) (lines : List (List ℕ)) (printed : List ℕ) : Type 0 where
+  pub texts : LinesAreShown printed (shown log lines)
+  pub meet : ShownMeet (commands_of (log_after log lines)) (shown log lines)

@@ -1,13 +1,41 @@
-//! The faults that end a run early.
+//! The faults that end a step or a run early.
 
 ghost use Rattle.std.specs.Prelude.{◌≡◌};
 ghost use Rattle.tcm_session.specs.declared.fault.RunFault.TheVariants as run;
-ghost use Rattle.tcm_edges.specs.declared.fault.WriteFault.TheVariants as write;
-ghost use Rattle.tcm_session.specs.Faults.{of_write};
+ghost use Rattle.tcm_session.specs.declared.fault.StepFault.TheVariants as step;
+ghost use Rattle.tcm_session.specs.Faults.{of_append, of_load, of_step, of_write};
 
 use cluster_terms::Memory;
 use std::alloc::AllocError;
-use tcm_edges::{Failed, WriteFault};
+use tcm_edges::{Failed, LoadFault, WriteFault};
+
+/// Why a step gave no answer.
+#[derive(Clone, Copy, Debug, PartialEq, Eq)]
+pub enum StepFault {
+    /// Memory ran out.
+    Memory,
+    /// The store failed to add the line of an entry to the log file.
+    Store,
+}
+
+impl From<Memory> for StepFault {
+    ghost from_gives = { λ _ fault. fault ≡ step.Memory };
+
+    fn from(_memory: Memory) -> StepFault {
+        StepFault::Memory
+    }
+}
+
+impl From<WriteFault> for StepFault {
+    ghost from_gives = { λ cause fault. fault ≡ of_append cause };
+
+    fn from(cause: WriteFault) -> StepFault {
+        match cause {
+            WriteFault::Failed => StepFault::Store,
+            WriteFault::Memory => StepFault::Memory,
+        }
+    }
+}
 
 /// Why a run ended early.
 #[derive(Clone, Copy, Debug, PartialEq, Eq)]
@@ -18,6 +46,8 @@ pub enum RunFault {
     Source,
     /// The sink failed.
     Sink,
+    /// The store failed.
+    Store,
 }
 
 impl From<Memory> for RunFault {
@@ -51,6 +81,28 @@ impl From<WriteFault> for RunFault {
         match cause {
             WriteFault::Failed => RunFault::Sink,
             WriteFault::Memory => RunFault::Memory,
+        }
+    }
+}
+
+impl From<LoadFault> for RunFault {
+    ghost from_gives = { λ cause fault. fault ≡ of_load cause };
+
+    fn from(cause: LoadFault) -> RunFault {
+        match cause {
+            LoadFault::Failed => RunFault::Store,
+            LoadFault::Memory => RunFault::Memory,
+        }
+    }
+}
+
+impl From<StepFault> for RunFault {
+    ghost from_gives = { λ cause fault. fault ≡ of_step cause };
+
+    fn from(cause: StepFault) -> RunFault {
+        match cause {
+            StepFault::Memory => RunFault::Memory,
+            StepFault::Store => RunFault::Store,
         }
     }
 }

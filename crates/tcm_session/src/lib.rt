@@ -1,19 +1,24 @@
-//! A session: reads script lines, keeps the history of accepted commands, and answers each line.
+//! A session: reads script lines, keeps the log of accepted commands, and answers each line.
 #![tactic(auto)]
 
 mod fault;
 mod lines;
+mod loading;
+mod noting;
 mod place_text;
 mod placement;
 mod program;
 mod query;
 mod quorum_text;
 mod reading;
+mod refused_line;
 mod replay;
 mod rings;
 mod script;
 mod session;
 mod validity;
 
+pub use fault::StepFault;
 pub use program::{Status, run, run_surely};
+pub use session::Session;
 pub use validity::{lines_make_the_input, shown_quorums_meet};

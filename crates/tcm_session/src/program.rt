@@ -1,36 +1,54 @@
 //! Runs the program: the words after its name, a script as input, and the printed answers.
 
-ghost use Rattle.std.specs.Prelude.{◌≡◌, ◌≢◌, ◌⊎◌, ℕ, ◌+◌, ◌<◌, ◌-◌, ◌^◌, ◌≤◌, [], Some, false, map, string_bytes, length, IfOk};
-ghost use Rattle.tcm_session.specs.Endings.{ending_status, ending_text, fault_status as status_of_fault, status_by};
-ghost use Rattle.tcm_session.specs.Outcome.{HasOutcome, commit_outcome, is_commit as is_commit_word, outcome, usage_text};
-ghost use Rattle.tcm_session.specs.Run.{HasRead, HasStatus, IsRun};
-ghost use Rattle.tcm_session.specs.Runs.{RunsFor, Writes};
+ghost use Rattle.std.specs.Prelude.{◌≡◌, ◌≢◌, ◌⊎◌, ◌++◌, [], length, None, Some, Ok, false, map, string_bytes, OnOk, IfErr, IfOk};
+ghost use Rattle.std.specs.Option.{option_copied, option_map};
+ghost use Rattle.tcm_edges.specs.Files.{Files};
+ghost use Rattle.tcm_session.specs.Counts.{counts};
+ghost use Rattle.tcm_session.specs.Endings.{IsCommitOf, ending_lines, ending_status, ending_text, fault_status as status_of_fault, status_by};
+ghost use Rattle.tcm_session.specs.Faults.{HasRunCause};
+ghost use Rattle.tcm_session.specs.LogFiles.{Gains, cut_to_lines, entry_lines, lines_part, log_of, refused_line_text as refused_words};
+ghost use Rattle.tcm_session.specs.Machine.{entries_added};
+ghost use Rattle.tcm_session.specs.Outcome.{commit_outcome, is_commit, named_log, outcome, outcome_from, script_outcome, unread_outcome};
+ghost use Rattle.tcm_session.specs.Run.{ComesSurely, HasStatus, IsRun};
+ghost use Rattle.tcm_session.specs.Runs.{IsEnd, LeavesStore, MayHold, RunsFor, RunsOn, Writes};
+ghost use Rattle.tcm_session.specs.Loading.{IsCut, IsLinesPart, TakesFile};
+ghost use Rattle.tcm_session.specs.declared.fault.RunFault.TheVariants as fault;
 
 use crate::fault::RunFault;
+use crate::loading::{Loading, load_lines};
 use crate::reading::{ReadEnd, read_script};
+use crate::refused_line::{RefusedLine, refused_line_text};
 use crate::script::answer_line;
 use crate::session::Session;
+use cluster_terms::ByteText;
 use std::alloc::Global;
-use tcm_edges::{Sink, Source, Store, SureSink, SureSource, SureStore, write_all};
+use tcm_edges::{
+    Loaded, Sink, Source, Store, SureSink, SureSource, SureStore, WriteFault, write_all,
+};
 
-/// The text that is printed for words other than `commit`.
+/// The text that is printed for words that name no command.
 const USAGE: &str = "usage: tcm commit [LOG] | replay FILE.. | snapshot LOG E | gen START N\n";
 
-/// The text that is printed for an input that is too large, with the limit in bytes.
+/// The text that is printed for an input or a file that is too large, with the limit in bytes.
 const TOO_LARGE: &str = "TOO-LARGE 536870912\n";
 
-/// The status of a run: 0 if the input was read to its end, 1 if memory ran out, 2 for words other than `commit`, 4 if
-/// the source failed, 5 if the sink failed, 8 if the input is too large. `run` explains each status.
+/// The most bytes of a file.
+const FILE_LIMIT: u64 = 536_870_912;
+
+/// The status of a run: 0 if the input was read to its end, 1 if memory ran out, 2 for words that name no command, 3 if
+/// the log is refused, 4 if the source failed, 5 if the sink failed, 6 if the store failed, 8 if the input or the file
+/// is too large. `run` explains each status.
 #[derive(Clone, Copy, Debug, PartialEq, Eq)]
 pub struct Status(pub u8);
 
-/// Whether the words are the one word `commit`.
-fn is_commit(words: &[String]) -> bool
-    ensures { result ≡ is_commit_word (map string_bytes words.now) }
+/// Whether the words are `commit`, and the log file that they name, if they name one. Returns `None` for other words.
+fn commit_words(words: &[String]) -> Option<Option<&str>>
+    ensures { IsCommitOf (map string_bytes words.now) (option_map option_copied result) }
 {
     match words {
-        [word] => word.as_str() == "commit",
-        _ => false,
+        [word] if word.as_str() == "commit" => Some(None),
+        [word, file] if word.as_str() == "commit" && !file.is_empty() => Some(Some(file.as_str())),
+        _ => None,
     }
 }
 
@@ -42,6 +60,7 @@ fn fault_status(fault: RunFault) -> Status
         RunFault::Memory => Status(1),
         RunFault::Source => Status(4),
         RunFault::Sink => Status(5),
+        RunFault::Store => Status(6),
     }
 }
 
@@ -66,116 +85,276 @@ fn status_of(ended: Result<Status, RunFault>) -> Status
 }
 
 /// Writes a fixed text to `out`.
-fn print<K: Sink>(text: &str, out: &mut K) -> Result<(), RunFault>
+fn print<K: Sink>(text: &[u8], out: &mut K) -> Result<(), RunFault>
     ensures { Writes text.now (K.written out.old) (K.written out.new)
-        (K.faults out.old) (K.faults out.new) result }
+        (counts 0 (K.faults out.old) 0) (counts 0 (K.faults out.new) 0) result }
 {
-    write_all(out, text.as_bytes())?;
+    write_all(out, text)?;
     Ok(())
+}
+
+/// Prints a text, and returns a status. No input is read, and no file changes.
+fn end_with<K: Sink>(text: &[u8], status: u8, out: &mut K) -> Result<Status, RunFault>
+    ensures writes { Writes text.now (K.written out.old) (K.written out.new)
+        (counts 0 (K.faults out.old) 0) (counts 0 (K.faults out.new) 0) result }
+    ensures status { IfOk result (λ ended. ended.0 ≡ status) }
+{
+    print(text, out)?;
+    Ok(Status(status))
 }
 
 /// Writes the last text of a run, after its script was read: the answer to a last line that lacks its line feed, or the
 /// text for an input that is too large.
-fn finish<K: Sink>(
+fn finish<K: Sink, D: Store>(
     alloc: Global,
     session: &mut Session,
     begun: &[u8],
     ending: ReadEnd,
+    log: Option<&str>,
     out: &mut K,
+    store: &mut D,
 ) -> Result<(), RunFault>
-    ensures { Writes (ending_text ending session.old begun.now) (K.written out.old) (K.written out.new)
-        (K.faults out.old) (K.faults out.new) result }
+    ensures writes { Writes (ending_text ending session.old begun.now) (K.written out.old) (K.written out.new)
+        (counts 0 (K.faults out.old) (D.faults store.old)) (counts 0 (K.faults out.new) (D.faults store.new)) result }
+    ensures file { OnOk result (Gains (option_copied log.entry)
+        (entry_lines (entries_added session.old (ending_lines ending begun.now)))
+        (D.files store.old) (D.files store.new)) }
+    ensures unnamed { LeavesStore (option_copied log.entry) store.old store.new result }
 {
     match ending {
         ReadEnd::AtEnd if begun.is_empty() => Ok(()),
-        ReadEnd::AtEnd => answer_line(alloc, session, begun, out),
-        ReadEnd::PastLimit => print(TOO_LARGE, out),
+        ReadEnd::AtEnd => answer_line(alloc, session, begun, log, store, out),
+        ReadEnd::PastLimit => print(TOO_LARGE.as_bytes(), out),
     }
 }
 
-/// Runs a script in a new session.
-fn run_script<S: Source, K: Sink>(
+/// Runs a script from the log of the session on. If a file is named, the lines of new entries are added to it.
+fn run_script<S: Source, K: Sink, D: Store>(
     alloc: Global,
     session: &mut Session,
+    log: Option<&str>,
     input: &mut S,
     out: &mut K,
+    store: &mut D,
 ) -> Result<Status, RunFault>
-    requires { session.old ≡ [] }
-    ensures { RunsFor commit_outcome
-        (S.left input.old) (S.left input.new) (K.written out.old) (K.written out.new)
-        (S.faults input.old) (S.faults input.new) (K.faults out.old) (K.faults out.new) (status_by result) }
+    ensures runs { (all : Files) → MayHold (D.files store.old) all
+        → RunsFor (script_outcome (record { log = session.old; file = option_copied log.entry; files = all }))
+        S.left input.old input.new (K.written out.old) (K.written out.new) (D.files store.new) (status_by result) }
+    ensures cause { HasRunCause
+        (counts (S.faults input.old) (K.faults out.old) (D.faults store.old))
+        (counts (S.faults input.new) (K.faults out.new) (D.faults store.new)) result }
+    ensures ended { IfOk result (λ status. IsEnd status.0) }
+    ensures unnamed { LeavesStore (option_copied log.entry) store.old store.new result }
 {
     let mut begun = Vec::new(alloc);
-    let ending = read_script(alloc, session, &mut begun, input, out)?;
-    finish(alloc, session, begun.as_slice(), ending, out)?;
+    let ending = read_script(alloc, session, &mut begun, log, input, out, store)?;
+    finish(alloc, session, begun.as_slice(), ending, log, out, store)?;
     Ok(end_status(ending))
 }
 
-/// Runs a script from an empty history, without a file.
-fn commit<S: Source, K: Sink>(alloc: Global, input: &mut S, out: &mut K) -> Result<Status, RunFault>
-    ensures { RunsFor commit_outcome
-        (S.left input.old) (S.left input.new) (K.written out.old) (K.written out.new)
-        (S.faults input.old) (S.faults input.new) (K.faults out.old) (K.faults out.new) (status_by result) }
+/// Runs a script from an empty log. If a file is named, the lines of new entries are added to it.
+fn commit<S: Source, K: Sink, D: Store>(
+    alloc: Global,
+    log: Option<&str>,
+    input: &mut S,
+    out: &mut K,
+    store: &mut D,
+) -> Result<Status, RunFault>
+    ensures runs { (all : Files) → MayHold (D.files store.old) all
+        → RunsFor (script_outcome (record { log = []; file = option_copied log.entry; files = all }))
+        S.left input.old input.new (K.written out.old) (K.written out.new) (D.files store.new) (status_by result) }
+    ensures cause { HasRunCause
+        (counts (S.faults input.old) (K.faults out.old) (D.faults store.old))
+        (counts (S.faults input.new) (K.faults out.new) (D.faults store.new)) result }
+    ensures ended { IfOk result (λ status. IsEnd status.0) }
+    ensures unnamed { LeavesStore (option_copied log.entry) store.old store.new result }
 {
     let mut session = Session::empty(alloc)?;
-    let result = run_script(alloc, &mut session, input, out);
+    let result = run_script(alloc, &mut session, log, input, out, store);
     session.close();
     result
 }
 
-/// Prints the usage line, and returns status 2.
-fn usage<K: Sink>(out: &mut K) -> Result<Status, RunFault>
-    ensures writes { Writes usage_text (K.written out.old) (K.written out.new)
-        (K.faults out.old) (K.faults out.new) result }
-    ensures status { IfOk result (λ status. status.0 ≡ 2) }
+/// Prints the text for a log that is refused, and returns status 3.
+fn refuse_log<K: Sink>(
+    alloc: Global,
+    refused: &RefusedLine,
+    out: &mut K,
+) -> Result<Status, RunFault>
+    ensures writes { Writes (refused_words refused.now) (K.written out.old) (K.written out.new)
+        (counts 0 (K.faults out.old) 0) (counts 0 (K.faults out.new) 0) result }
+    ensures status { IfOk result (λ ended. ended.0 ≡ 3) }
 {
-    print(USAGE, out)?;
-    Ok(Status(2))
+    let mut text = ByteText::empty(alloc);
+    refused_line_text(refused, &mut text)?;
+    end_with(text.as_slice(), 3, out)
 }
 
-/// Runs the script for `commit`, and prints the usage line for other words. Stops at the first fault.
-fn answer_words<S: Source, K: Sink>(
+/// Cuts off the bytes after the whole lines of a file, if there are any.
+fn cut_file<D: Store>(name: &str, file: &[u8], size: usize, store: &mut D) -> Result<(), RunFault>
+    requires { IsLinesPart size file.now }
+    ensures cut { OnOk result (IsCut name.now file.now (D.files store.old) (D.files store.new)) }
+    ensures cause { HasRunCause (counts 0 0 (D.faults store.old)) (counts 0 0 (D.faults store.new)) result }
+{
+    if size < file.len() {
+        match store.replace(name, &file[..size]) {
+            Ok(()) => Ok(()),
+            Err(WriteFault::Failed) => Err(RunFault::Store),
+            Err(WriteFault::Memory) => Err(RunFault::Memory),
+        }
+    } else {
+        Ok(())
+    }
+}
+
+/// Takes over the log in a file, and cuts off an open line at its end; or returns the first line that is refused.
+fn take_log<D: Store>(
+    session: &mut Session,
+    name: &str,
+    file: ByteText,
+    store: &mut D,
+) -> Result<Option<RefusedLine>, RunFault>
+    requires { session.old ≡ [] }
+    ensures taken { IfOk result (λ refused.
+        TakesFile refused name.now file session.new (D.files store.old) (D.files store.new)) }
+    ensures cause { HasRunCause (counts 0 0 (D.faults store.old)) (counts 0 0 (D.faults store.new)) result }
+{
+    match load_lines(session, file.as_slice())? {
+        Loading::Refused(refused) => Ok(Some(refused)),
+        Loading::Taken(size) => {
+            cut_file(name, file.as_slice(), size, store)?;
+            Ok(None)
+        }
+    }
+}
+
+/// Takes over the log in a file, and runs a script from there on. If a line of the log is refused, prints this line and
+/// its cause instead.
+fn resume<S: Source, K: Sink, D: Store>(
+    alloc: Global,
+    session: &mut Session,
+    name: &str,
+    file: ByteText,
+    input: &mut S,
+    out: &mut K,
+    store: &mut D,
+) -> Result<Status, RunFault>
+    requires { session.old ≡ [] }
+    ensures runs { (all : Files) → MayHold (D.files store.old) all
+        → RunsFor (outcome_from name.now all file (log_of file))
+        S.left input.old input.new (K.written out.old) (K.written out.new) (D.files store.new) (status_by result) }
+    ensures cause { HasRunCause
+        (counts (S.faults input.old) (K.faults out.old) (D.faults store.old))
+        (counts (S.faults input.new) (K.faults out.new) (D.faults store.new)) result }
+    ensures ended { IfOk result (λ status. IsEnd status.0) }
+{
+    match take_log(session, name, file, store)? {
+        Some(refused) => refuse_log(alloc, &refused, out),
+        None => run_script(alloc, session, Some(name), input, out, store),
+    }
+}
+
+/// Runs a script from the log in a file, as `resume` does, in a new session.
+fn commit_from<S: Source, K: Sink, D: Store>(
+    alloc: Global,
+    name: &str,
+    file: ByteText,
+    input: &mut S,
+    out: &mut K,
+    store: &mut D,
+) -> Result<Status, RunFault>
+    ensures runs { (all : Files) → MayHold (D.files store.old) all
+        → RunsFor (outcome_from name.now all file (log_of file))
+        S.left input.old input.new (K.written out.old) (K.written out.new) (D.files store.new) (status_by result) }
+    ensures cause { HasRunCause
+        (counts (S.faults input.old) (K.faults out.old) (D.faults store.old))
+        (counts (S.faults input.new) (K.faults out.new) (D.faults store.new)) result }
+    ensures ended { IfOk result (λ status. IsEnd status.0) }
+{
+    let mut session = Session::empty(alloc)?;
+    let result = resume(alloc, &mut session, name, file, input, out, store);
+    session.close();
+    result
+}
+
+/// Runs a script from a log file. A file that is absent is an empty log.
+fn commit_to<S: Source, K: Sink, D: Store>(
+    alloc: Global,
+    name: &str,
+    input: &mut S,
+    out: &mut K,
+    store: &mut D,
+) -> Result<Status, RunFault>
+    ensures runs { RunsOn (commit_outcome (Some name.now)) S.left input.old input.new
+        (K.written out.old) (K.written out.new) (D.files store.old) (D.files store.new) (status_by result) }
+    ensures cause { HasRunCause
+        (counts (S.faults input.old) (K.faults out.old) (D.faults store.old))
+        (counts (S.faults input.new) (K.faults out.new) (D.faults store.new)) result }
+    ensures ended { IfOk result (λ status. IsEnd status.0) }
+{
+    match store.load(name, FILE_LIMIT)? {
+        Loaded::Absent => commit(alloc, Some(name), input, out, store),
+        Loaded::TooLarge(_size) => end_with(TOO_LARGE.as_bytes(), 8, out),
+        Loaded::Bytes(file) => commit_from(alloc, name, file, input, out, store),
+    }
+}
+
+/// Runs the command that the words name, or prints the usage line. Stops at the first fault.
+fn answer_words<S: Source, K: Sink, D: Store>(
     alloc: Global,
     words: &[String],
     input: &mut S,
     out: &mut K,
+    store: &mut D,
 ) -> Result<Status, RunFault>
-    ensures runs { RunsFor (outcome (map string_bytes words.now))
-        (S.left input.old) (S.left input.new) (K.written out.old) (K.written out.new)
-        (S.faults input.old) (S.faults input.new) (K.faults out.old) (K.faults out.new) (status_by result) }
-    ensures others { is_commit_word (map string_bytes words.now) ≡ false
-        → (input.new ≡ input.old) × (status_by result ≢ 4) }
+    ensures runs { RunsOn (outcome (map string_bytes words.now)) S.left input.old input.new
+        (K.written out.old) (K.written out.new) (D.files store.old) (D.files store.new) (status_by result) }
+    ensures cause { HasRunCause
+        (counts (S.faults input.old) (K.faults out.old) (D.faults store.old))
+        (counts (S.faults input.new) (K.faults out.new) (D.faults store.new)) result }
+    ensures ended { IfOk result (λ status. IsEnd status.0) }
+    ensures unnamed { LeavesStore (named_log (map string_bytes words.now)) store.old store.new result }
 {
-    if is_commit(words) {
-        commit(alloc, input, out)
-    } else {
-        usage(out)
+    match commit_words(words) {
+        Some(None) => commit(alloc, None, input, out, store),
+        Some(Some(name)) => commit_to(alloc, name, input, out, store),
+        None => end_with(USAGE.as_bytes(), 2, out),
     }
 }
 
-/// Runs the program `tcm`; `words` are the words after its name. The one word `commit` runs the script in `input`, from
-/// an empty history. Any other words print the usage line. All output goes to `out`; `store` is not used.
+/// Runs the program `tcm`; `words` are the words after its name. All output goes to `out`.
 ///
-/// A line ends at a line feed; bytes after the last line feed, if there are any, are the last line. Each line gets one
-/// answer, which is written before the next line is looked at. The source may give the script in pieces of any length.
-/// A run reads at most 536,870,913 bytes.
+/// - `commit` runs the script in `input` from an empty log, and uses no file.
+/// - `commit LOG` runs it from the log in the file `LOG` of `store`, and adds the line of each new entry to this file
+///   before its commit is answered. A file that is absent is an empty log; it is made when the first entry is added.
+///   Bytes after the last line feed of the file are cut off, once all its lines were found good.
+/// - Other words print the usage line.
+///
+/// A line of a script ends at a line feed; bytes after the last line feed, if there are any, are the last line. Each
+/// line gets one answer, which is written before the next line is looked at. The source may give the script in pieces
+/// of any length. A run reads at most 536,870,913 bytes.
 ///
 /// Returns the status of the run:
 ///
 /// - 0: the input was read to its end, and every line was answered.
 /// - 1: memory ran out.
-/// - 2: the words are not `commit`. Nothing was read, and the usage line was printed.
+/// - 2: the words name no command. Nothing was read, and the usage line was printed.
+/// - 3: a line of the log file is refused. Nothing was read, no file was changed, and `REFUSED 1`, the number of the
+///   line and the first cause were printed.
 /// - 4: the source failed: its count of faults rose in this run. Exactly the answers to the lines that end among the
-///   bytes read were printed. Other words than `commit` never give this status.
+///   bytes read were printed. Only `commit`, with or without a file, gives this status.
 /// - 5: the sink failed: its count of faults rose in this run.
-/// - 8: byte 536,870,913 was read. The lines that end before this byte were answered, and then `TOO-LARGE 536870912`
-///   was printed.
+/// - 6: the store failed: its count of faults rose in this run. Only words that name a file give this status.
+/// - 8: byte 536,870,913 of the input was read, and the lines that end before it were answered; or the file has more
+///   than 536,870,912 bytes, and nothing was read. Then `TOO-LARGE 536870912` was printed.
 ///
-/// A run ends at its first fault. If the text for status 0, 2 or 8 can't be written, the status is 5, or 1 if the sink
-/// runs out of memory. With status 1, 4 or 5, the printed bytes are a prefix of the output of a run without the fault.
+/// A run ends at its first fault. If the text for status 0, 2, 3 or 8 can't be written, the status is 5, or 1 if the
+/// sink runs out of memory. With status 1, 4, 5 or 6, the printed bytes are a prefix of the output of a run without the
+/// fault.
 ///
-/// Cost: a run keeps in memory the history, the metadata at the last epoch, and the current line with its answer. A
-/// query at an earlier epoch costs as much as committing all commands up to that epoch again.
+/// Cost: a run keeps in memory the log, the metadata at the last epoch, the file while it is loaded, and of the current
+/// line at most 16,385 bytes, with its answer. A query at an earlier epoch costs as much as committing all commands up
+/// to that epoch again.
 pub fn run<S: Source, K: Sink, D: Store>(
     alloc: Global,
     words: &[String],
@@ -183,29 +362,25 @@ pub fn run<S: Source, K: Sink, D: Store>(
     out: &mut K,
     store: &mut D,
 ) -> Status
-    // For the same input, the printed bytes are a prefix of the bytes of the outcome, and at a final status all of
-    // them. Quorums in the printed lines meet if they answer the same question, at the same epoch or at a movement
-    // epoch and the epoch before it.
-    ensures outcome { IsRun (map string_bytes words.now) (S.left input.old)
-        (K.written out.old) (K.written out.new) result.0 }
+    // For the same input and files, the printed bytes are a prefix of the bytes of the outcome; at a final status they
+    // are all of these bytes, and the files are those of the outcome. Quorums in the printed lines meet if they answer
+    // the same question, at the same epoch or at a movement epoch and the epoch before it.
+    ensures outcome { IsRun (map string_bytes words.now) S.left input.old input.new
+        (K.written out.old) (K.written out.new) (D.files store.old) (D.files store.new) result.0 }
 
-    // The bytes that are read, and the faults that the status shows.
-    ensures read { HasRead (S.left input.old) (S.left input.new) (K.written out.old) (K.written out.new)
-        result.0 }
-    ensures status { HasStatus (S.faults input.old) (S.faults input.new) (K.faults out.old) (K.faults out.new)
-        result.0 }
+    // The faults that the status shows.
+    ensures status { HasStatus
+        (counts (S.faults input.old) (K.faults out.old) (D.faults store.old))
+        (counts (S.faults input.new) (K.faults out.new) (D.faults store.new)) result.0 }
 
-    // Other words leave the input unchanged. The store is never changed.
-    ensures others { is_commit_word (map string_bytes words.now) ≡ false
-        → (input.new ≡ input.old) × (result.0 ≢ 4) }
-    ensures store { store.new ≡ store.old }
+    // Words that name no file leave the store as it is.
+    ensures store { named_log (map string_bytes words.now) ≡ None → (store.new ≡ store.old) × (result.0 ≢ 6) }
 {
-    let _ = store;
-    status_of(answer_words(alloc, words, input, out))
+    status_of(answer_words(alloc, words, input, out, store))
 }
 
-/// Runs the program, as `run` does, over objects that never fail. The status and the printed bytes are those of the
-/// outcome, unless the status is 1: memory ran out.
+/// Runs the program, as `run` does, over objects that never fail. The status, the printed bytes and the files are those
+/// of the outcome, unless the status is 1: memory ran out.
 pub fn run_surely(
     alloc: Global,
     words: &[String],
@@ -213,8 +388,8 @@ pub fn run_surely(
     out: &mut SureSink,
     store: &mut SureStore,
 ) -> Status
-    ensures { (result.0 ≡ 1) ⊎ HasOutcome (outcome (map string_bytes words.now))
-        (Some input.old.bytes) (Some out.old) (Some out.new) result.0 }
+    ensures { (result.0 ≡ 1) ⊎ ComesSurely (outcome (map string_bytes words.now) store.old input.old.bytes)
+        out.old out.new store.new result.0 }
 {
     run(alloc, words, input, out, store)
 }

@@ -1,17 +1,19 @@
 //! Reads a script piece by piece.
 
-ghost use Rattle.std.specs.Prelude.{◌≡◌, ℕ, ◌+◌, ◌<◌, ◌-◌, ◌^◌, ◌≤◌, [], length, vec_len, IfOk, IfErr, OnErr};
+ghost use Rattle.std.specs.Prelude.{◌≡◌, ◌<◌, length, vec_len, IfOk, IfErr, OnErr};
 ghost use Rattle.std.specs.Io.KnownBytes.{Keeps};
-ghost use Rattle.tcm_session.specs.Lines.{HasNoFeed};
+ghost use Rattle.std.specs.Option.{option_copied};
+ghost use Rattle.tcm_session.specs.Counts.{counts};
+ghost use Rattle.tcm_session.specs.Faults.{HasRunCause};
 ghost use Rattle.tcm_session.specs.Outcome.{input_limit};
-ghost use Rattle.tcm_session.specs.Runs.{HasRunCause, ReadsOnce, ReadsPast, ReadsTo, StopsAt};
+ghost use Rattle.tcm_session.specs.Runs.{IsBegun, LeavesStore, ReadsOnce, ReadsPast, ReadsTo, StopsAt, standing};
 ghost use Rattle.tcm_session.specs.declared.fault.RunFault.TheVariants as fault;
 
 use crate::fault::RunFault;
 use crate::script::feed;
 use crate::session::Session;
 use std::alloc::Global;
-use tcm_edges::{Sink, Source};
+use tcm_edges::{Sink, Source, Store};
 
 /// The most bytes of an input. One more byte is read, to see whether the input is larger.
 const INPUT_LIMIT: usize = 536_870_912;
@@ -29,25 +31,31 @@ pub enum ReadEnd {
 }
 
 /// Reads a piece, answers the lines that end in it, and returns its length: 0 only at the end of the input.
-fn read_piece<S: Source, K: Sink>(
+fn read_piece<S: Source, K: Sink, D: Store>(
     alloc: Global,
     session: &mut Session,
     begun: &mut Vec<u8>,
     buffer: &mut [u8],
+    log: Option<&str>,
     input: &mut S,
     out: &mut K,
+    store: &mut D,
 ) -> Result<usize, RunFault>
     requires buffer { 0 < length buffer.old }
-    requires begun { HasNoFeed begun.old.items }
-    ensures ok { IfOk result (λ n. ReadsOnce n (length buffer.old) (S.left input.old) (S.left input.new)
-        session.old begun.old.items (K.written out.old) session.new begun.new.items (K.written out.new)) }
+    requires begun { IsBegun begun.old.items }
+    ensures ok { IfOk result (λ n. ReadsOnce (option_copied log.entry) n (length buffer.old)
+        (S.left input.old) (S.left input.new)
+        (standing session.old begun.old.items (K.written out.old) (D.files store.old))
+        (standing session.new begun.new.items (K.written out.new) (D.files store.new))) }
     ensures err { IfErr result (λ e. StopsAt e (length buffer.old) (S.left input.old) (S.left input.new)
-        session.old begun.old.items (K.written out.old) (K.written out.new)) }
-    ensures cause { HasRunCause (S.faults input.old) (S.faults input.new)
-        (K.faults out.old) (K.faults out.new) result }
+        (standing session.old begun.old.items (K.written out.old) (D.files store.old)) (K.written out.new)) }
+    ensures cause { HasRunCause
+        (counts (S.faults input.old) (K.faults out.old) (D.faults store.old))
+        (counts (S.faults input.new) (K.faults out.new) (D.faults store.new)) result }
+    ensures unnamed { LeavesStore (option_copied log.entry) store.old store.new result }
 {
     let count = input.read(buffer)?;
-    feed(alloc, session, begun, &buffer[..count], out)?;
+    feed(alloc, session, begun, &buffer[..count], log, store, out)?;
     Ok(count)
 }
 
@@ -64,7 +72,7 @@ fn zeros(alloc: Global, len: usize) -> Result<Vec<u8>, RunFault>
 fn read_past<S: Source>(input: &mut S) -> Result<ReadEnd, RunFault>
     ensures ok { IfOk result (λ ending. ReadsPast ending (S.left input.old) (S.left input.new)) }
     ensures err { OnErr result (Keeps (S.left input.old) (S.left input.new)) }
-    ensures cause { HasRunCause (S.faults input.old) (S.faults input.new) 0 0 result }
+    ensures cause { HasRunCause (counts (S.faults input.old) 0 0) (counts (S.faults input.new) 0 0) result }
 {
     let mut byte = [0u8; 1];
     match input.read(&mut byte)? {
@@ -76,26 +84,32 @@ fn read_past<S: Source>(input: &mut S) -> Result<ReadEnd, RunFault>
 /// Reads a script to its end or up to the limit. Answers each line that a line feed ends before it reads on, and keeps
 /// the rest in `begun`. At a fault, a prefix of the answers is written; at a fault of the source, all answers to the
 /// lines that end among the bytes read.
-pub fn read_script<S: Source, K: Sink>(
+pub fn read_script<S: Source, K: Sink, D: Store>(
     alloc: Global,
     session: &mut Session,
     begun: &mut Vec<u8>,
+    log: Option<&str>,
     input: &mut S,
     out: &mut K,
+    store: &mut D,
 ) -> Result<ReadEnd, RunFault>
-    requires begun { HasNoFeed begun.old.items }
-    ensures ok { IfOk result (λ ending. ReadsTo ending (S.left input.old) (S.left input.new)
-        session.old begun.old.items (K.written out.old) session.new begun.new.items (K.written out.new)) }
+    requires begun { IsBegun begun.old.items }
+    ensures ok { IfOk result (λ ending. ReadsTo (option_copied log.entry) ending (S.left input.old) (S.left input.new)
+        (standing session.old begun.old.items (K.written out.old) (D.files store.old))
+        (standing session.new begun.new.items (K.written out.new) (D.files store.new))) }
     ensures err { IfErr result (λ e. StopsAt e input_limit (S.left input.old) (S.left input.new)
-        session.old begun.old.items (K.written out.old) (K.written out.new)) }
-    ensures cause { HasRunCause (S.faults input.old) (S.faults input.new)
-        (K.faults out.old) (K.faults out.new) result }
+        (standing session.old begun.old.items (K.written out.old) (D.files store.old)) (K.written out.new)) }
+    ensures cause { HasRunCause
+        (counts (S.faults input.old) (K.faults out.old) (D.faults store.old))
+        (counts (S.faults input.new) (K.faults out.new) (D.faults store.new)) result }
+    ensures unnamed { LeavesStore (option_copied log.entry) store.old store.new result }
 {
     let mut buffer = zeros(alloc, PIECE)?;
     let mut taken = 0;
     while taken < INPUT_LIMIT {
         let room = PIECE.min(INPUT_LIMIT - taken);
-        let count = read_piece(alloc, session, begun, &mut buffer[..room], input, out)?;
+        let piece = &mut buffer[..room];
+        let count = read_piece(alloc, session, begun, piece, log, input, out, store)?;
         if count == 0 {
             return Ok(ReadEnd::AtEnd);
         }

@@ -1,12 +1,14 @@
-//! The metadata that a history leads to.
+//! The metadata that the entries of a log lead to.
 
-ghost use Rattle.std.specs.Prelude.{◌≡◌, ◌<◌, None, IfOk, IsTrue, MatchResult, OnOk};
-ghost use Rattle.transformations.specs.History.{IsHistory, empty_image, image_after, is_command, most_epochs, next_image};
+ghost use Rattle.std.specs.Prelude.{◌≡◌, ◌<◌, ◌≤◌, length, None, IfOk, IsTrue, MatchResult, OnOk};
+ghost use Rattle.transformations.specs.History.{IsHistory, empty_image, is_command, most_epochs, next_image, state_after};
+ghost use Rattle.transformations.specs.Log.{commands_of};
 ghost use Rattle.transformations.specs.Refusals.{refusal_of};
 ghost use Rattle.cluster_metadata.specs.Permission.{ShowsRefusal};
 
 use cluster_metadata::{AdmitFault, Metadata, Permit};
 use cluster_terms::{Memory, Steps};
+use epoch_log::Log;
 use std::alloc::Global;
 use std::marker::Brand;
 use std::sync::ledger::{Blank, Ledger};
@@ -59,27 +61,32 @@ fn take_over(metadata: &mut Metadata, command: &Command) -> Result<(), Memory>
     }
 }
 
-/// Enacts accepted commands, one after another. If memory runs out, some of them may be enacted.
-fn take_all(metadata: &mut Metadata, commands: &[Command]) -> Result<(), Memory>
+/// Enacts the commands of the first entries of a log, one after another. If memory runs out, some of them may be enacted.
+fn take_all(metadata: &mut Metadata, log: &Log, epoch: u64) -> Result<(), Memory>
     requires empty { metadata.old ≡ empty_image }
-    requires history { IsHistory commands.now }
-    ensures { OnOk result (metadata.new ≡ image_after empty_image commands.now) }
+    requires history { IsHistory (commands_of log.now) }
+    requires within { epoch ≤ length log.now }
+    ensures { OnOk result (metadata.new ≡ state_after (commands_of log.now) epoch) }
 {
-    for command in commands {
-        take_over(metadata, command)?;
+    for before in 0..epoch {
+        match log.entry(before + 1) {
+            Some(entry) => take_over(metadata, &entry.cmd)?,
+            None => unreachable!(),
+        }
     }
     Ok(())
 }
 
-/// The metadata after the commands of a history. Fails only if memory runs out.
+/// The metadata at an epoch of a log whose commands are a history. Fails only if memory runs out.
 ///
-/// Cost: each command is admitted and enacted again, at the cost of its commit.
-pub fn replay(alloc: Global, commands: &[Command]) -> Result<Metadata, Memory>
-    requires { IsHistory commands.now }
-    ensures { IfOk result (λ metadata. metadata ≡ image_after empty_image commands.now) }
+/// Cost: each command up to the epoch is admitted and enacted again, at the cost of its commit.
+pub fn replay(alloc: Global, log: &Log, epoch: u64) -> Result<Metadata, Memory>
+    requires history { IsHistory (commands_of log.now) }
+    requires within { epoch ≤ length log.now }
+    ensures { IfOk result (λ metadata. metadata ≡ state_after (commands_of log.now) epoch) }
 {
     let mut metadata = Metadata::empty(alloc)?;
-    match take_all(&mut metadata, commands) {
+    match take_all(&mut metadata, log, epoch) {
         Ok(()) => Ok(metadata),
         Err(memory) => {
             metadata.close();

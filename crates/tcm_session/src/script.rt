@@ -1,58 +1,72 @@
 //! Answers the lines of a script, and writes the answers.
 
-ghost use Rattle.std.specs.Prelude.{◌≡◌, ℕ, ◌+◌, ◌<◌, ◌-◌, ◌^◌, ◌≤◌, ◌++◌, [], length, OnOk, OnErr};
+ghost use Rattle.std.specs.Prelude.{◌≡◌, ◌++◌, OnOk};
+ghost use Rattle.std.specs.Option.{option_copied};
 ghost use Rattle.tcm_edges.specs.Owed.{WritesPrefix};
-ghost use Rattle.tcm_session.specs.Lines.{HasNoFeed, whole_lines};
-ghost use Rattle.tcm_session.specs.Machine.{reply, answers};
-ghost use Rattle.tcm_session.specs.Runs.{HasRunCause, Takes, Writes};
+ghost use Rattle.tcm_session.specs.Counts.{counts};
+ghost use Rattle.tcm_session.specs.Faults.{HasRunCause};
+ghost use Rattle.tcm_session.specs.Lines.{whole_lines};
+ghost use Rattle.tcm_session.specs.LogFiles.{Gains, entry_lines};
+ghost use Rattle.tcm_session.specs.Machine.{answers, reply};
+ghost use Rattle.tcm_session.specs.Runs.{IsBegun, LeavesStore, Takes, Writes, standing};
 
 use crate::fault::RunFault;
-use crate::lines::cut_line;
+use crate::lines::{cut_line, keep_begun};
 use crate::session::Session;
 use cluster_terms::ByteText;
 use std::alloc::Global;
-use tcm_edges::{Sink, write_all};
+use tcm_edges::{Sink, Store, write_all};
 
 /// Answers a line, and writes the answer to `out` at once. At a fault, a prefix of the answer is written.
-pub fn answer_line<K: Sink>(
+pub fn answer_line<K: Sink, D: Store>(
     alloc: Global,
     session: &mut Session,
     line: &[u8],
+    log: Option<&str>,
+    store: &mut D,
     out: &mut K,
 ) -> Result<(), RunFault>
     ensures writes { Writes (reply session.old line.now).text (K.written out.old) (K.written out.new)
-        (K.faults out.old) (K.faults out.new) result }
-    ensures history { OnOk result (session.new ≡ (reply session.old line.now).history) }
+        (counts 0 (K.faults out.old) (D.faults store.old)) (counts 0 (K.faults out.new) (D.faults store.new)) result }
+    ensures log { OnOk result (session.new ≡ session.old ++ (reply session.old line.now).added) }
+    ensures file { OnOk result (Gains (option_copied log.entry) (entry_lines (reply session.old line.now).added)
+        (D.files store.old) (D.files store.new)) }
+    ensures unnamed { LeavesStore (option_copied log.entry) store.old store.new result }
 {
     let mut text = ByteText::empty(alloc);
-    session.step(line, &mut text)?;
+    session.step(line, log, store, &mut text)?;
     write_all(out, text.as_slice())?;
     Ok(())
 }
 
 /// Takes the next piece of a script: answers each line that ends in it, and keeps the rest in `begun`, as the start of
 /// the next line. At a fault, a prefix of the answers is written.
-pub fn feed<K: Sink>(
+pub fn feed<K: Sink, D: Store>(
     alloc: Global,
     session: &mut Session,
     begun: &mut Vec<u8>,
     piece: &[u8],
+    log: Option<&str>,
+    store: &mut D,
     out: &mut K,
 ) -> Result<(), RunFault>
-    requires begun { HasNoFeed begun.old.items }
-    ensures ok { OnOk result (Takes piece.now session.old begun.old.items (K.written out.old)
-        session.new begun.new.items (K.written out.new)) }
+    requires begun { IsBegun begun.old.items }
+    ensures ok { OnOk result (Takes (option_copied log.entry) piece.now
+        (standing session.old begun.old.items (K.written out.old) (D.files store.old))
+        (standing session.new begun.new.items (K.written out.new) (D.files store.new))) }
     ensures part { WritesPrefix (K.written out.old) (K.written out.new)
         (answers session.old (whole_lines (begun.old.items ++ piece.now))) }
-    ensures cause { HasRunCause 0 0 (K.faults out.old) (K.faults out.new) result }
+    ensures cause { HasRunCause (counts 0 (K.faults out.old) (D.faults store.old))
+        (counts 0 (K.faults out.new) (D.faults store.new)) result }
+    ensures unnamed { LeavesStore (option_copied log.entry) store.old store.new result }
 {
     let mut rest = piece;
     while let Some((line, more)) = cut_line(rest) {
-        begun.extend_from_slice(line)?;
-        answer_line(alloc, session, begun.as_slice(), out)?;
+        keep_begun(begun, line)?;
+        answer_line(alloc, session, begun.as_slice(), log, store, out)?;
         begun.clear();
         rest = more;
     }
-    begun.extend_from_slice(rest)?;
+    keep_begun(begun, rest)?;
     Ok(())
 }

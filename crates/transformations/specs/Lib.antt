@@ -1,5 +1,6 @@
 pub mod Counted
 pub mod History
+pub mod Log
 pub mod Meeting
 pub mod Orders
 pub mod Ranges

@@ -1,4 +1,4 @@
--- Whether two commands are equal, as a test. Of the code: no promise rests on it.
+-- Whether two commands are equal, as a test that computes; `Command::same` says that it is equality.
 use Rattle.std.specs.Prelude.{Bool, true, false, ◌&&◌, ◌==◌}
 use Rattle.std.specs.Cmp.Lexicographic.{pointwise}
 use Rattle.std.specs.Ordering.{int_eq}

@@ -27,5 +27,6 @@ pub use sequence::{Goal, Kind, Phase, SeqRow, SeqRows};
 pub use state::{NodeState, node_state, state_of};
 pub use steps::movement_of;
 pub use validity::{
-    adjacent_epochs_meet, histories_are_valid, locked_ranges_overlap, movements_are_apart,
+    adjacent_epochs_meet, histories_are_valid, ids_act_once, locked_ranges_overlap,
+    movements_are_apart,
 };

@@ -41,6 +41,8 @@ pub enum Refusal {
     /// The ranges of the new movement overlap those of this node's movement. It is the least such node. The right end
     /// is that of the first row between cuts in the ranges of both, under the replication of one keyspace.
     Locked(NodeId, RightEnd),
+    /// The id of the commit is in the log at this epoch, with another command.
+    IdReused(u64),
     /// 65,536 epochs are committed.
     EpochsFull,
 }

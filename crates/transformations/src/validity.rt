@@ -1,6 +1,6 @@
 //! Facts about the images that commands lead to.
 
-ghost use Rattle.std.specs.Prelude.{◌≡◌, ◌<◌, ◌≤◌, ℕ, ℤ, true, false, List, Some, None, IsTrue, length, nat_eq};
+ghost use Rattle.std.specs.Prelude.{◌≡◌, ◌++◌, ◌<◌, ◌≤◌, ℕ, ℤ, true, false, [], List, Some, None, Ok, IsTrue, length, nat_eq};
 ghost use Rattle.std.specs.List.{All, AllByRecursion, Any, Contains, list_any};
 ghost use Rattle.std.specs.List.Sorted.{IsStrictlySortedBy};
 ghost use Rattle.std.specs.Ordering.{int_cmp};
@@ -11,6 +11,7 @@ ghost use Rattle.cluster_terms.specs.Replication.{total_of};
 ghost use Rattle.cluster_terms.specs.Row.{last_token};
 ghost use Rattle.cluster_terms.specs.declared.token.RightEnd.{RightEnd};
 ghost use Rattle.transformations.specs.History.{IsHistory, empty_image, image_after, is_command, most_epochs, next_image};
+ghost use Rattle.transformations.specs.Log.{IsLog, commit_of};
 ghost use Rattle.transformations.specs.Meeting.{HaveReplications, QuorumsExistTogether, QuorumsMeet, ReadsAreWritten, makes_movement_epoch};
 ghost use Rattle.transformations.specs.Ranges.{AreApart, AreOutcomes, ArePlacedByOutcomes, IsLockedBy, KeepsRanges, PlacedByRanges, RowsStandInRanges, first_shared, in_both};
 ghost use Rattle.transformations.specs.Refusals.{IsLockedOf, locked, refusal_of};
@@ -18,6 +19,7 @@ ghost use Rattle.transformations.specs.Rings.{RowsStandForTokens, cuts, reads_at
 ghost use Rattle.transformations.specs.Steps.{others};
 ghost use Rattle.transformations.specs.Valid.{IsSound, IsValid};
 ghost use Rattle.transformations.specs.declared.command.Command.{Command};
+ghost use Rattle.transformations.specs.declared.entry.Entry.{Entry};
 ghost use Rattle.transformations.specs.declared.image.Image.{Image};
 ghost use Rattle.transformations.specs.declared.refusal.Refusal.TheVariants.{Locked};
 ghost use Rattle.transformations.specs.declared.sequence.SeqRow.{SeqRow};
@@ -29,6 +31,18 @@ pub fn histories_are_valid()
     ensures kept { (image : Image) (c : Command) → IsValid image → IsTrue (is_command c)
         → refusal_of image c ≡ None → image.epoch < most_epochs → IsValid (next_image image c) }
     ensures reached { (h : List Command) → IsHistory h → IsValid (image_after empty_image h) }
+{}
+
+/// Each commit leads from a log to a log: its epochs are 1, 2 and so on, no id stands in it twice, and its commands are
+/// a history. An id acts once: a commit with the id of an entry of the log adds nothing, whatever its command is. With
+/// the command of this entry, it is answered with the entry's epoch.
+pub fn ids_act_once()
+    ensures kept { (log : List Entry) (id : ℕ) (c : Command) → IsLog log → IsTrue (is_command c)
+        → IsLog (log ++ (commit_of log id c).added) }
+    ensures once { (log : List Entry) (entry : Entry) (c : Command) → IsLog log → Contains log entry
+        → (commit_of log entry.id c).added ≡ [] }
+    ensures again { (log : List Entry) (entry : Entry) → IsLog log → Contains log entry
+        → (commit_of log entry.id entry.cmd).answer ≡ Ok entry.epoch }
 {}
 
 /// The ranges of movements in each valid image. Under each keyspace, a token is in the ranges of at most one movement.

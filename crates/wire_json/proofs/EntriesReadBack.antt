@@ -21,7 +21,7 @@ use Rattle.transformations.specs.declared.sequence.Kind.TheVariants as kind
 use Rattle.wire_json.specs.Entries.{HasValues, IsEntry, IsNode}
 use Rattle.wire_json.specs.Kinds as spec
 use Rattle.wire_json.specs.Reading.{entry_of, found, most_bytes, reading, value_of}
-use Rattle.wire_json.specs.Texts.{command_data, entry_data, goal_word, movement_word, node_data, text_of, token_items, tokens_data}
+use Rattle.wire_json.specs.Texts.{command_data, entry_data, goal_word, movement_word, node_data, entry_text, token_items, tokens_data}
 use Rattle.wire_json.specs.Values.{each_token_of, list_of, token_of}
 use Rattle.wire_json.specs.declared.line.Line.TheVariants as line
 use Rattle.wire_json.proofs.ReadingLemmas.{reading-entry, value_is}
@@ -249,8 +249,8 @@ flat_entry entry is = (let command = fine_command entry.cmd is.values is.tokens 
 
 -- ---- the round trip
 
-pub entry_reads_back : (entry : Entry) → IsEntry entry → reading (text_of entry) ≡ Ok (line.Entry entry)
-unfolding text_of
+pub entry_reads_back : (entry : Entry) → IsEntry entry → reading (entry_text entry) ≡ Ok (line.Entry entry)
+unfolding entry_text
 entry_reads_back entry is =
     let value = entry_data entry in
     let whole = whole_entry entry is in

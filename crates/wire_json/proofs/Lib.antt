@@ -1,4 +1,5 @@
 pub mod EntriesReadBack
+pub mod EntryCommands
 pub mod EntryFloats
 pub mod EntryTokens
 pub mod KeysLemmas

@@ -77,8 +77,8 @@ entry_data entry =
     object (member (codes "command") (command_data entry.cmd) (with_number (codes "entry") entry.id (with_number (codes "epoch") entry.epoch no_members)))
 
 -- the text of an entry, and its line
-unfoldable pub text_of : Entry → List ℕ
-text_of entry = compact_text (entry_data entry)
+unfoldable pub entry_text : Entry → List ℕ
+entry_text entry = compact_text (entry_data entry)
 
-abbrev pub line_of : Entry → List ℕ
-line_of entry = text_of entry ++ 10 ∷ []
+abbrev pub entry_line : Entry → List ℕ
+entry_line entry = entry_text entry ++ 10 ∷ []

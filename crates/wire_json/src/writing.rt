@@ -14,9 +14,9 @@ use transformations::Entry;
 /// has exactly one such line. `entries_read_back` tells which entries `read_line` reads back from it.
 ///
 /// Fails only if memory runs out.
-#[tactic(auto, using(crate::proofs::EntryFloats::no_float), unfolding(crate::specs::Texts::text_of))]
+#[tactic(auto, using(crate::proofs::EntryFloats::no_float), unfolding(crate::specs::Texts::entry_text))]
 pub fn entry_line(alloc: Global, entry: &Entry) -> Result<ByteText, Memory>
-    ensures { IfOk result (λ line. line ≡ spec.line_of entry.now) }
+    ensures { IfOk result (λ line. line ≡ spec.entry_line entry.now) }
 {
     let value = entry_value(alloc, entry)?;
     let mut line = value.to_vec(alloc)?;

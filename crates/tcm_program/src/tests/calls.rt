@@ -2,6 +2,7 @@
 
 mod directory;
 mod edges;
+mod log;
 mod metadata;
 mod reach;
 mod rings;

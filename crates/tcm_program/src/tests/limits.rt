@@ -27,7 +27,7 @@ fn nodes_end_at_1024(rt: HostRuntime) -> Result<(), Fail> {
         script.push_str(&format!(in alloc; "commit {i} register n{i} dc1 r1\n")?)?;
     }
     script.push_str(
-        "commit 1 unregister 7\ncommit 2 register n8 dc1 r1\ncommit 3 register last dc1 r1\n",
+        "commit 1026 unregister 7\ncommit 1027 register n8 dc1 r1\ncommit 1028 register last dc1 r1\n",
     )?;
     let mut want = accepted(alloc, 1, 1_024)?;
     want.push_str("NO NODES-FULL\nOK 1025\nNO NAME-TAKEN 8\nOK 1026\n")?;
@@ -42,16 +42,22 @@ fn keyspaces_end_at_64(rt: HostRuntime) -> Result<(), Fail> {
         script.push_str(&format!(in alloc; "commit {i} keyspace k{i} simple 1\n")?)?;
     }
     script.push_str(
-        "commit 1 keyspace k64 topology dc1:3\ncommit 2 drop-keyspace k7\ncommit 3 keyspace k65 simple 1\n",
+        "commit 66 keyspace k64 topology dc1:3\ncommit 67 drop-keyspace k7\ncommit 68 keyspace k65 simple 1\n",
     )?;
     let mut want = accepted(alloc, 1, 64)?;
     want.push_str("NO KEYSPACES-FULL\nOK 65\nOK 66\nOK 67\n")?;
     is_answered(&rt, alloc, &script, &want)
 }
 
+/// The id of a commit that joins this node. No node is registered with such an id.
+fn join_id(node: u32) -> u64 {
+    1_000 + u64::from(node)
+}
+
 /// Adds a line that joins a node with 256 tokens, which no other node has.
 fn join(alloc: Global, script: &mut String, node: u32) -> Result<(), Fail> {
-    script.push_str(&format!(in alloc; "commit {node} unsafe-join {node}")?)?;
+    let id = join_id(node);
+    script.push_str(&format!(in alloc; "commit {id} unsafe-join {node}")?)?;
     for i in 0..256u64 {
         let token = i * 100 + u64::from(node);
         script.push_str(&format!(in alloc; " {token}")?)?;
@@ -70,7 +76,7 @@ fn tokens_end_at_16384(rt: HostRuntime) -> Result<(), Fail> {
     for node in 1..=64 {
         join(alloc, &mut script, node)?;
     }
-    script.push_str("commit 1 unsafe-join 65 -1\ncommit 2 unsafe-join 65 -1 64\n")?;
+    script.push_str("commit 2001 unsafe-join 65 -1\ncommit 2002 unsafe-join 65 -1 64\n")?;
     let mut want = accepted(alloc, 1, 129)?;
     want.push_str("NO TOKENS-FULL\nNO TOKEN-TAKEN 64\n")?;
     is_answered(&rt, alloc, &script, &want)
@@ -78,14 +84,14 @@ fn tokens_end_at_16384(rt: HostRuntime) -> Result<(), Fail> {
 
 /// Commits to a cluster that is full of tokens. An unsafe join, a join or a move would exceed the limit; a replace adds
 /// no token.
-const TOO_MANY: &str = "commit 1 unsafe-join 320 -1\n\
-    commit 2 prepare-join 320 -1\n\
-    commit 3 prepare-join 320 -1 -64\n\
-    commit 4 prepare-move 64 -1\n\
-    commit 5 prepare-move 64 -65\n\
-    commit 6 prepare-move 1 -1\n\
-    commit 7 prepare-replace 320 1\n\
-    commit 8 prepare-move 64 -1\n";
+const TOO_MANY: &str = "commit 2001 unsafe-join 320 -1\n\
+    commit 2002 prepare-join 320 -1\n\
+    commit 2003 prepare-join 320 -1 -64\n\
+    commit 2004 prepare-move 64 -1\n\
+    commit 2005 prepare-move 64 -65\n\
+    commit 2006 prepare-move 1 -1\n\
+    commit 2007 prepare-replace 320 1\n\
+    commit 2008 prepare-move 64 -1\n";
 
 #[test]
 fn tokens_of_movements_end_at_16384(rt: HostRuntime) -> Result<(), Fail> {
@@ -98,7 +104,8 @@ fn tokens_of_movements_end_at_16384(rt: HostRuntime) -> Result<(), Fail> {
         join(alloc, &mut script, node)?;
     }
     for node in 64..=319 {
-        script.push_str(&format!(in alloc; "commit {node} unsafe-join {node} -{node}\n")?)?;
+        let id = join_id(node);
+        script.push_str(&format!(in alloc; "commit {id} unsafe-join {node} -{node}\n")?)?;
     }
     script.push_str(TOO_MANY)?;
     let mut want = accepted(alloc, 1, 639)?;
@@ -109,6 +116,14 @@ fn tokens_of_movements_end_at_16384(rt: HostRuntime) -> Result<(), Fail> {
     is_answered(&rt, alloc, &script, &want)
 }
 
+/// Commits after the last epoch. An id of the log still answers its epoch, or that it is reused.
+const PAST_THE_LIMIT: &str = "commit 65538 unsafe-join 7 0\n\
+    commit 1 keyspace ks simple 1\n\
+    commit 65536 keyspace ks simple 1\n\
+    commit 1 unsafe-join 7 0\n\
+    commit 65536 keyspace ks simple 2\n\
+    commit 65537 keyspace ks simple 1\n";
+
 #[test]
 fn epochs_end_at_65536(rt: HostRuntime) -> Result<(), Fail> {
     let alloc = rt.alloc();
@@ -116,8 +131,9 @@ fn epochs_end_at_65536(rt: HostRuntime) -> Result<(), Fail> {
     for i in 1..=65_537 {
         script.push_str(&format!(in alloc; "commit {i} keyspace ks simple 1\n")?)?;
     }
-    script.push_str("commit 1 unsafe-join 7 0\n")?;
+    script.push_str(PAST_THE_LIMIT)?;
     let mut want = accepted(alloc, 1, 65_536)?;
-    want.push_str("NO EPOCHS-FULL\nNO EPOCHS-FULL\n")?;
+    want.push_str("NO EPOCHS-FULL\nNO EPOCHS-FULL\nOK 1\nOK 65536\n")?;
+    want.push_str("NO ID-REUSED 1\nNO ID-REUSED 65536\nNO EPOCHS-FULL\n")?;
     is_answered(&rt, alloc, &script, &want)
 }

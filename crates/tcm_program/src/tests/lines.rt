@@ -16,7 +16,7 @@ pub const FORMS: [Script; 2] = [
             commit 7 unsafe-join 1 0\n\
             commit 8 unsafe-join 4294967295 9223372036854775807\n\
             commit 9 unsafe-join 2 -9223372036854775808\n\
-            commit 9 unsafe-join 2 -9223372036854775808 -10 -9 0 7 10 9223372036854775807\n\
+            commit 40 unsafe-join 2 -9223372036854775808 -10 -9 0 7 10 9223372036854775807\n\
             commit 10 keyspace ks simple 1\n\
             commit 11 keyspace aaaaaaaaaaaaaaaaaaaaaaaaaaaaaaaa simple 16\n\
             commit 12 keyspace ks topology dc1:3\n\

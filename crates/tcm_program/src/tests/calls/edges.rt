@@ -1,13 +1,16 @@
-//! Sources, sinks and stores: those in memory, and those over readers and writers.
+//! Sources, sinks and stores: those in memory, and those over readers, writers and files.
 
 use crate::tests::running::{calls_of, text_of};
 use std::alloc::Global;
+use std::fs;
 use std::io::{Error, ErrorKind, Read, Write};
 use std::process::Abort;
+use std::rt::Files;
 use std::test::Fail;
 use tcm_edges::{
-    Failed, InputSource, Loaded, MemSink, MemSource, OutputSink, Sink, Source, Store, SureSink,
-    SureSource, SureStore, WriteFault, write_all,
+    Failed, FileStore, InputSource, LoadFault, Loaded, MemSink, MemSource, MemStore, OutputSink,
+    Sink, Source, Store, StoreFail, StoreFailList, SureSink, SureSource, SureStore, WriteFault,
+    write_all,
 };
 
 /// A reader of two bytes that fails at every read after the first.
@@ -115,9 +118,105 @@ fn stores<A: Abort>(rt: &A, alloc: Global) -> Result<(), Fail> {
     Ok(())
 }
 
+/// A list of calls that are to fail, each with the number of bytes that it keeps.
+fn fails_of(alloc: Global, fails: &[(u64, u64)]) -> Result<StoreFailList, Fail> {
+    let mut list = StoreFailList::empty(alloc);
+    for (call, keep) in fails {
+        let fail = StoreFail {
+            call: *call,
+            keep: *keep,
+        };
+        list.push(fail).map_err(|_| "memory")?;
+    }
+    Ok(list)
+}
+
+fn failing_stores<A: Abort>(rt: &A, alloc: Global) -> Result<(), Fail> {
+    let fails = fails_of(
+        alloc,
+        &[(2, 2), (3, 0), (4, 9), (5, 0), (6, 1), (6, 0), (8, 1)],
+    )?;
+    let mut store = MemStore::new(alloc, fails);
+    store.put("log", b"a")?;
+    let failed = Err(WriteFault::Failed);
+    for (name, bytes, want, file) in [
+        ("log", b"b".as_slice(), Ok(()), Some(b"ab".as_slice())),
+        ("log", b"cde".as_slice(), failed, Some(b"abcd".as_slice())),
+        ("new", b"x".as_slice(), failed, None),
+        ("new", b"xy".as_slice(), failed, Some(b"xy".as_slice())),
+    ] {
+        assert_eq!(rt; store.append(name, bytes), want);
+        assert!(rt; store.file(name) == file, "{name}");
+    }
+    for (want, file) in [
+        (failed, b"abcd".as_slice()),
+        (failed, b"z".as_slice()),
+        (Ok(()), b"z".as_slice()),
+    ] {
+        assert_eq!(rt; store.replace("log", b"z"), want);
+        assert!(rt; store.file("log") == Some(file));
+    }
+    assert!(rt; matches!(store.load("log", 1), Err(LoadFault::Failed)));
+    assert!(rt; matches!(store.load("log", 0)?, Loaded::TooLarge(1)));
+    Ok(())
+}
+
+/// Makes a folder for temporary files, and returns its path.
+fn new_folder<R: AllocGlobal + Files>(rt: &R) -> Result<String, Fail> {
+    for number in 0..1000 {
+        let folder = format!(in rt.alloc(); "/tmp/tcm-{number}")?;
+        if fs::create_dir(rt, folder.as_str()).is_ok() {
+            return Ok(folder);
+        }
+    }
+    Err(Fail::from("no folder for temporary files"))
+}
+
+/// Stores a file in a folder.
+fn real_files<R: Abort + AllocGlobal + Files>(rt: &R, folder: &str) -> Result<(), Fail> {
+    let path = format!(in rt.alloc(); "{folder}/log")?;
+    let name = path.as_str();
+    let mut store = FileStore::new(rt);
+    assert!(rt; matches!(store.load(name, 9)?, Loaded::Absent));
+    store.append(name, b"ab")?;
+    store.append(name, b"c")?;
+    assert!(rt; matches!(store.load(name, 2)?, Loaded::TooLarge(3)));
+    for bytes in [b"abcd".as_slice(), b"xyz".as_slice()] {
+        store.replace(name, bytes)?;
+        let loaded = store.load(name, 4)?;
+        assert!(rt; matches!(&loaded, Loaded::Bytes(text) if text.as_slice() == bytes));
+    }
+    for name in [folder, "/dev/null/log"] {
+        assert!(rt;
+            matches!(store.load(name, 9), Err(LoadFault::Failed)),
+            "{name}"
+        );
+        assert_eq!(rt;
+            store.append(name, b"ab"),
+            Err(WriteFault::Failed),
+            "{name}"
+        );
+    }
+    assert_eq!(rt;
+        store.replace("/dev/null/log", b"ab"),
+        Err(WriteFault::Failed)
+    );
+    Ok(())
+}
+
 #[test]
 fn objects_of_the_outside(rt: HostRuntime) -> Result<(), Fail> {
     sources(&rt, rt.alloc())?;
     sinks(&rt, rt.alloc())?;
-    stores(&rt, rt.alloc())
+    stores(&rt, rt.alloc())?;
+    failing_stores(&rt, rt.alloc())
+}
+
+#[test]
+fn files_of_the_operating_system(rt: HostRuntime) -> Result<(), Fail> {
+    let folder = new_folder(&rt)?;
+    let stored = real_files(&rt, folder.as_str());
+    let removed = fs::remove_dir_all(&rt, folder.as_str());
+    stored?;
+    Ok(removed?)
 }

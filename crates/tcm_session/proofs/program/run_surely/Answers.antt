@@ -1,6 +1,8 @@
-use Rattle.std.proofs.Common.{arith}
-use Rattle.tcm_session.proofs.RunLemmas.{sure_outcome}
+use Rattle.std.proofs.Common.{refl, arith}
+use Rattle.tcm_session.proofs.RunLemmas.{comes_surely}
 use Rattle.tcm_session.proofs.program.run_surely.Goals as goal
 
 pub returns : goal.returns
-returns c = sure_outcome _ _ _ _ _ c.run.ensures.outcome (c.run.ensures.status.complete (λ rose. omega (arith, rose)) (λ rose. omega (arith, rose)))
+returns c =
+    comes_surely _ _ _ _ _ _ _ _ _ _ refl c.run.ensures.outcome
+    (c.run.ensures.status.complete (λ rose. omega (arith, rose)) (λ rose. omega (arith, rose)) (λ rose. omega (arith, rose)))

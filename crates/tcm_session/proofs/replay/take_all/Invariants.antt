@@ -1,7 +1,8 @@
-use Rattle.std.proofs.Common.{◌≡◌, take}
-use Rattle.transformations.specs.History.{empty_image, image_after}
+use Rattle.std.proofs.Common.{◌≡◌}
+use Rattle.transformations.specs.History.{state_after}
+use Rattle.transformations.specs.Log.{commands_of}
 use Rattle.tcm_session.proofs.replay.take_all.Given as goal
 
--- the commands so far are taken over
-abbrev pub invariant-loop-command : goal.invariant-loop-command
-invariant-loop-command l = l.metadata ≡ image_after empty_image (take l.command-index l.commands)
+-- the entries before this one are taken over
+abbrev pub invariant-loop-before : goal.invariant-loop-before
+invariant-loop-before l = l.metadata ≡ state_after (commands_of l.log) l.before

@@ -1,13 +1,19 @@
-use Rattle.std.proofs.Common.{◌≤◌, length}
+use Rattle.std.proofs.Common.{◌≡◌, ◌≤◌, length, None}
+use Rattle.std.specs.Option.{option_copied}
+use Rattle.tcm_session.specs.Runs.{standing}
 use Rattle.tcm_session.proofs.PieceLoop.{Feeds}
 use Rattle.tcm_session.proofs.script.feed.Given as goal
 
 abbrev pub invariant-loop-line : goal.invariant-loop-line
 invariant-loop-line g l =
     let written = g.K.Sink.written in
+    let files = g.D.Store.files in
     record {
-      feeds : Feeds l.initial.session l.initial.begun.items (written l.initial.out) l.piece l.session l.begun.items (written l.out) l.rest;
-      later : g.K.Sink.faults l.initial.out ≤ g.K.Sink.faults l.out;
+      feeds : Feeds (option_copied l.log) (standing l.initial.session l.initial.begun.items (written l.initial.out) (files l.initial.store)) l.piece
+          (standing l.session l.begun.items (written l.out) (files l.store)) l.rest;
+      sink_later : g.K.Sink.faults l.initial.out ≤ g.K.Sink.faults l.out;
+      store_later : g.D.Store.faults l.initial.store ≤ g.D.Store.faults l.store;
+      unnamed : option_copied l.log ≡ None → l.store ≡ l.initial.store;
     }
 
 abbrev pub decreases-loop-line : goal.decreases-loop-line

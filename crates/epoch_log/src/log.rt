@@ -1,0 +1,95 @@
+ghost use Rattle.std.specs.Prelude.{◌≡◌, ◌+◌, ◌-◌, ◌<◌, [], ◌∷◌, ◌++◌, length, take, None, OnOk, OnErr, IfErr};
+ghost use Rattle.std.specs.Option.{option_copied};
+ghost use Rattle.transformations.specs.Log.{AreEntries, entry_with_id};
+ghost use Rattle.epoch_log.specs.Epochs.{entry_at};
+
+use cluster_terms::Memory;
+use indexmap::IndexMap;
+use std::alloc::Global;
+use std::marker::Model;
+use transformations::Entry;
+
+/// The accepted entries in order of epoch. The epochs are 1, 2 and so on, and no two entries have the same id.
+#[derive(Debug, Drop)]
+pub struct Log {
+    /// The entries by id, in order of epoch.
+    entries: IndexMap<u64, Entry>,
+}
+
+impl Model for Log {
+    ghost use Rattle.std.specs.Prelude.{List};
+    ghost use Rattle.std.specs.Map.{values_of};
+    ghost use Rattle.transformations.specs.declared.entry.Entry.{Entry};
+    ghost use Rattle.epoch_log.specs.Epochs.{IsStored};
+
+    ghost Value = { List Entry };
+
+    ghost view = { λ log. values_of log.entries.entries };
+
+    ghost invariant = { λ log. IsStored log.entries.entries };
+}
+
+impl Log {
+    /// The log without entries. Takes no memory.
+    pub fn empty(alloc: Global) -> Log
+        ensures { result ≡ [] }
+    {
+        Log {
+            entries: IndexMap::new(alloc),
+        }
+    }
+
+    /// Adds an entry at the end. Its epoch is the next one, and no entry of the log has its id. If memory runs out,
+    /// returns the entry and leaves the log unchanged. The cost is an insertion by hash.
+    pub fn push(&mut self, entry: Entry) -> Result<(), (Entry, Memory)>
+        requires epoch { entry.epoch ≡ length self.old + 1 }
+        requires id { entry_with_id self.old entry.id ≡ None }
+        ensures ok { OnOk result (self.new ≡ self.old ++ entry ∷ []) }
+        ensures err { OnErr result (self.new ≡ self.old) }
+        ensures handed_back { IfErr result (λ e. e.0 ≡ entry) }
+    {
+        match self.entries.insert(entry.id, entry) {
+            Ok(_) => Ok(()),
+            Err(failed) => {
+                let (_id, entry) = failed.value;
+                Err((entry, Memory))
+            }
+        }
+    }
+
+    /// Removes the last entry. The log has an entry. Takes no memory. The cost is a removal by hash.
+    pub fn pop(&mut self)
+        requires { 0 < length self.old }
+        ensures { self.new ≡ take (length self.old - 1) self.old }
+    {
+        let _last = self.entries.pop();
+    }
+
+    /// The entry with this id. Returns `None` if and only if no entry has the id. The cost is a look-up by hash.
+    pub fn seen(&self, id: u64) -> Option<&Entry>
+        ensures entry { option_copied result ≡ entry_with_id self.now id }
+        ensures entries { AreEntries self.now }
+    {
+        self.entries.get(&id)
+    }
+
+    /// The entry at this epoch. Returns `None` if and only if the epoch is 0 or above the last epoch. The cost is a read
+    /// by position.
+    pub fn entry(&self, epoch: u64) -> Option<&Entry>
+        ensures entry { option_copied result ≡ entry_at self.now epoch }
+        ensures entries { AreEntries self.now }
+    {
+        let entries = &self.entries;
+        let at = epoch.checked_sub(1)?;
+        let (_id, entry) = entries.get_index(at as usize)?;
+        Some(entry)
+    }
+
+    /// The epoch of the last entry, 0 if the log is empty. This is the number of entries.
+    pub fn last_epoch(&self) -> u64
+        ensures last { result ≡ length self.now }
+        ensures entries { AreEntries self.now }
+    {
+        self.entries.len() as u64
+    }
+}

@@ -1,0 +1,251 @@
+-- The log in a file: its commands are a history that lines may commit, and the text of a refused line is plain.
+use Rattle.std.proofs.Common.{◌≡◌, ℕ, Bool, true, false, if◌then◌else◌, List, [], ◌∷◌, ◌++◌, ◌+◌, ◌==◌, length, Option, Some, None, option_map, Result, Ok, Err, codes, decimal, refl, sym, subst, arith}
+use Rattle.std.specs.List.{AllByRecursion}
+use Rattle.std.specs.Option.{IfSome}
+use Rattle.std.proofs.lemmas.Option.{none-some}
+use Rattle.cluster_terms.specs.Name.{is_name}
+use Rattle.cluster_terms.specs.Replication.{IsReplication}
+use Rattle.cluster_terms.specs.ReplicationText.{replication_of, words_of}
+use Rattle.serde_json.specs.Data.{Data}
+use Rattle.transformations.specs.History.{commit_refusal, is_command}
+use Rattle.transformations.specs.Log.{commands_of, entry_with_id}
+use Rattle.transformations.specs.declared.entry.Entry.{Entry}
+use Rattle.transformations.specs.declared.refusal.Refusal.{Refusal}
+use Rattle.wire_json.proofs.EntryCommands.{HoldsOfKinds, IfSome-option_and_then, IfSome-where, reading_commands}
+use Rattle.wire_json.proofs.EntryTokens.{tokens_of_kinds}
+use Rattle.wire_json.specs.Kinds as kinds
+use Rattle.wire_json.specs.Reading.{reading}
+use Rattle.wire_json.specs.Values.{name_at, node_at, replication_at, text_at, token_at, tokens_at}
+use Rattle.wire_json.specs.declared.line.Line.{Line}
+use Rattle.wire_json.specs.declared.line.Line.TheVariants as line
+use Rattle.wire_json.specs.declared.line.ReadLineFault.{ReadLineFault}
+use Rattle.wire_json.specs.declared.line.ReadLineFault.TheVariants as read
+use Rattle.script_lang.proofs.ReplicationWords.{of_replication}
+use Rattle.script_lang.proofs.SaidLemmas.{IsFormed}
+use Rattle.script_lang.specs.Texts.{refusal_text}
+use Rattle.tcm_session.specs.Lines.{whole_lines}
+use Rattle.tcm_session.specs.LogFiles.{cause_text, command_refused, entry_cause, entry_read, first_cause, goes_on, id_again, log_from, log_of, next_entry, refused_line_text, unless_refused, wrong_epoch}
+use Rattle.tcm_session.specs.Shown.{IsOfNoQuorum}
+use Rattle.tcm_session.specs.declared.refused_line.Cause.{Cause}
+use Rattle.tcm_session.specs.declared.refused_line.Cause.TheVariants as cause
+use Rattle.tcm_session.specs.declared.refused_line.RefusedLine.{RefusedLine}
+use Rattle.tcm_session.proofs.AnswerLines.{other_line}
+use Rattle.tcm_session.proofs.PlainImages.{commit_plain}
+use Rattle.tcm_session.proofs.PlainTexts.{HasPlainNames, is_plain, plain_decimal, plain_joined, plain_refusal}
+use Rattle.tcm_session.proofs.ShownLemmas.{IsFormedHistory, added_entry, formed_empty}
+use Rattle.tcm_session.proofs.WholeLines.{AreLines}
+
+-- ---- the commands of lines
+
+abbrev IsName : List ℕ → Type 0
+IsName name = is_name name ≡ true
+
+of_name : (key : List ℕ) (value : Data) → IfSome (name_at key value) IsName
+of_name key value = IfSome-option_and_then _ IsName (λ text. by text (is_name text) refl) (text_at key value)
+  where
+    by : (text : List ℕ) (b : Bool) → is_name text ≡ b → IfSome (if b then Some text else None) IsName
+    by text true e = e
+    by text false e = tt
+
+of_replication_at : (key : List ℕ) (value : Data) → IfSome (replication_at key value) IsReplication
+of_replication_at key value = IfSome-option_and_then replication_of IsReplication (λ text. of_replication (words_of text)) (text_at key value)
+
+formed_register : (value : Data) → IfSome (kinds.register_of value) IsFormed
+unfolding kinds.register_of
+formed_register value =
+    IfSome-where IsName _ IsFormed
+    (λ name n. IfSome-where IsName _ IsFormed
+    (λ dc d. IfSome-where IsName _ IsFormed (λ rack r. (n, d, r)) (name_at (codes "rack") value) (of_name (codes "rack") value))
+    (name_at (codes "dc") value) (of_name (codes "dc") value))
+    (name_at (codes "name") value) (of_name (codes "name") value)
+
+formed_keyspace : (value : Data) → IfSome (kinds.keyspace_of value) IsFormed
+unfolding kinds.keyspace_of
+formed_keyspace value =
+    IfSome-where IsName _ IsFormed
+    (λ name n. IfSome-where IsReplication _ IsFormed (λ r is. (n, is)) (replication_at (codes "replication") value) (of_replication_at (codes "replication") value))
+    (name_at (codes "name") value) (of_name (codes "name") value)
+
+formed_unsafe_join : (value : Data) → IfSome (kinds.unsafe_join_of value) IsFormed
+unfolding kinds.unsafe_join_of
+formed_unsafe_join value =
+    IfSome-option_and_then _ IsFormed (λ node. IfSome-option_and_then _ IsFormed (λ tokens. tt) (tokens_at (codes "tokens") value)) (node_at (codes "node") value)
+
+formed_prepare_join : (value : Data) → IfSome (kinds.prepare_join_of value) IsFormed
+unfolding kinds.prepare_join_of
+formed_prepare_join value =
+    IfSome-option_and_then _ IsFormed (λ node. IfSome-option_and_then _ IsFormed (λ tokens. tt) (tokens_at (codes "tokens") value)) (node_at (codes "node") value)
+
+formed_drop_keyspace : (value : Data) → IfSome (kinds.drop_keyspace_of value) IsFormed
+unfolding kinds.drop_keyspace_of
+formed_drop_keyspace value = IfSome-option_and_then _ IsFormed (λ name. tt) (name_at (codes "name") value)
+
+formed_prepare_move : (value : Data) → IfSome (kinds.prepare_move_of value) IsFormed
+unfolding kinds.prepare_move_of
+formed_prepare_move value =
+    IfSome-option_and_then _ IsFormed (λ node. IfSome-option_and_then _ IsFormed (λ token. tt) (token_at (codes "token") value)) (node_at (codes "node") value)
+
+formed_prepare_replace : (value : Data) → IfSome (kinds.prepare_replace_of value) IsFormed
+unfolding kinds.prepare_replace_of
+formed_prepare_replace value =
+    IfSome-option_and_then _ IsFormed (λ node. IfSome-option_and_then _ IsFormed (λ gone. tt) (node_at (codes "gone") value)) (node_at (codes "node") value)
+
+formed_kinds : HoldsOfKinds IsFormed
+formed_kinds =
+    record {
+      register = formed_register;
+      unsafe_join = formed_unsafe_join;
+      keyspace = formed_keyspace;
+      drop_keyspace = formed_drop_keyspace;
+      prepare_join = formed_prepare_join;
+      prepare_move = formed_prepare_move;
+      prepare_replace = formed_prepare_replace;
+      of_node = λ n. (tt, (tt, (tt, (tt, (tt, (tt, (tt, (tt, (tt, (tt, (tt, (tt, (tt, (tt, (tt, tt)))))))))))))));
+    }
+
+-- ---- the next entry of a log
+
+-- an entry that follows a log
+record Follows (log : List Entry) (entry : Entry) : Type 0 where
+  right : is_command entry.cmd ≡ true
+  formed : IsFormed entry.cmd
+  accepted : commit_refusal (commands_of log) entry.cmd ≡ None
+
+-- no cause means that the command isn't refused
+unrefused : (log : List Entry) (entry : Entry) → entry_cause log entry ≡ None → commit_refusal (commands_of log) entry.cmd ≡ None
+unrefused log entry none = by (wrong_epoch log entry) (id_again log entry) (commit_refusal (commands_of log) entry.cmd) none
+  where
+    by : (a b : Option Cause) (o : Option Refusal) → first_cause (a ∷ b ∷ option_map (cause.Command entry.epoch) o ∷ []) ≡ None → o ≡ None
+    by (Some c) b o e = absurd (none-some c (sym e))
+    by None (Some c) o e = absurd (none-some c (sym e))
+    by None None (Some r) e = absurd (none-some (cause.Command entry.epoch r) (sym e))
+    by None None None e = refl
+
+follows : (log : List Entry) (bytes : List ℕ) (entry : Entry) → next_entry log bytes ≡ Ok entry → Follows log entry
+unfolding next_entry
+follows log bytes entry is = by (reading bytes) refl is
+  where
+    of_cause : (e : Entry) → reading bytes ≡ Ok (line.Entry e) → (o : Option Cause) → entry_cause log e ≡ o → unless_refused e o ≡ Ok entry → Follows log entry
+    of_cause e there None none is =
+        let same : e ≡ entry = cc in
+        subst (Follows log) same
+        (record {
+          right = reading_commands _ tokens_of_kinds bytes e there;
+          formed = reading_commands IsFormed formed_kinds bytes e there;
+          accepted = unrefused log e none;
+        })
+    of_cause e there (Some c) some is = absurd (cc)
+
+    by : (r : Result Line ReadLineFault) → reading bytes ≡ r → entry_read log r ≡ Ok entry → Follows log entry
+    by (Ok (line.Entry e)) there is = of_cause e there (entry_cause log e) refl is
+    by (Err (read.Bad rule)) there is = absurd (cc)
+    by (Err read.Memory) there is = absurd (cc)
+
+-- ---- the log
+
+abbrev IsFormedLog : List Entry → Type 0
+IsFormedLog log = IsFormedHistory (commands_of log)
+
+formed_next : (log : List Entry) (entry : Entry) → IsFormedLog log → Follows log entry → IsFormedLog (log ++ entry ∷ [])
+formed_next log entry is f = (added_entry log entry is f.right f.formed f.accepted).formed
+
+formed_from : (lines : List (List ℕ)) (log log' : List Entry) → IsFormedLog log → log_from log lines ≡ Ok log' → IsFormedLog log'
+formed_from [] log log' is e = (let same : log ≡ log' = cc in subst IsFormedLog same is)
+formed_from (bytes ∷ lines) log log' is e = by (next_entry log bytes) refl (λ entry formed rest. formed_from lines (log ++ entry ∷ []) log' formed rest) e
+  where
+    by : (r : Result Entry Cause) → next_entry log bytes ≡ r → ((entry : Entry) → IsFormedLog (log ++ entry ∷ []) → log_from (log ++ entry ∷ []) lines ≡ Ok log' → IsFormedLog log')
+        → goes_on log r (λ entry. log_from (log ++ entry ∷ []) lines) ≡ Ok log' → IsFormedLog log'
+    by (Ok entry) next later e = later entry (formed_next log entry is (follows log bytes entry next)) e
+    by (Err c) next later e = absurd (cc)
+
+pub formed_file : (file : List ℕ) (log : List Entry) → log_of file ≡ Ok log → IsFormedHistory (commands_of log)
+formed_file file log e = formed_from (whole_lines file) [] log formed_empty e
+
+-- ---- a line that is refused
+
+-- the names that a cause shows
+abbrev HasPlainCause : Cause → Type 0
+HasPlainCause (cause.Command epoch refusal) = HasPlainNames refusal
+HasPlainCause _ = Unit {0}
+
+abbrev IfPlain : Option Cause → Type 0
+IfPlain o = IfSome o HasPlainCause
+
+first_plain : (os : List (Option Cause)) → AllByRecursion IfPlain os → IfPlain (first_cause os)
+first_plain [] all = tt
+first_plain (Some c ∷ os) all = all.0
+first_plain (None ∷ os) all = first_plain os all.1
+
+plain_epoch : (log : List Entry) (entry : Entry) → IfPlain (wrong_epoch log entry)
+plain_epoch log entry = by (entry.epoch == length log + 1)
+  where
+    by : (b : Bool) → IfPlain (if b then None else Some (cause.Epoch (length log + 1) entry.epoch))
+    by true = tt
+    by false = tt
+
+plain_id : (log : List Entry) (entry : Entry) → IfPlain (id_again log entry)
+plain_id log entry = by (entry_with_id log entry.id)
+  where
+    by : (o : Option Entry) → IfPlain (option_map (λ (earlier : Entry). cause.Id entry.id earlier.epoch) o)
+    by None = tt
+    by (Some earlier) = tt
+
+plain_command : (log : List Entry) (entry : Entry) → IsFormedLog log → IfPlain (command_refused log entry)
+plain_command log entry is = by (commit_refusal (commands_of log) entry.cmd) (commit_plain (commands_of log) entry.cmd is.formed)
+  where
+    by : (o : Option Refusal) → IfSome o HasPlainNames → IfPlain (option_map (cause.Command entry.epoch) o)
+    by None names = tt
+    by (Some r) names = names
+
+plain_cause : (log : List Entry) (entry : Entry) → IsFormedLog log → IfPlain (entry_cause log entry)
+plain_cause log entry is =
+    first_plain (wrong_epoch log entry ∷ id_again log entry ∷ command_refused log entry ∷ []) (plain_epoch log entry, (plain_id log entry, (plain_command log entry is, tt)))
+
+-- a line that breaks a rule
+abbrev line_refused : ℕ → Result Entry Cause
+line_refused rule = Err (cause.Line rule)
+
+refused_next : (log : List Entry) (bytes : List ℕ) (c : Cause) → IsFormedLog log → next_entry log bytes ≡ Err c → HasPlainCause c
+unfolding next_entry
+refused_next log bytes c is e = by (reading bytes) e
+  where
+    of_cause : (entry : Entry) (o : Option Cause) → IfPlain o → unless_refused entry o ≡ Err c → HasPlainCause c
+    of_cause entry None plain e = absurd (cc)
+    of_cause entry (Some d) plain e = (let same : d ≡ c = cc in subst HasPlainCause same plain)
+
+    of_rule : (n : ℕ) → line_refused n ≡ Err c → HasPlainCause c
+    of_rule n e = (let same : cause.Line n ≡ c = cc in subst HasPlainCause same tt)
+
+    by : (r : Result Line ReadLineFault) → entry_read log r ≡ Err c → HasPlainCause c
+    by (Ok (line.Entry entry)) e = of_cause entry (entry_cause log entry) (plain_cause log entry is) e
+    by (Err (read.Bad rule)) e = of_rule rule e
+    by (Err read.Memory) e = of_rule 0 e
+
+refused_from : (lines : List (List ℕ)) (log : List Entry) (refused : RefusedLine) → IsFormedLog log → log_from log lines ≡ Err refused → HasPlainCause refused.cause
+refused_from [] log refused is e = absurd (cc)
+refused_from (bytes ∷ lines) log refused is e = by (next_entry log bytes) refl (λ entry formed rest. refused_from lines (log ++ entry ∷ []) refused formed rest) e
+  where
+    by : (r : Result Entry Cause) → next_entry log bytes ≡ r
+        → ((entry : Entry) → IsFormedLog (log ++ entry ∷ []) → log_from (log ++ entry ∷ []) lines ≡ Err refused → HasPlainCause refused.cause)
+        → goes_on log r (λ entry. log_from (log ++ entry ∷ []) lines) ≡ Err refused → HasPlainCause refused.cause
+    by (Ok entry) next later e = later entry (formed_next log entry is (follows log bytes entry next)) e
+    by (Err c) next later e =
+        let here : RefusedLine = record { line = length log + 1; cause = c } in
+        let same : here ≡ refused = cc in
+        subst (λ (x : RefusedLine). HasPlainCause x.cause) same (refused_next log bytes c is next)
+
+cause_plain : (c : Cause) → HasPlainCause c → is_plain (cause_text c) ≡ true
+cause_plain (cause.Line rule) names = plain_decimal rule
+cause_plain (cause.Epoch want came) names = plain_joined (codes "EPOCH " ++ decimal want) (codes " ") (decimal came) (plain_decimal want) refl (plain_decimal came)
+cause_plain (cause.Id id epoch) names = plain_joined (codes "ID " ++ decimal id) (codes " ") (decimal epoch) (plain_decimal id) refl (plain_decimal epoch)
+cause_plain (cause.Command epoch r) names = plain_joined (codes "COMMAND " ++ decimal epoch) (codes " ") (refusal_text r) (plain_decimal epoch) refl (plain_refusal r names)
+
+refused_text_lines : (refused : RefusedLine) → HasPlainCause refused.cause → AreLines IsOfNoQuorum (refused_line_text refused)
+unfolding refused_line_text
+refused_text_lines refused names =
+    other_line (codes "REFUSED 1 " ++ decimal refused.line ++ codes " " ++ cause_text refused.cause)
+    (plain_joined (codes "REFUSED 1 " ++ decimal refused.line) (codes " ") (cause_text refused.cause) (plain_decimal refused.line) refl (cause_plain refused.cause names))
+    (λ e. omega arith) (λ e. omega arith)
+
+pub refused_lines : (file : List ℕ) (refused : RefusedLine) → log_of file ≡ Err refused → AreLines IsOfNoQuorum (refused_line_text refused)
+refused_lines file refused e = refused_text_lines refused (refused_from (whole_lines file) [] refused formed_empty e)

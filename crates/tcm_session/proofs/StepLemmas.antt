@@ -1,0 +1,175 @@
+-- The ends of a step.
+use Rattle.std.proofs.Common.{◌≡◌, ◌≢◌, ℕ, ◌-◌, ◌≤◌, Bool, true, false, if◌then◌else◌, List, [], ◌∷◌, ◌++◌, length, take, Option, Result, Ok, Err, Some, OnOk, IfErr, MatchResult, refl, sym, ap, ◌∙◌, subst, append-nil, length-append, arith}
+use Rattle.std.proofs.Math.Seq.{take-append_seam}
+use Rattle.tcm_edges.specs.Causes.{OnFailed, OnMemory, Rose}
+use Rattle.tcm_edges.specs.Files.{ChangesFile, Files, GainsAll, GainsPart, OthersKept}
+use Rattle.tcm_edges.specs.Writes.{TellsAlike}
+use Rattle.tcm_edges.specs.declared.fault.WriteFault.{WriteFault}
+use Rattle.tcm_edges.specs.declared.fault.WriteFault.TheVariants as write
+use Rattle.cluster_metadata.specs.Permission.{Permission}
+use Rattle.transformations.proofs.histories.HistoryLemmas.{image_after-push}
+use Rattle.transformations.proofs.histories.LogLemmas.{commands_of-push, log_push}
+use Rattle.transformations.specs.History.{empty_image, image_after, next_image}
+use Rattle.transformations.specs.Log.{IsLog, commands_of, repeated}
+use Rattle.transformations.specs.Same.{same_command}
+use Rattle.transformations.specs.declared.command.Command.{Command}
+use Rattle.transformations.specs.declared.refusal.Refusal.TheVariants.{IdReused}
+use Rattle.transformations.proofs.commands.SameLemmas.{same_command_tells}
+use Rattle.transformations.specs.declared.entry.Entry.{Entry}
+use Rattle.transformations.specs.declared.image.Image.{Image}
+use Rattle.wire_json.specs.Texts.{entry_line, entry_text}
+use Rattle.wire_json.specs.Reading.{reading}
+use Rattle.wire_json.specs.declared.line.Line.{Line}
+use Rattle.wire_json.specs.declared.line.ReadLineFault.{ReadLineFault}
+use Rattle.wire_json.specs.declared.line.ReadLineFault.TheVariants as read
+use Rattle.script_lang.specs.Texts.{no_text, ok_text, refusal_text}
+use Rattle.tcm_session.specs.Faults.{of_append}
+use Rattle.tcm_session.specs.LogFiles.{Gains, entry_lines, entry_read, next_entry}
+use Rattle.tcm_session.specs.Machine.{Reply, commit_text}
+use Rattle.tcm_session.specs.Steps.{IsNextEntry, Leaves, OnlyAnswers, Steps}
+use Rattle.tcm_session.specs.declared.fault.StepFault.{StepFault}
+use Rattle.tcm_session.specs.declared.refused_line.Cause.TheVariants as cause
+use Rattle.tcm_session.proofs.GainLemmas.{Gains-nil, Gains-of_append}
+
+-- a step that adds nothing only answers
+pub steps_only : {T : Type 0} (reply : Reply) (name : Option (List ℕ)) (log : List Entry) (out out' : List ℕ) (files : Option Files) (count : ℕ) (r : Result T StepFault)
+    → reply.added ≡ [] → OnlyAnswers reply.text out out' r → Steps reply name log log out out' files files count count r
+steps_only reply name log out out' files count (Ok x) none only =
+    record {
+      text = only.answered;
+      kept = only.kept;
+      grown = sym (ap (λ es. log ++ es) none ∙ append-nil log);
+      file = subst (λ es. Gains name (entry_lines es) files files) (sym none) (Gains-nil name files);
+      err = tt;
+      fault = tt;
+      later = omega arith;
+    }
+steps_only reply name log out out' files count (Err e) none only =
+    record {
+      text = tt;
+      kept = only.kept;
+      grown = tt;
+      file = tt;
+      err = refl;
+      fault = subst (λ f. Leaves f name reply.added files files count count) (sym only.memory) refl;
+      later = omega arith;
+    }
+
+-- ---- an entry that is noted
+
+-- an entry taken back
+pub popped : (log : List Entry) (entry : Entry) → take (length (log ++ entry ∷ []) - 1) (log ++ entry ∷ []) ≡ log
+popped log entry =
+    let size : length (log ++ entry ∷ []) - 1 ≡ length log = omega (arith, length-append log (entry ∷ [])) in
+    ap (λ n. take n (log ++ entry ∷ [])) size ∙ take-append_seam log (entry ∷ [])
+
+-- a text that was added leaves what was there
+pub kept_before : (out text out' : List ℕ) → out' ≡ out ++ text → take (length out) out' ≡ out
+kept_before out text out' is = ap (take (length out)) is ∙ take-append_seam out text
+
+-- the line of an entry has its line feed
+pub entry_line_some : (entry : Entry) → entry_line entry ≢ []
+entry_line_some entry is = omega (arith, ap length is, length-append (entry_text entry) (10 ∷ []))
+
+one_line_of : (entry : Entry) → entry_lines (entry ∷ []) ≡ entry_line entry
+one_line_of entry = append-nil (entry_line entry)
+
+-- the line of one entry was appended
+pub gained_line : (name : List ℕ) (entry : Entry) (line : List ℕ) (files files' : Option Files) → line ≡ entry_line entry → ChangesFile (GainsAll line) files files' name → OthersKept files files' name → TellsAlike files files'
+    → Gains (Some name) (entry_line entry) files files'
+gained_line name entry line files files' is changes others told =
+    subst (λ t. Gains (Some name) t files files') is
+    (Gains-of_append name line files files' (λ none. entry_line_some entry (sym is ∙ none)) changes others told)
+
+-- an append that failed
+pub leaves_append : (fault : WriteFault) (name : List ℕ) (entry : Entry) (line : List ℕ) (files files' : Option Files) (before after : ℕ) → line ≡ entry_line entry
+    → OnFailed fault (ChangesFile (GainsPart line) files files' name) → OthersKept files files' name → OnMemory fault ((files' ≡ files) × (after ≡ before)) → OnFailed fault (Rose before after)
+    → Leaves (of_append fault) (Some name) (entry ∷ []) files files' before after
+leaves_append write.Failed name entry line files files' before after is part others memory rose =
+    record {
+      adds = λ none. cons_some none;
+      rose = rose;
+      part = subst (λ t. ChangesFile (GainsPart t) files files' name) (is ∙ sym (one_line_of entry)) part;
+      others = others;
+    }
+  where
+    cons_some : entry ∷ [] ≡ [] → ⊥
+    cons_some none = cc
+leaves_append write.Memory name entry line files files' before after is part others memory rose = memory.0
+
+-- the ends of a step whose text is added and whose entry is noted, or not
+pub steps_noted : {T : Type 0} (text : List ℕ) (entry : Entry) (name : Option (List ℕ)) (log log' : List Entry) (out out' : List ℕ) (files files' : Option Files) (before after : ℕ) (r : Result T StepFault)
+    → out' ≡ out ++ text → MatchResult r (λ _. log' ≡ log ++ entry ∷ []) (λ _. log' ≡ log) → OnOk r (Gains name (entry_line entry) files files')
+    → IfErr r (λ e. Leaves e name (entry ∷ []) files files' before after) → before ≤ after
+    → Steps (record { text = text; added = entry ∷ [] }) name log log' out out' files files' before after r
+steps_noted text entry name log log' out out' files files' before after (Ok x) added noted gained fault later =
+    record {
+      text = added;
+      kept = kept_before out text out' added;
+      grown = noted;
+      file = subst (λ t. Gains name t files files') (sym (one_line_of entry)) gained;
+      err = tt;
+      fault = tt;
+      later = later;
+    }
+steps_noted text entry name log log' out out' files files' before after (Err e) added noted gained fault later =
+    record {
+      text = tt;
+      kept = kept_before out text out' added;
+      grown = tt;
+      file = tt;
+      err = noted;
+      fault = fault;
+      later = later;
+    }
+
+-- ---- a step in a log
+
+-- an entry whose command is the permit's
+pub session_kept : (before after : List Entry) (entry : Entry) (image image' : Image) (permit : Permission) → image ≡ image_after empty_image (commands_of before) → IsLog before → IsNextEntry before entry
+    → permit.command ≡ entry.cmd → image' ≡ next_image image permit.command → after ≡ before ++ entry ∷ [] → (image' ≡ image_after empty_image (commands_of after)) × IsLog after
+session_kept before after entry image image' permit is log next permitted enacted pushed = (
+  enacted ∙ (λ i. next_image (is i) (permitted i)) ∙ sym (image_after-push empty_image (commands_of before) entry.cmd)
+      ∙ ap (image_after empty_image) (sym (ap commands_of pushed ∙ commands_of-push before entry)),
+  subst IsLog (sym pushed) (log_push before entry log next.epoch next.fresh next.formed next.accepted),
+)
+
+-- ---- a line of a log file
+
+-- what was read: a line, or a fault
+abbrev read_line : Line → Result Line ReadLineFault
+read_line l = Ok l
+
+abbrev unread : ReadLineFault → Result Line ReadLineFault
+unread fault = Err fault
+
+next_entry-of : (log : List Entry) (bytes : List ℕ) (r : Result Line ReadLineFault) → r ≡ reading bytes → next_entry log bytes ≡ entry_read log r
+unfolding next_entry
+next_entry-of log bytes r is = ap (entry_read log) (sym is)
+
+pub next_entry-read : (log : List Entry) (bytes : List ℕ) (l : Line) → (read_line l ≢ Err read.Memory → read_line l ≡ reading bytes) → next_entry log bytes ≡ entry_read log (Ok l)
+next_entry-read log bytes l meaning = next_entry-of log bytes (read_line l) (meaning (λ e. not_memory e))
+  where
+    not_memory : read_line l ≡ Err read.Memory → ⊥
+    not_memory e = cc
+
+pub next_entry-bad : (log : List Entry) (bytes : List ℕ) (fault : ReadLineFault) (rule : ℕ) → fault ≡ read.Bad rule → (unread fault ≢ Err read.Memory → unread fault ≡ reading bytes) → next_entry log bytes ≡ Err (cause.Line rule)
+next_entry-bad log bytes fault rule is meaning = next_entry-of log bytes (unread fault) (meaning (λ e. not_memory e)) ∙ ap (λ x. entry_read log (Err x)) is
+  where
+    not_memory : unread fault ≡ Err read.Memory → ⊥
+    not_memory e = cc
+
+-- ---- a commit whose id is in the log
+
+pub repeated_same : {T : Type 0} (entry : Entry) (command : Command) (out out' : List ℕ) (r : Result T StepFault) → entry.cmd ≡ command → OnlyAnswers (ok_text entry.epoch) out out' r
+    → OnlyAnswers (commit_text (repeated entry command).answer) out out' r
+repeated_same entry command out out' r same only =
+    subst (λ b. OnlyAnswers (commit_text (if b then Ok entry.epoch else Err (IdReused entry.epoch))) out out' r) (sym ((same_command_tells entry.cmd command).1 same)) only
+
+pub repeated_other : {T : Type 0} (entry : Entry) (command : Command) (out out' : List ℕ) (r : Result T StepFault) → (entry.cmd ≡ command → ⊥) → OnlyAnswers (no_text (refusal_text (IdReused entry.epoch))) out out' r
+    → OnlyAnswers (commit_text (repeated entry command).answer) out out' r
+repeated_other entry command out out' r apart only = by (same_command entry.cmd command) refl
+  where
+    by : (b : Bool) → same_command entry.cmd command ≡ b → OnlyAnswers (commit_text (if b then Ok entry.epoch else Err (IdReused entry.epoch))) out out' r
+    by true e = absurd (apart ((same_command_tells entry.cmd command).0 e))
+    by false e = only

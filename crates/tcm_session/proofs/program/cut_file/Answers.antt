@@ -1,0 +1,6 @@
+use Rattle.tcm_session.proofs.CutLemmas.{cut_replaced}
+use Rattle.tcm_session.proofs.program.cut_file.Goals as goal
+
+pub returns-in-Ok-clause-cut : goal.returns-in-Ok-clause-cut
+returns-in-Ok-clause-cut g c =
+    cut_replaced c.args.name.now c.args.file.now c.args.size _ _ c.requires c.if-size-file.true c.in-Ok.ensures.ok c.in-Ok.ensures.others c.in-Ok.ensures.told

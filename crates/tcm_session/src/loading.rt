@@ -1,0 +1,35 @@
+//! Takes over the log in a file.
+
+ghost use Rattle.std.specs.Prelude.{◌≡◌, [], IfOk};
+ghost use Rattle.tcm_session.specs.Loading.{TakesLog};
+
+use crate::lines::cut_line;
+use crate::refused_line::RefusedLine;
+use crate::session::Session;
+use cluster_terms::Memory;
+
+/// What taking over a log file comes to.
+#[derive(Debug, Drop)]
+pub enum Loading {
+    /// The whole lines are a log. They have this number of bytes, which may be followed by bytes that are no line.
+    Taken(usize),
+    /// This line is refused.
+    Refused(RefusedLine),
+}
+
+/// Takes over the entries of a log file, line by line, up to the first line that is refused. Bytes after the last line
+/// feed are no line. If memory runs out, some of the entries may be taken over.
+pub fn load_lines(session: &mut Session, file: &[u8]) -> Result<Loading, Memory>
+    requires { session.old ≡ [] }
+    ensures { IfOk result (λ loading. TakesLog loading file.now session.new) }
+{
+    let mut rest = file;
+    while let Some((line, more)) = cut_line(rest) {
+        if let Some(cause) = session.take_line(line)? {
+            let line = session.last_epoch() + 1;
+            return Ok(Loading::Refused(RefusedLine { line, cause }));
+        }
+        rest = more;
+    }
+    Ok(Loading::Taken(file.len() - rest.len()))
+}

@@ -1,0 +1,136 @@
+-- What holds of the commands of each kind holds of the commands of lines.
+use Rattle.std.proofs.Common.{◌≡◌, ℕ, Bool, true, false, cond, if◌then◌else◌, List, [], ◌∷◌, Option, Some, None, option_map, option_and_then, Result, Ok, Err, codes, length, nat_le, refl, sym, ap, ◌∙◌, subst}
+use Rattle.std.specs.List.{AllByRecursion, find}
+use Rattle.std.specs.Option.{IfSome}
+use Rattle.std.specs.Str.{bytes_eq}
+use Rattle.serde_json.specs.Data.{Data}
+use Rattle.serde_json.specs.Find.{get}
+use Rattle.transformations.specs.declared.command.Command.{Command}
+use Rattle.transformations.specs.declared.entry.Entry.{Entry}
+use Rattle.wire_json.specs.Kinds as spec
+use Rattle.wire_json.specs.Kinds.{Kind}
+use Rattle.wire_json.specs.Reading.{◌>>=◌, entry_keys, entry_of, epoch_at, found, holds, most_bytes, reading, value_of}
+use Rattle.wire_json.specs.Values.{has_keys, node_at, number_at, text_at}
+use Rattle.wire_json.specs.declared.line.Line.{Line}
+use Rattle.wire_json.specs.declared.line.Line.TheVariants as line
+use Rattle.wire_json.specs.declared.line.ReadLineFault.{ReadLineFault}
+use Rattle.wire_json.proofs.KindsLemmas.{no_node_command, node_command}
+
+-- ---- what holds of the value in an option
+
+pub IfSome-option_and_then : {X Y : Type 0} (f : X → Option Y) (Q : Y → Type 0) → ((x : X) → IfSome (f x) Q) → (o : Option X) → IfSome (option_and_then f o) Q
+IfSome-option_and_then f Q all None = tt
+IfSome-option_and_then f Q all (Some x) = all x
+
+pub IfSome-where : {X Y : Type 0} (P : X → Type 0) (f : X → Option Y) (Q : Y → Type 0) → ((x : X) → P x → IfSome (f x) Q) → (o : Option X) → IfSome o P → IfSome (option_and_then f o) Q
+IfSome-where P f Q all None h = tt
+IfSome-where P f Q all (Some x) h = all x h
+
+IfSome-if : {X : Type 0} (Q : X → Type 0) (b : Bool) (o p : Option X) → IfSome o Q → IfSome p Q → IfSome (if b then o else p) Q
+IfSome-if Q true o p h k = h
+IfSome-if Q false o p h k = k
+
+-- ---- the commands of each kind
+
+-- it holds of what the object of each kind makes
+pub record HoldsOfKinds (Q : Command → Type 0) : Type 0 where
+  pub register : (value : Data) → IfSome (spec.register_of value) Q
+  pub unsafe_join : (value : Data) → IfSome (spec.unsafe_join_of value) Q
+  pub keyspace : (value : Data) → IfSome (spec.keyspace_of value) Q
+  pub drop_keyspace : (value : Data) → IfSome (spec.drop_keyspace_of value) Q
+  pub prepare_join : (value : Data) → IfSome (spec.prepare_join_of value) Q
+  pub prepare_move : (value : Data) → IfSome (spec.prepare_move_of value) Q
+  pub prepare_replace : (value : Data) → IfSome (spec.prepare_replace_of value) Q
+  pub of_node : (n : ℕ) → AllByRecursion (λ row. Q (row.1 n)) spec.node_commands
+
+module _ (Q : Command → Type 0) (of : HoldsOfKinds Q) where
+  -- what a test finds among some rows
+  of_rows : (test : List ℕ × (ℕ → Command) → Bool) (n : ℕ) (rows : List (List ℕ × (ℕ → Command))) → AllByRecursion (λ row. Q (row.1 n)) rows → IfSome (option_map (λ row. row.1 n) (find test rows)) Q
+  of_rows test n [] all = tt
+  of_rows test n (row ∷ rows) all = by (test row) all.0 (of_rows test n rows all.1)
+    where
+      by : (b : Bool) → Q (row.1 n) → IfSome (option_map (λ row. row.1 n) (find test rows)) Q → IfSome (option_map (λ row. row.1 n) (cond b (Some row) (find test rows))) Q
+      by true here found = here
+      by false here found = found
+
+  of_command_on : (word : List ℕ) (n : ℕ) → IfSome (spec.command_on word n) Q
+  of_command_on word n = of_rows (λ row. bytes_eq word row.0) n spec.node_commands (of.of_node n)
+
+  of_node_kinds : (word : List ℕ) (value : Data) → IfSome (spec.command_named spec.node_kinds word value) Q
+  of_node_kinds word value = by (has_keys spec.node_keys value) refl
+    where
+      by : (b : Bool) → has_keys spec.node_keys value ≡ b → IfSome (spec.command_named spec.node_kinds word value) Q
+      by true is =
+          let all = IfSome-option_and_then (spec.command_on word) Q (of_command_on word) (node_at (codes "node") value) in
+          subst (λ o. IfSome o Q) (sym (node_command word value is)) all
+      by false is = subst (λ o. IfSome o Q) (sym (no_node_command word value is)) tt
+
+  -- one more kind
+  of_kind : (kind : Kind) (kinds : List Kind) (word : List ℕ) (value : Data) → IfSome (kind.made value) Q → IfSome (spec.command_named kinds word value) Q
+      → IfSome (spec.command_named (kind ∷ kinds) word value) Q
+  of_kind kind kinds word value made others = by (bytes_eq word kind.word)
+    where
+      by : (b : Bool) → IfSome (option_and_then (λ (k : Kind). spec.command_by k value) (cond b (Some kind) (find (λ (k : Kind). bytes_eq word k.word) kinds))) Q
+      by true = IfSome-if Q (has_keys kind.keys value) (kind.made value) None made tt
+      by false = others
+
+  of_kinds : (word : List ℕ) (value : Data) → IfSome (spec.command_named spec.kinds word value) Q
+  of_kinds word value =
+      of_kind spec.register (spec.unsafe_join ∷ spec.keyspace ∷ spec.drop_keyspace ∷ spec.prepare_join ∷ spec.prepare_move ∷ spec.prepare_replace ∷ spec.node_kinds) word value (of.register value)
+      (of_kind spec.unsafe_join (spec.keyspace ∷ spec.drop_keyspace ∷ spec.prepare_join ∷ spec.prepare_move ∷ spec.prepare_replace ∷ spec.node_kinds) word value (of.unsafe_join value)
+      (of_kind spec.keyspace (spec.drop_keyspace ∷ spec.prepare_join ∷ spec.prepare_move ∷ spec.prepare_replace ∷ spec.node_kinds) word value (of.keyspace value)
+      (of_kind spec.drop_keyspace (spec.prepare_join ∷ spec.prepare_move ∷ spec.prepare_replace ∷ spec.node_kinds) word value (of.drop_keyspace value)
+      (of_kind spec.prepare_join (spec.prepare_move ∷ spec.prepare_replace ∷ spec.node_kinds) word value (of.prepare_join value)
+      (of_kind spec.prepare_move (spec.prepare_replace ∷ spec.node_kinds) word value (of.prepare_move value)
+      (of_kind spec.prepare_replace spec.node_kinds word value (of.prepare_replace value) (of_node_kinds word value)))))))
+
+  of_command : (value : Data) → IfSome (spec.command_of value) Q
+  unfolding spec.command_of
+  of_command value = IfSome-option_and_then (λ word. spec.command_named spec.kinds word value) Q (λ word. of_kinds word value) (text_at (codes "kind") value)
+
+  of_command_at : (key : List ℕ) (value : Data) → IfSome (spec.command_at key value) Q
+  of_command_at key value = IfSome-option_and_then spec.command_of Q of_command (get key value)
+
+  -- ---- entries
+
+  -- what is made of the parts of an entry
+  abbrev entry_by : Bool → Option ℕ → Option ℕ → Option Command → Result Entry ReadLineFault
+  entry_by keys id epoch command = do
+    keys ← holds 3 keys
+    id ← found 4 id
+    epoch ← found 4 epoch
+    command ← found 5 command
+    Ok (record { id = id; epoch = epoch; cmd = command })
+
+  pub entry_commands : (value : Data) (entry : Entry) → entry_of value ≡ Ok entry → Q entry.cmd
+  unfolding entry_of
+  entry_commands value entry is =
+      by (has_keys entry_keys value) (number_at (codes "entry") value) (epoch_at (codes "epoch") value) (spec.command_at (codes "command") value) (of_command_at (codes "command") value) is
+    where
+      by : (keys : Bool) (id epoch : Option ℕ) (command : Option Command) → IfSome command Q → entry_by keys id epoch command ≡ Ok entry → Q entry.cmd
+      by false id epoch command all is = absurd (cc)
+      by true None epoch command all is = absurd (cc)
+      by true (Some n) None command all is = absurd (cc)
+      by true (Some n) (Some e) None all is = absurd (cc)
+      by true (Some n) (Some e) (Some command) all is = (let same : command ≡ entry.cmd = cc in subst Q same all)
+
+  -- a line
+  pub reading_commands : (bytes : List ℕ) (entry : Entry) → reading bytes ≡ Ok (line.Entry entry) → Q entry.cmd
+  unfolding reading
+  reading_commands bytes entry is = by (nat_le (length bytes) most_bytes) (value_of bytes) is
+    where
+      read_by : Bool → Option Data → Result Line ReadLineFault
+      read_by short value = do
+        short ← holds 1 short
+        value ← found 2 value
+        entry ← entry_of value
+        Ok (line.Entry entry)
+
+      of_value : (value : Data) (r : Result Entry ReadLineFault) → entry_of value ≡ r → (r >>= (λ e. Ok (line.Entry e))) ≡ Ok (line.Entry entry) → Q entry.cmd
+      of_value value (Ok e) made is = (let same : e ≡ entry = cc in entry_commands value entry (made ∙ ap Ok same))
+      of_value value (Err fault) made is = absurd (cc)
+
+      by : (short : Bool) (value : Option Data) → read_by short value ≡ Ok (line.Entry entry) → Q entry.cmd
+      by false value is = absurd (cc)
+      by true None is = absurd (cc)
+      by true (Some value) is = of_value value (entry_of value) refl is
