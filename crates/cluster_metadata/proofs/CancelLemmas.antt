@@ -14,7 +14,8 @@ use Rattle.transformations.specs.declared.sequence.Phase.{Phase}
 use Rattle.transformations.specs.declared.sequence.Phase.TheVariants as phase
 use Rattle.transformations.specs.declared.sequence.SeqRow.{SeqRow}
 use Rattle.cluster_metadata.proofs.MovementPlaces.{others_at}
-use Rattle.cluster_metadata.proofs.StepLemmas.{after, back, first_none, found, negated, own, stands, test_false}
+use Rattle.transformations.proofs.commands.AcceptedLemmas.{first_none, test_false}
+use Rattle.cluster_metadata.proofs.StepLemmas.{after, back, found, negated, own, stands}
 use Rattle.cluster_metadata.specs.Change.{IsChange, in_phase}
 use Rattle.cluster_metadata.specs.declared.change.Change.TheVariants.{BroughtBack, Ended}
 

@@ -30,7 +30,7 @@ map_remove f (y ∷ ys) (suc i) = ap (λ l. f y ∷ l) (map_remove f ys i)
 
 -- ---- values
 
-abbrev phase : SeqRow → Phase
+abbrev pub phase : SeqRow → Phase
 phase s = s.phase
 
 -- the value at the place of a row is its value

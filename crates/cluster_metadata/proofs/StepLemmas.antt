@@ -1,20 +1,19 @@
 -- What an accepted step says of the movements, and the changes that steps make.
 use Rattle.std.proofs.Common.{◌≡◌, ℕ, ◌+◌, ◌<◌, ◌≤◌, Bool, true, false, not, true≢false, ◌&&◌, ◌==◌, List, [], ◌∷◌, length, map, get_or, set, Option, Some, None, IsSome, is_some, option_map, option_and_then, refl, sym, ap, ◌∙◌}
 use Rattle.std.proofs.lemmas.Bool.Decides.{Decides-eqb}
-use Rattle.std.proofs.lemmas.Option.{none-some}
 use Rattle.std.specs.List.{insert, remove, slice_get}
 use Rattle.std.specs.List.Sorted.{IsStrictlySortedBy}
 use Rattle.cluster_terms.specs.Ascending.{put}
 use Rattle.cluster_terms.specs.declared.node.NodeRow.{NodeRow}
 use Rattle.cluster_terms.specs.declared.token.Pair.{Pair}
+use Rattle.transformations.proofs.commands.AcceptedLemmas.{first_none, test_false}
 use Rattle.transformations.proofs.lists.ListLemmas.{found_passes}
 use Rattle.transformations.specs.History.{next_image}
 use Rattle.transformations.specs.Orders.{by_node}
-use Rattle.transformations.specs.Refusals.{early_refusal_of, first_of, no_node, no_sequence, refused_if, unless_next, wrong_step}
+use Rattle.transformations.specs.Refusals.{early_refusal_of, no_node, no_sequence, unless_next, wrong_step}
 use Rattle.transformations.specs.Steps.{at_phase, finished, is_next_step, leaver, movement_of, others, phase_before, ring_after, same_kind, same_phase, with_left}
 use Rattle.transformations.specs.declared.command.Command.TheVariants.{Step}
 use Rattle.transformations.specs.declared.image.Image.{Image}
-use Rattle.transformations.specs.declared.refusal.Refusal.{Refusal}
 use Rattle.transformations.specs.declared.refusal.Refusal.TheVariants.{NoSequence, WrongStep}
 use Rattle.transformations.specs.declared.sequence.Goal.{Goal}
 use Rattle.transformations.specs.declared.sequence.Goal.TheVariants as goal
@@ -27,14 +26,6 @@ use Rattle.cluster_metadata.specs.Change.{Begins, IsChange, in_phase}
 use Rattle.cluster_metadata.specs.declared.change.Change.TheVariants.{Begun, Started, Mid, Finished}
 
 -- ---- where no refusal comes
-
-pub first_none : (a : Option Refusal) (later : List (Option Refusal)) → first_of (a ∷ later) ≡ None → (a ≡ None) × (first_of later ≡ None)
-first_none None later h = (refl, h)
-first_none (Some r) later h = absurd (none-some r (sym h))
-
-pub test_false : (b : Bool) (r : Refusal) → refused_if b r ≡ None → b ≡ false
-test_false true r h = absurd (none-some r (sym h))
-test_false false r h = refl
 
 pub negated : (b : Bool) → not b ≡ false → b ≡ true
 negated true h = refl

@@ -1,5 +1,5 @@
 -- Permits, and the commands that they allow.
-use Rattle.std.specs.Prelude.{◌≡◌, ◌<◌, true, Option, Some, None}
+use Rattle.std.specs.Prelude.{◌≡◌, ◌<◌, true, MatchResult, Option, Some, None, Result}
 use Rattle.transformations.specs.History.{is_command, most_epochs}
 use Rattle.transformations.specs.Meeting.{HasReplication}
 use Rattle.transformations.specs.Refusals.{refusal_of}
@@ -28,3 +28,7 @@ pub record IsPermitted (image : Image) (command : Command) (change : Change) : T
 abbrev pub ShowsRefusal : Option Refusal → AdmitFault → Type 0
 ShowsRefusal first (Refused refusal) = first ≡ Some refusal
 ShowsRefusal first Memory = Unit {0}
+
+-- the call succeeds only without a first refusal, and a fault shows the first refusal, or memory ran out
+abbrev pub AdmitsUnless : {T : Type 0} → Option Refusal → Result T AdmitFault → Type 0
+AdmitsUnless first result = MatchResult result (λ _. first ≡ None) (ShowsRefusal first)

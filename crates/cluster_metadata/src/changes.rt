@@ -1,6 +1,6 @@
 //! The change that a command makes in an image that accepts it.
 
-ghost use Rattle.std.specs.Prelude.{◌≡◌, ◌<◌, ◌^◌, ◌-◌, ◌==◌, true, not, None, filter, IfOk, MatchResult, OnOk};
+ghost use Rattle.std.specs.Prelude.{◌≡◌, ◌<◌, ◌^◌, ◌-◌, ◌==◌, true, not, None, filter, IfOk, OnOk};
 ghost use Rattle.std.specs.List.Sorted.{IsStrictlySortedBy};
 ghost use Rattle.std.specs.Str.{bytes_eq};
 ghost use Rattle.cluster_terms.specs.Replication.{IsReplication};
@@ -11,7 +11,7 @@ ghost use Rattle.transformations.specs.Refusals.{early_refusal_of, prepared_by, 
 ghost use Rattle.transformations.specs.Valid.{IsSound};
 ghost use Rattle.transformations.specs.declared.command.Command.TheVariants as command;
 ghost use Rattle.cluster_metadata.specs.Change.{IsChange};
-ghost use Rattle.cluster_metadata.specs.Permission.{ShowsRefusal};
+ghost use Rattle.cluster_metadata.specs.Permission.{AdmitsUnless};
 
 use crate::admit_fault::AdmitFault;
 use crate::cancelling::cancel;
@@ -152,8 +152,7 @@ pub fn change_of<L: Ledger>(
     requires early { early_refusal_of image.now cmd.now ≡ None }
     ensures change { IfOk result (IsChange image.now cmd.now) }
     ensures replicated { OnOk result (HasReplication cmd.now) }
-    ensures refusal { MatchResult result (λ _. refusal_of image.now cmd.now ≡ None)
-        (ShowsRefusal (refusal_of image.now cmd.now)) }
+    ensures refusal { AdmitsUnless (refusal_of image.now cmd.now) result }
     ensures uncounted { walks.new ≡ walks.old }
 {
     if let Some(row) = row_prepared(alloc, image, cmd)? {

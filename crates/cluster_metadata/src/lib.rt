@@ -2,10 +2,12 @@
 #![tactic(auto)]
 
 mod admit_fault;
+mod applying;
 mod cancelling;
 mod change;
 mod changes;
 mod enact;
+mod image_fault;
 mod leaving;
 mod locks;
 mod metadata;
@@ -16,5 +18,6 @@ mod running;
 mod stepping;
 
 pub use admit_fault::AdmitFault;
+pub use image_fault::ImageFault;
 pub use metadata::Metadata;
 pub use permit::Permit;

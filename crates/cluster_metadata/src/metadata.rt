@@ -1,16 +1,19 @@
-ghost use Rattle.std.specs.Prelude.{◌≡◌, ◌<◌, ◌≤◌, true, None, length, option_map, IfOk, IfSome, IsTrue, MatchResult};
+ghost use Rattle.std.specs.Prelude.{◌≡◌, ◌<◌, ◌≤◌, true, None, length, option_map, IfErr, IfOk, IfSome, IsTrue};
 ghost use Rattle.std.specs.Option.{option_copied};
 ghost use Rattle.transformations.specs.History.{empty_image, is_command, most_epochs, next_image};
 ghost use Rattle.transformations.specs.Meeting.{HaveReplications, QuorumsExistTogether, QuorumsMeet, ReadsAreWritten, makes_movement_epoch};
 ghost use Rattle.transformations.specs.Refusals.{refusal_of};
+ghost use Rattle.transformations.specs.Valid.{IsValid};
 ghost use Rattle.cluster_metadata.specs.Change.{directory_of};
+ghost use Rattle.cluster_metadata.specs.Running.{IsRunning};
 ghost use Rattle.cluster_metadata.specs.Served as spec;
 
 use crate::admit_fault::AdmitFault;
 use crate::enact::{make, renew};
+use crate::image_fault::ImageFault;
 use crate::permit::{Permit, permit_for};
 use crate::placement::{keyspace_of, served_by};
-use crate::running::{Running, close_all};
+use crate::running::{Running, close_all, resume_all};
 use cluster_terms::{Memory, Name, Replication, SmallList, Steps, Token, TryCopy};
 use node_directory::Directory;
 use node_sets::NodeSet;
@@ -44,10 +47,20 @@ impl Model for Metadata {
     ghost invariant = { λ m. IsHeld m.image m.directory m.running.items };
 }
 
+/// The directory of a valid image, and the values of its movements in flight.
+fn parts_of(alloc: Global, image: &Image) -> Result<(Directory, Vec<Running>), Memory>
+    requires { IsValid image.now }
+    ensures directory { IfOk result (λ parts. parts.0 ≡ directory_of image.now) }
+    ensures running { IfOk result (λ parts. IsRunning image.now.sequences parts.1.items) }
+{
+    let directory = Directory::from_valid(alloc, image.nodes.as_slice(), image.next)?;
+    let running = resume_all(alloc, image.sequences.as_slice())?;
+    Ok((directory, running))
+}
+
 impl Metadata {
-    ghost use Rattle.transformations.specs.Valid.{IsValid};
     ghost use Rattle.transformations.specs.Ranges.{AreApart, AreOutcomes, ArePlacedByOutcomes, KeepsRanges, PlacedByRanges};
-    ghost use Rattle.cluster_metadata.specs.Permission.{ShowsRefusal};
+    ghost use Rattle.cluster_metadata.specs.Permission.{AdmitsUnless};
 
     /// The metadata before the first command: epoch 0, no node and no keyspace. `Err` means that memory ran out.
     pub fn empty(alloc: Global) -> Result<Metadata, Memory>
@@ -70,6 +83,27 @@ impl Metadata {
         })
     }
 
+    /// The metadata of an image. The image is valid, and each of its keyspaces has a replication. If memory runs out,
+    /// returns the image.
+    ///
+    /// Cost: a copy of the nodes and of the movements in flight.
+    pub fn from_image(alloc: Global, image: Image) -> Result<Metadata, (Image, ImageFault)>
+        requires valid { IsValid image }
+        requires replications { HaveReplications image }
+        ensures ok { IfOk result (λ metadata. metadata ≡ image) }
+        ensures handed_back { IfErr result (λ e. e.0 ≡ image) }
+    {
+        match parts_of(alloc, &image) {
+            Ok((directory, running)) => Ok(Metadata {
+                alloc,
+                image,
+                directory,
+                running,
+            }),
+            Err(Memory) => Err((image, ImageFault::Memory)),
+        }
+    }
+
     /// The epoch: the number of commands that have been enacted.
     pub fn epoch(&self) -> u64
         ensures { result ≡ self.now.epoch }
@@ -86,9 +120,12 @@ impl Metadata {
         &self.image
     }
 
-    /// A copy of the image, with all its lists. `Err` means that memory ran out.
+    /// A copy of the image, with all its lists. `Err` means that memory ran out. The image is valid, and the replication
+    /// of each keyspace names each of its datacenters once.
     pub fn image(&self) -> Result<Image, Memory>
-        ensures { IfOk result (λ image. image ≡ self.now) }
+        ensures image { IfOk result (λ image. image ≡ self.now) }
+        ensures valid { IsValid self.now }
+        ensures replications { HaveReplications self.now }
     {
         self.image.copy()
     }
@@ -115,8 +152,7 @@ impl Metadata {
         requires room { self.now.epoch < most_epochs }
         requires formed { IsTrue (is_command cmd.now) }
         ensures permit { IfOk result (λ permit. permit ≡ record { image = self.now; command = cmd.now }) }
-        ensures refusal { MatchResult result (λ _. refusal_of self.now cmd.now ≡ None)
-            (ShowsRefusal (refusal_of self.now cmd.now)) }
+        ensures refusal { AdmitsUnless (refusal_of self.now cmd.now) result }
         ensures uncounted { walks.new ≡ walks.old }
         ensures apart { AreApart self.now }
         ensures outcomes { PlacedByRanges self.now }

@@ -1,9 +1,9 @@
-ghost use Rattle.std.specs.Prelude.{◌≡◌, ◌<◌, ◌≤◌, None, IfOk, IsTrue, MatchResult, vec_capacity, vec_len};
+ghost use Rattle.std.specs.Prelude.{◌≡◌, ◌<◌, ◌≤◌, None, IfOk, IsTrue, vec_capacity, vec_len};
 ghost use Rattle.transformations.specs.History.{is_command, most_epochs};
 ghost use Rattle.transformations.specs.Refusals.{refusal_of};
 ghost use Rattle.transformations.specs.Valid.{IsSound, IsValid};
 ghost use Rattle.cluster_metadata.specs.Change.{changed, directory_after, grown_to};
-ghost use Rattle.cluster_metadata.specs.Permission.{ShowsRefusal};
+ghost use Rattle.cluster_metadata.specs.Permission.{AdmitsUnless};
 
 use crate::admit_fault::AdmitFault;
 use crate::change::Change;
@@ -96,8 +96,7 @@ pub(crate) fn permit_for<L: Ledger>(
     requires room { image.now.epoch < most_epochs }
     requires formed { IsTrue (is_command cmd.now) }
     ensures permit { IfOk result (λ permit. permit ≡ record { image = image.now; command = cmd.now }) }
-    ensures refusal { MatchResult result (λ _. refusal_of image.now cmd.now ≡ None)
-        (ShowsRefusal (refusal_of image.now cmd.now)) }
+    ensures refusal { AdmitsUnless (refusal_of image.now cmd.now) result }
     ensures uncounted { walks.new ≡ walks.old }
 {
     if let Some(refusal) = early_refusal(alloc, image, cmd)? {

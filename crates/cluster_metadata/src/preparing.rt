@@ -1,6 +1,6 @@
 //! Begins a movement, unless its ranges are locked.
 
-ghost use Rattle.std.specs.Prelude.{◌≡◌, ◌≤◌, ◌==◌, false, true, None, length, IfOk, IfSome, MatchResult};
+ghost use Rattle.std.specs.Prelude.{◌≡◌, ◌≤◌, ◌==◌, false, true, None, length, IfOk, IfSome};
 ghost use Rattle.std.specs.List.{AllByRecursion, insert};
 ghost use Rattle.cluster_terms.specs.Ascending.{put};
 ghost use Rattle.transformations.specs.History.{is_command};
@@ -10,7 +10,7 @@ ghost use Rattle.transformations.specs.Valid.{IsSound};
 ghost use Rattle.transformations.specs.declared.sequence.Phase.TheVariants as phase;
 ghost use Rattle.transformations.specs.declared.sequence.SeqRow.{SeqRow};
 ghost use Rattle.cluster_metadata.specs.Change.{Begins};
-ghost use Rattle.cluster_metadata.specs.Permission.{ShowsRefusal};
+ghost use Rattle.cluster_metadata.specs.Permission.{AdmitsUnless};
 
 use crate::admit_fault::AdmitFault;
 use crate::change::Change;
@@ -82,8 +82,7 @@ pub fn prepare<L: Ledger>(
     requires new { AllByRecursion (λ s. (s.node == row.node) ≡ false) image.now.sequences }
     requires sound { IsSound (with_movement image.now row) }
     ensures change { IfOk result (Begins image.now row) }
-    ensures refusal { MatchResult result (λ _. locked (with_movement image.now row) row ≡ None)
-        (ShowsRefusal (locked (with_movement image.now row) row)) }
+    ensures refusal { AdmitsUnless (locked (with_movement image.now row) row) result }
     ensures uncounted { walks.new ≡ walks.old }
 {
     let plan = match plan(alloc, image, row, walks) {

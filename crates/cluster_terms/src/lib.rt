@@ -25,4 +25,4 @@ pub use replication::Replication;
 pub use rf::Rf;
 pub use row::{Rows, TokenRange, rows_between};
 pub use steps::Steps;
-pub use token::{Pair, RightEnd, Token, tokens_in_range};
+pub use token::{Pair, RightEnd, Token};

@@ -1,5 +1,4 @@
 ghost use Rattle.std.specs.Prelude.{◌≡◌, ℕ, ℤ, IfOk};
-ghost use Rattle.std.specs.List.{AllByRecursion};
 ghost use Rattle.cluster_terms.specs.Arc.{IsToken};
 
 use crate::list::TryCopy;
@@ -43,15 +42,6 @@ impl TryCopy for Token {
         ensures token { IsToken self.now }
     {
         Ok(Token { value: self.value })
-    }
-}
-
-/// States that each token is a number from -2^63 to 2^63 - 1. The cost is one pass over the tokens.
-pub fn tokens_in_range(tokens: &[Token])
-    ensures { AllByRecursion IsToken tokens.now }
-{
-    for token in tokens {
-        let _value = token.value();
     }
 }
 

@@ -10,7 +10,7 @@ use Rattle.std.specs.Str.{bytes_eq}
 use Rattle.std.specs.declared.cmp.Ordering.TheVariants.{Less}
 use Rattle.cluster_terms.specs.declared.node.NodeRow.{NodeRow}
 use Rattle.node_directory.proofs.NodeRows.{ascending_cons, directory_from}
-use Rattle.node_directory.specs.Directory.{are_ascending, are_distinct, ids_of, is_directory, names_of}
+use Rattle.node_directory.specs.Directory.{are_ascending, names_are_distinct, ids_of, is_directory, node_names}
 
 -- ---- names
 
@@ -18,10 +18,10 @@ not_among : (n : List ℕ) (ns : List (List ℕ)) → AllByRecursion (λ m. byte
 not_among n [] all = refl
 not_among n (m ∷ ns) all = ap (λ b. b || is_member bytes_eq ns n) all.0 ∙ not_among n ns all.1
 
-names_distinct : (ns : List (List ℕ)) → IsDistinct bytes_eq ns → are_distinct ns ≡ true
+names_distinct : (ns : List (List ℕ)) → IsDistinct bytes_eq ns → names_are_distinct ns ≡ true
 names_distinct [] d = refl
 names_distinct (n ∷ ns) d =
-    (λ i. not (not_among n ns (IsDistinct-head bytes_eq n ns d) i) && are_distinct ns) ∙ names_distinct ns (IsDistinct-tail bytes_eq n ns d)
+    (λ i. not (not_among n ns (IsDistinct-head bytes_eq n ns d) i) && names_are_distinct ns) ∙ names_distinct ns (IsDistinct-tail bytes_eq n ns d)
 
 -- ---- ids
 
@@ -38,7 +38,7 @@ ids_ascend least next (row ∷ rows) sorted within all =
     (ids_ascend (row.id + 1) next rows (sorted_tail nat_cmp row.id (ids_of rows) sorted) (above row.id next rows (sorted_head nat_cmp row.id (ids_of rows) sorted) all.1) all.1)
 
 -- rows whose ids ascend from 1 or more up to the next one, and of whose names none comes twice
-pub directory_rows : (rows : List NodeRow) (next : ℕ) → IsStrictlyIncreasing (ids_of rows) → AllByRecursion (λ row. (1 ≤ row.id) × (row.id < next)) rows → IsDistinct bytes_eq (names_of rows)
+pub directory_rows : (rows : List NodeRow) (next : ℕ) → IsStrictlyIncreasing (ids_of rows) → AllByRecursion (λ row. (1 ≤ row.id) × (row.id < next)) rows → IsDistinct bytes_eq (node_names rows)
     → IsTrue (is_directory 1 rows next)
 directory_rows rows next up within distinct =
-    directory_from 1 rows next (ids_ascend 1 next rows (sorted_from_strictly_increasing (ids_of rows) up) within within) (names_distinct (names_of rows) distinct)
+    directory_from 1 rows next (ids_ascend 1 next rows (sorted_from_strictly_increasing (ids_of rows) up) within within) (names_distinct (node_names rows) distinct)

@@ -9,9 +9,9 @@ use Rattle.std.specs.declared.string.String.{String}
 use Rattle.indexmap.specs.IndexMap.{insert_entry}
 use Rattle.indexmap.specs.Layout.{set_value_at}
 use Rattle.cluster_terms.specs.declared.node.NodeRow.{NodeRow}
-use Rattle.node_directory.specs.Directory.{Registry, names_of, node_named, with_left}
+use Rattle.node_directory.specs.Directory.{Registry, node_names, node_named, marked_left}
 use Rattle.node_directory.specs.Kept.{AreNamed}
-use Rattle.node_directory.proofs.NodeRows.{is_some-named, names-with_left}
+use Rattle.node_directory.proofs.NodeRows.{is_some-named, names-marked_left}
 
 module _ {Y : Type 0} where
   first_name : (e : String Y × NodeRow) (es : List (String Y × NodeRow)) → AreNamed (e ∷ es) → string_bytes e.0 ≡ e.1.name
@@ -65,12 +65,12 @@ module _ {Y : Type 0} where
   keys-set (e ∷ es) (suc at) row = ap (λ keys. e.0 ∷ keys) (keys-set es at row)
 
   -- a row under a new name goes last
-  insert-new : (es : List (String Y × NodeRow)) (key : String Y) (row : NodeRow) → AreNamed es → string_bytes key ≡ row.name → is_member bytes_eq (names_of (values_of es)) row.name ≡ false → insert_entry string_eq es key row ≡ es ++ (key, row) ∷ []
+  insert-new : (es : List (String Y × NodeRow)) (key : String Y) (row : NodeRow) → AreNamed es → string_bytes key ≡ row.name → is_member bytes_eq (node_names (values_of es)) row.name ≡ false → insert_entry string_eq es key row ≡ es ++ (key, row) ∷ []
   insert-new [] key row named e new = refl
   insert-new (f ∷ es) key row named e new =
       let first = first_name f es named in
-      let apart : string_eq key f.0 ≡ false = rw (e, first) (or_left (bytes_eq row.name f.1.name) (is_member bytes_eq (names_of (values_of es)) row.name) new) in
-      let others = or_right (bytes_eq row.name f.1.name) (is_member bytes_eq (names_of (values_of es)) row.name) new in
+      let apart : string_eq key f.0 ≡ false = rw (e, first) (or_left (bytes_eq row.name f.1.name) (is_member bytes_eq (node_names (values_of es)) row.name) new) in
+      let others = or_right (bytes_eq row.name f.1.name) (is_member bytes_eq (node_names (values_of es)) row.name) new in
       rw apart (ap (λ rest. f ∷ rest) (insert-new es key row (other_names f es named) e others))
     where
       or_right : (a b : Bool) → (a || b) ≡ false → b ≡ false
@@ -79,16 +79,16 @@ module _ {Y : Type 0} where
       or_left : (a b : Bool) → (a || b) ≡ false → a ≡ false
       or_left a b h = grind arith
 
-  pub AreNamed-insert : (es new : List (String Y × NodeRow)) (key : String Y) (row : NodeRow) → new ≡ insert_entry string_eq es key row → AreNamed es → string_bytes key ≡ row.name → is_member bytes_eq (names_of (values_of es)) row.name ≡ false → AreNamed new
+  pub AreNamed-insert : (es new : List (String Y × NodeRow)) (key : String Y) (row : NodeRow) → new ≡ insert_entry string_eq es key row → AreNamed es → string_bytes key ≡ row.name → is_member bytes_eq (node_names (values_of es)) row.name ≡ false → AreNamed new
   AreNamed-insert es new key row is named e free =
       rw (is, insert-new es key row named e free) (AreNamed-push es key row named e)
 
-  pub values-insert : (es new : List (String Y × NodeRow)) (key : String Y) (row : NodeRow) → new ≡ insert_entry string_eq es key row → AreNamed es → string_bytes key ≡ row.name → is_member bytes_eq (names_of (values_of es)) row.name ≡ false → values_of new ≡ values_of es ++ row ∷ []
+  pub values-insert : (es new : List (String Y × NodeRow)) (key : String Y) (row : NodeRow) → new ≡ insert_entry string_eq es key row → AreNamed es → string_bytes key ≡ row.name → is_member bytes_eq (node_names (values_of es)) row.name ≡ false → values_of new ≡ values_of es ++ row ∷ []
   values-insert es new key row is named e free =
       rw (is, insert-new es key row named e free) (values-push es key row)
 
   -- a name under which a row is kept is among those of the rows
-  pub is_some-lookup : (es : List (String Y × NodeRow)) → AreNamed es → (name : List ℕ) → is_some (lookup (λ k. bytes_eq name (string_bytes k)) es) ≡ is_member bytes_eq (names_of (values_of es)) name
+  pub is_some-lookup : (es : List (String Y × NodeRow)) → AreNamed es → (name : List ℕ) → is_some (lookup (λ k. bytes_eq name (string_bytes k)) es) ≡ is_member bytes_eq (node_names (values_of es)) name
   is_some-lookup es named name = ap is_some (lookup-named es named name) ∙ is_some-named (values_of es) name
 
   -- the node that a look-up by name finds
@@ -97,6 +97,6 @@ module _ {Y : Type 0} where
       ap (option_map (λ (row : NodeRow). row.id)) (lookup-named es named query) ∙ rw (rows, same) refl
 
   -- a mark leaves the names
-  pub AreNamed-with_left : (es : List (String Y × NodeRow)) (at n : ℕ) (row : NodeRow) → AreNamed es → values_of (set_value_at es at row) ≡ with_left (values_of es) n → AreNamed (set_value_at es at row)
-  AreNamed-with_left es at n row named rows =
-      ap (map string_bytes) (keys-set es at row) ∙ named ∙ sym (names-with_left (values_of es) n) ∙ sym (ap names_of rows)
+  pub AreNamed-marked_left : (es : List (String Y × NodeRow)) (at n : ℕ) (row : NodeRow) → AreNamed es → values_of (set_value_at es at row) ≡ marked_left (values_of es) n → AreNamed (set_value_at es at row)
+  AreNamed-marked_left es at n row named rows =
+      ap (map string_bytes) (keys-set es at row) ∙ named ∙ sym (names-marked_left (values_of es) n) ∙ sym (ap node_names rows)

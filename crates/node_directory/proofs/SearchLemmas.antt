@@ -12,9 +12,9 @@ use Rattle.std.proofs.lemmas.Option.{slice_get-get_or, get_or_from_slice_get}
 use Rattle.std.proofs.lemmas.Map.Entries.{length-values_of}
 use Rattle.cluster_terms.specs.NodeRow.{row_of}
 use Rattle.cluster_terms.specs.declared.node.NodeRow.{NodeRow}
-use Rattle.node_directory.specs.Directory.{are_ascending, ids_of, is_directory, without, with_left}
+use Rattle.node_directory.specs.Directory.{are_ascending, ids_of, is_directory, other_rows, marked_left}
 use Rattle.node_directory.specs.Kept.{IsPlace, IsPlaceOf}
-use Rattle.node_directory.proofs.NodeRows.{ascends, id_at, ids-ascend, row_of-at, without-at, with_left-at}
+use Rattle.node_directory.proofs.NodeRows.{ascends, id_at, ids-ascend, row_of-at, other_rows-at, marked_left-at}
 
 -- the ids at two places are in the order of the places
 id-le : (least : ℕ) (rows : List NodeRow) (next : ℕ) → are_ascending least (ids_of rows) next ≡ true → (i j : ℕ) (d : NodeRow) → i ≤ j → j < length rows → (get_or rows i d).id ≤ (get_or rows j d).id
@@ -46,16 +46,16 @@ place-from_id least (row ∷ rows) next n at h lt id =
     record { in_range = lt; row = slice_get-get_or (row ∷ rows) at row lt ∙ sym (row_of-at least (row ∷ rows) next h at row lt) ∙ ap (row_of (row ∷ rows)) (id row); id = id }
 
 -- where the row of a node stands, the other rows are those at the other places
-pub without-place : (rows : List NodeRow) (next n at : ℕ) → IsTrue (is_directory 0 rows next) → IsPlace rows n at → without rows n ≡ remove rows at
-without-place [] next n at h place = absurd (omega (arith, place.in_range))
-without-place (row ∷ rows) next n at h place =
-    ap (without (row ∷ rows)) (sym (place.id row)) ∙ without-at 0 (row ∷ rows) next (ids-ascend 0 (row ∷ rows) next h) at row place.in_range
+pub other_rows-place : (rows : List NodeRow) (next n at : ℕ) → IsTrue (is_directory 0 rows next) → IsPlace rows n at → other_rows rows n ≡ remove rows at
+other_rows-place [] next n at h place = absurd (omega (arith, place.in_range))
+other_rows-place (row ∷ rows) next n at h place =
+    ap (other_rows (row ∷ rows)) (sym (place.id row)) ∙ other_rows-at 0 (row ∷ rows) next (ids-ascend 0 (row ∷ rows) next h) at row place.in_range
 
 -- and a mark is set there
-pub with_left-place : (rows : List NodeRow) (next n at : ℕ) (row : NodeRow) → IsTrue (is_directory 0 rows next) → IsPlace rows n at → slice_get rows at ≡ Some row → with_left rows n ≡ set rows at (record row { left = true })
-with_left-place rows next n at row h place here =
+pub marked_left-place : (rows : List NodeRow) (next n at : ℕ) (row : NodeRow) → IsTrue (is_directory 0 rows next) → IsPlace rows n at → slice_get rows at ≡ Some row → marked_left rows n ≡ set rows at (record row { left = true })
+marked_left-place rows next n at row h place here =
     let same : get_or rows at row ≡ row = get_or_from_slice_get rows at row row here in
-    ap (with_left rows) (sym (place.id row)) ∙ with_left-at 0 rows next (ids-ascend 0 rows next h) at row place.in_range ∙ ap (λ (r : NodeRow). set rows at (record r { left = true })) same
+    ap (marked_left rows) (sym (place.id row)) ∙ marked_left-at 0 rows next (ids-ascend 0 rows next h) at row place.in_range ∙ ap (λ (r : NodeRow). set rows at (record r { left = true })) same
 
 module _ {Y : Type 0} where
   get_or-values : (es : List (String Y × NodeRow)) (i : ℕ) (d : NodeRow) (e : String Y × NodeRow) → i < length es → get_or (values_of es) i d ≡ (get_or es i e).1

@@ -1,5 +1,6 @@
 -- A tally of the nodes that are met tells how many there are, as far as they are asked for.
 use Rattle.std.proofs.Common.{◌≡◌, ℕ, ◌+◌, ◌<◌, ◌≤◌, min, Bool, true, false, not, cond, ◌&&◌, ◌||◌, nat_eq, nat_lt, List, [], ◌∷◌, ◌++◌, length, filter, filter_map, Option, Some, None, is_some, refl, sym, ap, ◌∙◌, arith}
+use Rattle.std.proofs.Math.Bool.{or-false}
 use Rattle.std.proofs.lemmas.Bool.{or_parts}
 use Rattle.std.proofs.lemmas.Bool.Decides.{nat_tests}
 use Rattle.std.proofs.lemmas.Cmp.{nat_list_eq_equiv}
@@ -110,11 +111,7 @@ module _ (g : Group) (most_nodes most_racks : ℕ) where
       swap false false c = refl
 
   has-all_met : (ms : List ℕ) (v : ℕ) → has (met_before ms []) v ≡ has ms v
-  has-all_met ms v = has-met_before ms [] v ∙ or_false (has ms v)
-    where
-      or_false : (b : Bool) → (b || false) ≡ b
-      or_false true = refl
-      or_false false = refl
+  has-all_met ms v = has-met_before ms [] v ∙ or-false (has ms v)
 
   -- how many nodes and racks are kept of some nodes that are met
   pub nodes_met : (ms : List ℕ) → length (met_all g ms (nothing most_nodes most_racks)).nodes ≡ min most_nodes (node_count g ms)

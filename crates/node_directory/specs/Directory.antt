@@ -1,9 +1,9 @@
 -- The registered nodes of a cluster.
-use Rattle.std.specs.Prelude.{ℕ, ◌+◌, Bool, true, false, not, ◌&&◌, ◌==◌, if◌then◌else◌, nat_le, nat_lt, List, [], ◌∷◌, map, filter, find, ◌++◌, Option}
+use Rattle.std.specs.Prelude.{ℕ, ◌+◌, Bool, true, false, not, ◌&&◌, ◌==◌, nat_le, nat_lt, List, [], ◌∷◌, map, filter, find, ◌++◌, Option}
 use Rattle.std.specs.Option.{option_map}
 use Rattle.std.specs.Set.{is_member}
 use Rattle.std.specs.Str.{bytes_eq}
-use Rattle.cluster_terms.specs.NodeRow.{row_of}
+use Rattle.cluster_terms.specs.NodeRow.{marked, row_of}
 use Rattle.cluster_terms.specs.declared.node.NodeRow.{NodeRow}
 
 -- the rows of the registered nodes in order of registration, and the id that the next node gets
@@ -14,8 +14,8 @@ pub record Registry : Type 0 where
 abbrev pub ids_of : List NodeRow → List ℕ
 ids_of rows = map (λ row. row.id) rows
 
-abbrev pub names_of : List NodeRow → List (List ℕ)
-names_of rows = map (λ row. row.name) rows
+abbrev pub node_names : List NodeRow → List (List ℕ)
+node_names rows = map (λ row. row.name) rows
 
 -- whether ids ascend, the first id not below `least`, and all are below `next`
 abbrev pub are_ascending : ℕ → List ℕ → ℕ → Bool
@@ -23,14 +23,14 @@ are_ascending least [] next = true
 are_ascending least (id ∷ ids) next = nat_le least id && nat_lt id next && are_ascending (id + 1) ids next
 
 -- whether no name comes twice
-abbrev pub are_distinct : List (List ℕ) → Bool
-are_distinct [] = true
-are_distinct (name ∷ names) = not (is_member bytes_eq names name) && are_distinct names
+abbrev pub names_are_distinct : List (List ℕ) → Bool
+names_are_distinct [] = true
+names_are_distinct (name ∷ names) = not (is_member bytes_eq names name) && names_are_distinct names
 
 -- whether these can be the rows of a directory: the ids ascend, begin at `least` or more and are below `next`, and no
 -- name comes twice
 abbrev pub is_directory : ℕ → List NodeRow → ℕ → Bool
-is_directory least rows next = are_ascending least (ids_of rows) next && are_distinct (names_of rows)
+is_directory least rows next = are_ascending least (ids_of rows) next && names_are_distinct (node_names rows)
 
 -- the node with this name, which may be a node that left; None if no node has the name
 abbrev pub node_named : List NodeRow → List ℕ → Option ℕ
@@ -48,13 +48,9 @@ registered old name dc rack =
     record { rows = old.rows ++ row ∷ []; next = old.next + 1 }
 
 -- the rows of the other nodes
-abbrev pub without : List NodeRow → ℕ → List NodeRow
-without rows n = filter (λ row. not (row.id == n)) rows
-
--- the row, marked as left if it is the row of the node n
-abbrev pub marked : ℕ → NodeRow → NodeRow
-marked n row = let left : NodeRow = record row { left = true } in if row.id == n then left else row
+abbrev pub other_rows : List NodeRow → ℕ → List NodeRow
+other_rows rows n = filter (λ row. not (row.id == n)) rows
 
 -- the rows after the node n is marked as left
-abbrev pub with_left : List NodeRow → ℕ → List NodeRow
-with_left rows n = map (marked n) rows
+abbrev pub marked_left : List NodeRow → ℕ → List NodeRow
+marked_left rows n = map (marked n) rows

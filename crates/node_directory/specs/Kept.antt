@@ -4,12 +4,12 @@ use Rattle.std.specs.Map.{keys_of, values_of}
 use Rattle.std.specs.declared.string.String.{String}
 use Rattle.cluster_terms.specs.NodeRow.{row_of}
 use Rattle.cluster_terms.specs.declared.node.NodeRow.{NodeRow}
-use Rattle.node_directory.specs.Directory.{names_of, is_directory}
+use Rattle.node_directory.specs.Directory.{node_names, is_directory}
 
 module _ {Y : Type 0} where
   -- each row is stored under its node's name
   abbrev pub AreNamed : List (String Y × NodeRow) → Type 0
-  AreNamed entries = map string_bytes (keys_of entries) ≡ names_of (values_of entries)
+  AreNamed entries = map string_bytes (keys_of entries) ≡ node_names (values_of entries)
 
   -- each row is stored under its node's name, and the rows are those of a directory
   abbrev pub IsKept : List (String Y × NodeRow) → ℕ → Type 0

@@ -1,6 +1,7 @@
 -- Tallies of the nodes and the racks met so far, up to the numbers asked for.
 -- Of the code: no promise rests on these.
-use Rattle.std.specs.Prelude.{ℕ, Bool, not, ◌&&◌, ◌||◌, if◌then◌else◌, List, [], ◌∷◌, ◌++◌, length, nat_eq, nat_lt, Option, Some, None}
+use Rattle.std.specs.Prelude.{ℕ, Bool, not, ◌&&◌, ◌||◌, if◌then◌else◌, List, [], ◌∷◌, ◌++◌, length, map, nat_eq, nat_lt, Option, Some, None}
+use Rattle.std.specs.Borrow.{Bor}
 use Rattle.std.specs.Set.{is_member}
 use Rattle.std.specs.Str.{bytes_eq}
 use Rattle.cluster_terms.specs.Group.{Group}
@@ -11,6 +12,10 @@ pub record Tallied : Type 0 where
   pub most_racks : ℕ
   pub nodes : List ℕ
   pub racks : List (List ℕ)
+
+-- the names of borrowed racks
+abbrev pub racks_in : List (Bor (List ℕ)) → List (List ℕ)
+racks_in racks = map (λ rack. rack.now) racks
 
 -- the empty tally
 abbrev pub nothing : ℕ → ℕ → Tallied
@@ -33,6 +38,10 @@ met g n tally = met_with n (g.rack_of n) tally
 abbrev pub met_all : Group → List ℕ → Tallied → Tallied
 met_all g [] tally = tally
 met_all g (n ∷ ns) tally = met_all g ns (met g n tally)
+
+-- the tally of these nodes in a group, with at most as many nodes and racks as the group is to have replicas
+abbrev pub group_tally : Group → List ℕ → Tallied
+group_tally g ns = met_all g ns (nothing g.rf g.rf)
 
 -- whether the tally has fewer nodes or fewer racks than asked for
 abbrev pub lacks : Tallied → Bool

@@ -2,7 +2,7 @@ ghost use Rattle.std.specs.Prelude.{◌≡◌, [], ◌<◌, ◌↔◌, IsTrue, I
 ghost use Rattle.std.specs.Option.{option_copied, option_map};
 ghost use Rattle.cluster_terms.specs.NodeRow.{row_of};
 ghost use Rattle.cluster_terms.specs.Replication.{rack_within};
-ghost use Rattle.node_directory.specs.Directory.{is_directory, node_named, place_in, registered, without, with_left};
+ghost use Rattle.node_directory.specs.Directory.{is_directory, node_named, place_in, registered, other_rows, marked_left};
 ghost use Rattle.node_directory.specs.Kept.{IsPlaceOf};
 
 use crate::kept::{by_name, ids_ascend, push_copy};
@@ -43,7 +43,8 @@ impl Directory {
         next: u32,
     ) -> Result<Option<Directory>, Memory>
         ensures valid { IfOk result (λ found. IsSome found ↔ IsTrue (is_directory 1 rows.now next)) }
-        ensures registry { IfOk result (λ found. IfSome found (λ d. d ≡ record { rows = rows.now; next = next })) }
+        ensures registry { IfOk result (λ found.
+            IfSome found (λ d. d ≡ record { rows = rows.now; next = next })) }
     {
         if !ids_ascend(rows, next) {
             return Ok(None);
@@ -116,7 +117,7 @@ impl Directory {
     /// Removes the row of a registered node. Its id is not used again. The cost is a move of each later row.
     pub fn unregister(&mut self, n: NodeId)
         requires { IsSome (row_of self.old.rows n) }
-        ensures rows { self.new.rows ≡ without self.old.rows n }
+        ensures rows { self.new.rows ≡ other_rows self.old.rows n }
         ensures next { self.new.next ≡ self.old.next }
     {
         let at = self.place(n).unwrap();
@@ -126,7 +127,7 @@ impl Directory {
     /// Marks a registered node as having left the cluster. Its name stays taken. The cost is a binary search.
     pub fn mark_left(&mut self, n: NodeId)
         requires { IsSome (row_of self.old.rows n) }
-        ensures rows { self.new.rows ≡ with_left self.old.rows n }
+        ensures rows { self.new.rows ≡ marked_left self.old.rows n }
         ensures next { self.new.next ≡ self.old.next }
     {
         let at = self.place(n).unwrap();

@@ -3,7 +3,7 @@ ghost use Rattle.std.specs.Prelude.{◌≡◌, false, ◌++◌, [], ◌∷◌, �
 ghost use Rattle.std.specs.Map.{values_of};
 ghost use Rattle.std.specs.Set.{is_member};
 ghost use Rattle.std.specs.Str.{bytes_eq};
-ghost use Rattle.node_directory.specs.Directory.{are_ascending, are_distinct, ids_of, names_of};
+ghost use Rattle.node_directory.specs.Directory.{are_ascending, names_are_distinct, ids_of, node_names};
 ghost use Rattle.node_directory.specs.Kept.{AreNamed};
 
 use cluster_terms::{Memory, Name, NodeRow, TryCopy};
@@ -29,7 +29,7 @@ pub(crate) fn ids_ascend(rows: &[NodeRow], next: u32) -> bool
 /// Adds a copy of a row at the end, under its name. No row has this name yet.
 pub(crate) fn push_copy(nodes: &mut IndexMap<String, NodeRow>, row: &NodeRow) -> Result<(), Memory>
     requires named { AreNamed nodes.old.entries }
-    requires free { is_member bytes_eq (names_of (values_of nodes.old.entries)) row.now.name ≡ false }
+    requires free { is_member bytes_eq (node_names (values_of nodes.old.entries)) row.now.name ≡ false }
     ensures named { AreNamed nodes.new.entries }
     ensures rows { OnOk result (values_of nodes.new.entries ≡ values_of nodes.old.entries ++ row.now ∷ []) }
 {
@@ -41,7 +41,7 @@ pub(crate) fn push_copy(nodes: &mut IndexMap<String, NodeRow>, row: &NodeRow) ->
 /// Whether a row has this name.
 fn has_name(nodes: &IndexMap<String, NodeRow>, name: &Name) -> bool
     requires { AreNamed nodes.now.entries }
-    ensures { result ≡ is_member bytes_eq (names_of (values_of nodes.now.entries)) name.now }
+    ensures { result ≡ is_member bytes_eq (node_names (values_of nodes.now.entries)) name.now }
 {
     nodes.contains_key(name.as_str())
 }
@@ -52,7 +52,8 @@ pub(crate) fn by_name(
     alloc: Global,
     rows: &[NodeRow],
 ) -> Result<Option<IndexMap<String, NodeRow>>, Memory>
-    ensures distinct { IfOk result (λ found. IsSome found ↔ IsTrue (are_distinct (names_of rows.now))) }
+    ensures distinct { IfOk result (λ found.
+        IsSome found ↔ IsTrue (names_are_distinct (node_names rows.now))) }
     ensures named { IfOk result (λ found. IfSome found (λ nodes. AreNamed nodes.entries)) }
     ensures rows { IfOk result (λ found. IfSome found (λ nodes. values_of nodes.entries ≡ rows.now)) }
 {

@@ -1,8 +1,8 @@
 ghost use Rattle.std.specs.Prelude.{◌≡◌, IfOk};
 ghost use Rattle.cluster_terms.specs.Group.{nodes_of};
 ghost use Rattle.node_directory.specs.Members.{group_of};
-ghost use Rattle.node_directory.specs.Shape.{shape_of as shape};
-ghost use Rattle.node_directory.specs.Tally.{met_all, nothing};
+ghost use Rattle.node_directory.specs.Shape as spec;
+ghost use Rattle.node_directory.specs.Tally.{group_tally};
 
 use crate::members::Members;
 use crate::tally::Tally;
@@ -20,7 +20,7 @@ pub struct Shape {
 /// The tally of the pairs' nodes, with at most as many nodes and racks as replicas are asked for.
 #[tactic(auto, using(crate::proofs::TallyLemmas::met_all_full))]
 fn tally_of<'a>(alloc: Global, members: &Members<'a>, pairs: &[Pair]) -> Result<Tally<'a>, Memory>
-    ensures { IfOk result (λ tally. tally ≡ met_all (group_of members.now) (nodes_of pairs.now) (nothing (group_of members.now).rf (group_of members.now).rf)) }
+    ensures { IfOk result (λ tally. tally ≡ group_tally (group_of members.now) (nodes_of pairs.now)) }
 {
     let mut tally = Tally::new(alloc, members.rf(), members.rf())?;
     for pair in pairs {
@@ -38,7 +38,7 @@ fn tally_of<'a>(alloc: Global, members: &Members<'a>, pairs: &[Pair]) -> Result<
 /// are to be replicas. A pair costs a look at no more nodes and racks than that, and in a datacenter a look-up in the
 /// directory.
 pub fn shape_of(alloc: Global, members: &Members, pairs: &[Pair]) -> Result<Shape, Memory>
-    ensures { IfOk result (λ counted. counted ≡ shape (nodes_of pairs.now) (group_of members.now)) }
+    ensures { IfOk result (λ counted. counted ≡ spec.shape_of (nodes_of pairs.now) (group_of members.now)) }
 {
     let tally = tally_of(alloc, members, pairs)?;
     Ok(Shape {

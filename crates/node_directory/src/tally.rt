@@ -1,9 +1,9 @@
-ghost use Rattle.std.specs.Prelude.{◌≡◌, length, map, nat_eq, IfOk, OnOk};
+ghost use Rattle.std.specs.Prelude.{◌≡◌, length, nat_eq, IfOk, OnOk};
 ghost use Rattle.std.specs.List.{list_any};
 ghost use Rattle.std.specs.Set.{is_member};
 ghost use Rattle.std.specs.Str.{bytes_eq};
 ghost use Rattle.node_directory.specs.Members.{group_of};
-ghost use Rattle.node_directory.specs.Tally.{lacks as lacks_some, met as met_by, nothing, with_new};
+ghost use Rattle.node_directory.specs.Tally as spec;
 
 use crate::members::Members;
 use cluster_terms::{Memory, NodeId};
@@ -20,12 +20,16 @@ pub struct Tally<'a> {
 }
 
 impl<'a> Model for Tally<'a> {
-    ghost use Rattle.std.specs.Prelude.{map};
-    ghost use Rattle.node_directory.specs.Tally.{Tallied};
+    ghost use Rattle.node_directory.specs.Tally.{Tallied, racks_in};
 
     ghost Value = { Tallied };
 
-    ghost view = { λ t. record { most_nodes = t.most_nodes; most_racks = t.most_racks; nodes = t.nodes.items; racks = map (λ r. r.now) t.racks.items } };
+    ghost view = { λ t. record {
+      most_nodes = t.most_nodes;
+      most_racks = t.most_racks;
+      nodes = t.nodes.items;
+      racks = racks_in t.racks.items;
+    } };
 }
 
 /// Whether a node is in a list.
@@ -44,14 +48,14 @@ fn is_one_of(rack: &[u8], racks: &[&[u8]]) -> bool
 
 /// Whether a list contains a rack. The cost is one pass over the list.
 pub fn has_rack(racks: &[&[u8]], rack: &[u8]) -> bool
-    ensures { result ≡ is_member bytes_eq (map (λ r. r.now) racks.now) rack.now }
+    ensures { result ≡ is_member bytes_eq (spec.racks_in racks.now) rack.now }
 {
     is_one_of(rack, racks)
 }
 
 /// Adds a node if it is new and the list has fewer than `most` nodes.
 fn add_node(nodes: &mut Vec<NodeId>, most: usize, node: NodeId) -> Result<(), Memory>
-    ensures { OnOk result (nodes.new.items ≡ with_new nat_eq most node nodes.old.items) }
+    ensures { OnOk result (nodes.new.items ≡ spec.with_new nat_eq most node nodes.old.items) }
 {
     if nodes.len() < most && !has_node(nodes, node) {
         nodes.push(node)?;
@@ -61,7 +65,8 @@ fn add_node(nodes: &mut Vec<NodeId>, most: usize, node: NodeId) -> Result<(), Me
 
 /// Adds a rack if it is new and the list has fewer than `most` racks.
 fn add_rack<'a>(racks: &mut Vec<&'a [u8]>, most: usize, rack: &'a [u8]) -> Result<(), Memory>
-    ensures { OnOk result (map (λ r. r.now) racks.new.items ≡ with_new bytes_eq most rack.now (map (λ r. r.now) racks.old.items)) }
+    ensures { OnOk result (spec.racks_in racks.new.items
+        ≡ spec.with_new bytes_eq most rack.now (spec.racks_in racks.old.items)) }
 {
     if racks.len() < most && !has_rack(racks, rack) {
         racks.push(rack)?;
@@ -72,7 +77,7 @@ fn add_rack<'a>(racks: &mut Vec<&'a [u8]>, most: usize, rack: &'a [u8]) -> Resul
 impl<'a> Tally<'a> {
     /// An empty tally, for at most these numbers of nodes and racks.
     pub fn new(alloc: Global, most_nodes: usize, most_racks: usize) -> Result<Tally<'a>, Memory>
-        ensures { IfOk result (λ tally. tally ≡ nothing most_nodes most_racks) }
+        ensures { IfOk result (λ tally. tally ≡ spec.nothing most_nodes most_racks) }
     {
         Ok(Tally {
             most_nodes,
@@ -98,14 +103,14 @@ impl<'a> Tally<'a> {
 
     /// Whether the tally has fewer nodes or fewer racks than asked for.
     pub fn lacks(&self) -> bool
-        ensures { result ≡ lacks_some self.now }
+        ensures { result ≡ spec.lacks self.now }
     {
         self.nodes.len() < self.most_nodes || self.racks.len() < self.most_racks
     }
 
     /// Removes all nodes and racks.
     pub fn clear(&mut self)
-        ensures { self.new ≡ nothing self.old.most_nodes self.old.most_racks }
+        ensures { self.new ≡ spec.nothing self.old.most_nodes self.old.most_racks }
     {
         self.nodes.clear();
         self.racks.clear();
@@ -114,7 +119,7 @@ impl<'a> Tally<'a> {
     /// Meets a node. If the node is in the group, adds the node and its rack, each if it is new and still asked for. If
     /// memory runs out, the tally may have changed.
     pub fn meet(&mut self, members: &Members<'a>, node: NodeId) -> Result<(), Memory>
-        ensures { OnOk result (self.new ≡ met_by (group_of members.now) node self.old) }
+        ensures { OnOk result (self.new ≡ spec.met (group_of members.now) node self.old) }
     {
         if let Some(rack) = members.rack_of(node) {
             add_node(&mut self.nodes, self.most_nodes, node)?;

@@ -1,6 +1,7 @@
 -- Some nodes of two sets that have none in common, where both sets together have enough of them.
 use Rattle.std.proofs.Common.{◌≡◌, ℕ, ◌+◌, ◌-◌, ◌≤◌, Bool, true, false, not, ◌&&◌, ◌||◌, cond, List, [], ◌∷◌, ◌++◌, zero, suc, take, filter, length, nat_eq, nat_lt, refl, sym, ap, ◌∙◌, arith, length-append}
-use Rattle.std.proofs.lemmas.Bool.{and_parts, false≢true}
+use Rattle.std.proofs.Math.Bool.{and-false}
+use Rattle.std.proofs.lemmas.Bool.{and_parts, false≢true, or_parts}
 use Rattle.std.proofs.lemmas.Bool.Decides.{nat_tests}
 use Rattle.std.proofs.lemmas.List.{length-take-le}
 use Rattle.std.proofs.lemmas.List.Filters.{length-filter_both}
@@ -77,18 +78,10 @@ none_common p ns (m ∷ ms) = by (p m) refl (none_common p ns ms)
     rest : List ℕ
     rest = filter (λ n. not (p n)) ms
 
-    and_false : (x : Bool) → (x && false) ≡ false
-    and_false true = refl
-    and_false false = refl
-
     by : (c : Bool) → p m ≡ c → list_any (has (filter p ns)) (filter (λ n. not (p n)) ms) ≡ false
         → list_any (has (filter p ns)) (cond (not c) (m ∷ filter (λ n. not (p n)) ms) (filter (λ n. not (p n)) ms)) ≡ false
     by true e more = more
-    by false e more = (λ i. (has_filter p ns m ∙ ap (λ x. has ns m && x) e ∙ and_false (has ns m)) i || more i)
-
-neither : (x y : Bool) → (x || y) ≡ false → (x ≡ false) × (y ≡ false)
-neither true y none = absurd (false≢true (sym none))
-neither false y none = (refl, none)
+    by false e more = (λ i. (has_filter p ns m ∙ ap (λ x. has ns m && x) e ∙ and-false (has ns m)) i || more i)
 
 either_kept : (x y : Bool) → (x || y) ≡ true → ((x && not y) || y) ≡ true
 either_kept true true t = refl
@@ -168,6 +161,6 @@ module _ (a b : ℕ) (ns ms : List ℕ) (one : IsDistinct nat_eq ns) (other : Is
 
 pub parted : (a b : ℕ) (ns ms : List ℕ) → IsDistinct nat_eq ns → IsDistinct nat_eq ms → have_common a ns b ms ≡ false → ArePartable a ns b ms
 parted a b ns ms one other meet =
-    let first = neither (nat_lt (length ns) a) (nat_lt (length ms) b || nat_lt (distinct_count nat_eq (ns ++ ms)) (a + b)) meet in
-    let rest = neither (nat_lt (length ms) b) (nat_lt (distinct_count nat_eq (ns ++ ms)) (a + b)) first.1 in
+    let first = or_parts (nat_lt (length ns) a) (nat_lt (length ms) b || nat_lt (distinct_count nat_eq (ns ++ ms)) (a + b)) meet in
+    let rest = or_parts (nat_lt (length ms) b) (nat_lt (distinct_count nat_eq (ns ++ ms)) (a + b)) first.1 in
     parts_of a b ns ms one other (not_less a (length ns) first.0) (not_less b (length ms) rest.0) (not_less (a + b) (distinct_count nat_eq (ns ++ ms)) rest.1)

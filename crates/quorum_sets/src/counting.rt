@@ -1,9 +1,9 @@
 ghost use Rattle.std.specs.Prelude.{◌≡◌, ◌≤◌, length, is_some, IfSome, IsSome};
 ghost use Rattle.std.specs.Option.{option_copied};
-ghost use Rattle.cluster_terms.specs.Quorum.{datacenter_of, local_sets, pending, quorum_of, read_need, within, write_need};
-ghost use Rattle.cluster_terms.specs.Replication.{total_of};
+ghost use Rattle.cluster_terms.specs.Quorum.{datacenter_of, pending, quorum_of, read_need, within, write_need};
 ghost use Rattle.node_sets.specs.NodeSets.{IsNodeSet};
 ghost use Rattle.quorum_sets.specs.Existing.{ExistTogether};
+ghost use Rattle.quorum_sets.specs.Sets.{IfDatacenter, whole_sets};
 
 use crate::datacenter::is_within;
 use crate::needs::Quorum;
@@ -38,8 +38,8 @@ fn count_pending(reads: &NodeSet, writes: &NodeSet) -> usize
 #[tactic(auto, using(crate::proofs::PendingLemmas::few_pending))]
 pub fn quorum(reads: &NodeSet, writes: &NodeSet, replication: &Replication) -> Quorum
     requires { length writes.now ≤ 1024 }
-    ensures read { result.read_need ≡ read_need (record { total = total_of replication.now; reads = reads.now; writes = writes.now }) }
-    ensures write { result.write_need ≡ write_need (record { total = total_of replication.now; reads = reads.now; writes = writes.now }) }
+    ensures read { result.read_need ≡ read_need (whole_sets replication.now reads.now writes.now) }
+    ensures write { result.write_need ≡ write_need (whole_sets replication.now reads.now writes.now) }
     ensures exist { ExistTogether reads.now result.read_need writes.now result.write_need }
 {
     let read_need = quorum_of(replication.total());
@@ -109,9 +109,13 @@ pub fn local_quorum(
 ) -> Quorum
     requires few { length writes.now ≤ 1024 }
     requires named { IsSome (datacenter_of factors.now dc.now) }
-    ensures read { IfSome (datacenter_of factors.now dc.now) (λ f. result.read_need ≡ read_need (local_sets dir.now.rows f reads.now writes.now)) }
-    ensures write { IfSome (datacenter_of factors.now dc.now) (λ f. result.write_need ≡ write_need (local_sets dir.now.rows f reads.now writes.now)) }
-    ensures exist { ExistTogether (within dir.now.rows dc.now reads.now) result.read_need (within dir.now.rows dc.now writes.now) result.write_need }
+    ensures read { IfDatacenter factors.now dc.now dir.now.rows reads.now writes.now
+        (λ sets. result.read_need ≡ read_need sets) }
+    ensures write { IfDatacenter factors.now dc.now dir.now.rows reads.now writes.now
+        (λ sets. result.write_need ≡ write_need sets) }
+    ensures exist { ExistTogether
+        (within dir.now.rows dc.now reads.now) result.read_need
+        (within dir.now.rows dc.now writes.now) result.write_need }
 {
     let rf = factor_of(factors, dc);
     let read_need = quorum_of(u32::from(rf.value()));

@@ -10,6 +10,8 @@ ghost use Rattle.quorum_sets.specs.Parted.{ArePartable};
 /// common. If it is false, and neither list repeats a node, there are `a` different nodes of the first and `b` of the
 /// second without a node in common.
 pub fn counting_tells()
-    ensures common { (a b : ℕ) (ns ms some others : List ℕ) → have_common a ns b ms ≡ true → AreSome a ns some → AreSome b ms others → list_any (is_member nat_eq some) others ≡ true }
-    ensures parted { (a b : ℕ) (ns ms : List ℕ) → IsDistinct nat_eq ns → IsDistinct nat_eq ms → have_common a ns b ms ≡ false → ArePartable a ns b ms }
+    ensures common { (a b : ℕ) (ns ms some others : List ℕ) → have_common a ns b ms ≡ true
+        → AreSome a ns some → AreSome b ms others → list_any (is_member nat_eq some) others ≡ true }
+    ensures parted { (a b : ℕ) (ns ms : List ℕ) → IsDistinct nat_eq ns → IsDistinct nat_eq ms
+        → have_common a ns b ms ≡ false → ArePartable a ns b ms }
 {}

@@ -1,5 +1,6 @@
 -- What is marked, and what is reached.
 use Rattle.std.proofs.Common.{◌≡◌, ℕ, suc, zero, ◌+◌, ◌-◌, ◌<◌, Bool, true, false, cond, ◌&&◌, ◌||◌, nat_lt, ◌==◌, ℤ, List, [], ◌∷◌, ◌++◌, length, get_or, map, take, drop, set, Option, Some, None, is_some, refl, sym, ap, ◌∙◌, subst, arith, add-one, take-append-drop, append-nil, pos, replicate}
+use Rattle.std.proofs.Math.Bool.{or-false, or_assoc}
 use Rattle.std.proofs.lemmas.Bool.{true≢false, and_parts, false_from_ne_true, ltb-false}
 use Rattle.std.proofs.lemmas.Bool.Decides.{Decides-int_eq}
 use Rattle.std.proofs.lemmas.List.{map-append, get_or_default, take_more}
@@ -35,11 +36,11 @@ pub either-none : {X : Type 0} (marks : List Bool) (xs : List X) → length xs �
 either-none [] [] size = refl
 either-none [] (x ∷ xs) size = refl
 either-none (m ∷ marks) [] size = absurd (omega arith)
-either-none (m ∷ marks) (x ∷ xs) size = λ i. or_false m i ∷ either-none marks xs (omega arith) i
+either-none (m ∷ marks) (x ∷ xs) size = λ i. or-false m i ∷ either-none marks xs (omega arith) i
   where
-    or_false : (b : Bool) → b ≡ (b || false)
-    or_false true = refl
-    or_false false = refl
+    or-false : (b : Bool) → b ≡ (b || false)
+    or-false true = refl
+    or-false false = refl
 
 -- where all is marked, all marks are set
 pub either-all : {X : Type 0} (marks : List Bool) (xs : List X) → length xs ≡ length marks → map (λ (m : Bool). true) marks ≡ either marks (map (λ x. true) xs)
@@ -168,10 +169,6 @@ pub either-twice : (f h : ℤ → Bool) (marks : List Bool) (ts : List ℤ) → 
 either-twice f h [] ts = refl
 either-twice f h (m ∷ marks) [] = refl
 either-twice f h (m ∷ marks) (t ∷ ts) = λ i. or_assoc m (f t) (h t) i ∷ either-twice f h marks ts i
-  where
-    or_assoc : (a b c : Bool) → ((a || b) || c) ≡ (a || (b || c))
-    or_assoc true b c = refl
-    or_assoc false b c = refl
 
 -- as many marks as there were
 pub length-either : (marks : List Bool) (others : List Bool) → length others ≡ length marks → length (either marks others) ≡ length marks
@@ -194,11 +191,7 @@ reached_more nodes factors i f fixed widest moved x in_i here =
     ap (λ fs. is_reached (map (datacenter_group nodes) fs) fixed widest moved x) more
     ∙ ap (λ gs. is_reached gs fixed widest moved x) (map-append (datacenter_group nodes) (take i factors) (f ∷ []))
     ∙ list_any-append (is_reached_in fixed widest moved x) (map (datacenter_group nodes) (take i factors)) (datacenter_group nodes f ∷ [])
-    ∙ ap (λ b. is_reached (map (datacenter_group nodes) (take i factors)) fixed widest moved x || b) (or_false (is_reached_in fixed widest moved x (datacenter_group nodes f)))
-  where
-    or_false : (b : Bool) → (b || false) ≡ b
-    or_false true = refl
-    or_false false = refl
+    ∙ ap (λ b. is_reached (map (datacenter_group nodes) (take i factors)) fixed widest moved x || b) (or-false (is_reached_in fixed widest moved x (datacenter_group nodes f)))
 
 pub marked_datacenters : (nodes : List NodeRow) (factors : List (List ℕ × ℕ)) (i : ℕ) (f : List ℕ × ℕ) (fixed widest moved : List Pair) (ends : List ℤ) (marks so_far more : List Bool) → i < length factors → f ≡ get_or factors i f
     → so_far ≡ either marks (map (λ x. is_reached (map (datacenter_group nodes) (take i factors)) fixed widest moved x) ends)

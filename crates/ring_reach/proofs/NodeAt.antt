@@ -3,6 +3,7 @@ use Rattle.std.proofs.Common.{◌≡◌, ℕ, suc, zero, ◌<◌, Bool, true, fa
 use Rattle.std.specs.Option.{option_map}
 use Rattle.std.specs.Ordering.{int_eq}
 use Rattle.std.specs.List.{All, list_any}
+use Rattle.std.proofs.Math.Bool.{or-false}
 use Rattle.std.proofs.lemmas.Bool.Decides.{Decides-int_eq, nat_tests}
 use Rattle.std.proofs.lemmas.List.Folds.{list_any_none}
 use Rattle.std.proofs.lemmas.Int.{ints}
@@ -66,10 +67,6 @@ pub node-at : (ps : List Pair) (t : ℤ) (v : ℕ) → IsRing ps → list_any (�
 node-at [] t v ring = refl
 node-at (p ∷ ps) t v ring = by (int_eq t p.token) refl (node-at ps t v (IsRing-tail p ps ring))
   where
-    or_false : (b : Bool) → (b || false) ≡ b
-    or_false true = refl
-    or_false false = refl
-
     by : (b : Bool) → int_eq t p.token ≡ b → list_any (λ (q : Pair). int_eq t q.token && nat_eq v q.node) ps ≡ is_node v (node_at ps t)
         → ((b && nat_eq v p.node) || list_any (λ (q : Pair). int_eq t q.token && nat_eq v q.node) ps)
         ≡ is_node v (option_map (λ (q : Pair). q.node) (cond b (Some p) (find (λ (q : Pair). int_eq t q.token) ps)))
@@ -77,4 +74,4 @@ node-at (p ∷ ps) t v ring = by (int_eq t p.token) refl (node-at ps t v (IsRing
     by true e rest =
         let same : t ≡ p.token = (Decides-int_eq t p.token).0 e in
         ap (λ b. nat_eq v p.node || b) (ap (λ u. list_any (λ (q : Pair). int_eq u q.token && nat_eq v q.node) ps) same ∙ none_after ps p.token v (IsRing-head p ps ring))
-        ∙ or_false (nat_eq v p.node)
+        ∙ or-false (nat_eq v p.node)

@@ -3,6 +3,7 @@ use Rattle.std.proofs.Common.{◌≡◌, Bool, true, false, ◌&&◌, ◌||◌, 
 use Rattle.std.specs.List.{AllByRecursion, list_any}
 use Rattle.std.specs.Ordering.{int_eq}
 use Rattle.std.specs.Set.{is_member}
+use Rattle.std.proofs.Math.Bool.{or-false}
 use Rattle.std.proofs.lemmas.Bool.{false≢true, or_left, or_right}
 use Rattle.std.proofs.lemmas.Bool.Decides.{Decides-int_eq}
 use Rattle.std.proofs.lemmas.List.Folds.{list_any-append}
@@ -30,17 +31,13 @@ none_chosen : (f : TokenRange → Bool) (rows : List TokenRange) (t : ℤ) → A
 none_chosen f [] t out = refl
 none_chosen f (row ∷ rows) t out = λ i. (out.0 i && f row) || none_chosen f rows t out.1 i
 
-or_false : (b : Bool) → (b || false) ≡ b
-or_false true = refl
-or_false false = refl
-
 one_chosen : (f : TokenRange → Bool) (pre : List TokenRange) (row : TokenRange) (suf : List TokenRange) (t : ℤ)
     → AllByRecursion (λ r. is_within t r ≡ false) pre → is_within t row ≡ true → AllByRecursion (λ r. is_within t r ≡ false) suf
     → list_any (λ (r : TokenRange). is_within t r && f r) (pre ++ row ∷ suf) ≡ f row
 one_chosen f pre row suf t before within after =
     list_any-append (λ (r : TokenRange). is_within t r && f r) pre (row ∷ suf)
     ∙ (λ i. none_chosen f pre t before i || ((within i && f row) || none_chosen f suf t after i))
-    ∙ or_false (f row)
+    ∙ or-false (f row)
 
 -- ---- nothing changes within a row
 

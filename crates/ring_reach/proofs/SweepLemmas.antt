@@ -22,7 +22,7 @@ use Rattle.node_directory.proofs.MetLists.{member_of_mapped}
 use Rattle.ring_reach.proofs.NodeAt.{is_node, node-at}
 use Rattle.node_directory.proofs.TallyLemmas.{tally_of, tally_of-met, lacks-tally_of}
 use Rattle.ring_reach.specs.Moved.{tokens_in}
-use Rattle.ring_reach.specs.Sweep.{Course, node_at, met_at, stepped, swept, lacking}
+use Rattle.ring_reach.specs.Sweep.{Course, node_at, met_at, after_token, swept, lacking}
 use Rattle.node_directory.specs.Tally.{Tallied, nothing, lacks}
 
 -- ---- tests of pairs
@@ -79,7 +79,7 @@ walk_tail tokens ends x (w ∷ ws) walk = walk.1
 
 swept-append : (c : Course) (xs ys : List ℤ) (tally : Tallied) → swept c (xs ++ ys) tally ≡ swept c xs (swept c ys tally)
 swept-append c [] ys tally = refl
-swept-append c (x ∷ xs) ys tally = ap (stepped c x) (swept-append c xs ys tally)
+swept-append c (x ∷ xs) ys tally = ap (after_token c x) (swept-append c xs ys tally)
 
 -- the nodes ns are those that are met clockwise from x before y, the nearest token that comes or goes
 record IsAhead (fixed : List Pair) (tokens : List ℤ) (x : ℤ) (ns : List ℕ) : Type 0 where
@@ -192,7 +192,7 @@ module _ (g : Group) (fixed moved : List Pair) (tokens ends : List ℤ) (s : IsS
       is : tally ≡ tally_of g most_nodes most_racks nodes
 
     -- a token that comes or goes empties each tally
-    tallied_none : (x : ℤ) (ns : List ℕ) → is_member int_eq tokens x ≡ true → IsTallied x (stepped course x (tally_of g most_nodes most_racks ns))
+    tallied_none : (x : ℤ) (ns : List ℕ) → is_member int_eq tokens x ≡ true → IsTallied x (after_token course x (tally_of g most_nodes most_racks ns))
     tallied_none x ns here = record {
       nodes = [];
       ahead = ahead-none fixed tokens x here;
@@ -203,11 +203,11 @@ module _ (g : Group) (fixed moved : List Pair) (tokens ends : List ℤ) (s : IsS
     met_at-tally_of None ns = refl
     met_at-tally_of (Some n) ns = tally_of-met g most_nodes most_racks n ns
 
-    tallied_more : (x w : ℤ) (tally : Tallied) → IsNext ends x w → IsTallied w tally → IsTallied x (stepped course x tally)
+    tallied_more : (x w : ℤ) (tally : Tallied) → IsNext ends x w → IsTallied w tally → IsTallied x (after_token course x tally)
     tallied_more x w tally next t = by (is_member int_eq tokens x) refl
       where
-        by : (b : Bool) → is_member int_eq tokens x ≡ b → IsTallied x (stepped course x tally)
-        by true here = subst (λ (u : Tallied). IsTallied x (stepped course x u)) (sym t.is) (tallied_none x t.nodes here)
+        by : (b : Bool) → is_member int_eq tokens x ≡ b → IsTallied x (after_token course x tally)
+        by true here = subst (λ (u : Tallied). IsTallied x (after_token course x u)) (sym t.is) (tallied_none x t.nodes here)
         by false stays = record {
           nodes = node_first (node_at fixed x) t.nodes;
           ahead = ahead-more x w t.nodes stays next t.ahead;
@@ -244,6 +244,6 @@ module _ (g : Group) (fixed moved : List Pair) (tokens ends : List ℤ) (s : IsS
     pub marked_walk : (xs ws : List ℤ) → IsWalk tokens ends (xs ++ ws) → lacking course xs (swept course ws none_yet) ≡ map (λ x. is_reached_in fixed widest moved x g) xs
     marked_walk [] ws walk = refl
     marked_walk (x ∷ xs) ws walk =
-        let here = ap (λ t. lacks (stepped course x t)) (sym (swept-append course xs ws none_yet)) ∙ lacks-reached x _ (tallied_walk x (xs ++ ws) walk) in
+        let here = ap (λ t. lacks (after_token course x t)) (sym (swept-append course xs ws none_yet)) ∙ lacks-reached x _ (tallied_walk x (xs ++ ws) walk) in
         let rest = marked_walk xs ws (walk_tail tokens ends x (xs ++ ws) walk) in
         λ i. here i ∷ rest i

@@ -1,2 +1,4 @@
+pub mod Change
 pub mod Moved
+pub mod Settled
 pub mod Sweep

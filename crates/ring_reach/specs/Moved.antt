@@ -12,6 +12,10 @@ use Rattle.cluster_terms.specs.declared.token.Pair.{Pair}
 abbrev pub tokens_in : Group → List Pair → List ℤ
 tokens_in g ps = tokens_of (filter (λ p. is_some (g.rack_of p.node)) ps)
 
+-- two lists have the same tokens
+abbrev pub HaveSameTokens : List ℤ → List ℤ → Type 0
+HaveSameTokens ts us = (t : ℤ) → is_member int_eq ts t ≡ is_member int_eq us t
+
 -- ascending tokens, which include the tokens of all pairs that stay, come or go
 pub record AreEnds (fixed : List Pair) (moved : List Pair) (ends : List ℤ) : Type 0 where
   pub ascend : IsStrictlySortedBy int_cmp ends

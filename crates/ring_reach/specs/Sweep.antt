@@ -2,6 +2,7 @@
 -- from this token up to the nearest token of the group that comes or goes.
 -- Of the code: no promise rests on these.
 use Rattle.std.specs.Prelude.{ℕ, ◌+◌, ◌-◌, Bool, false, ◌||◌, if◌then◌else◌, ℤ, List, [], ◌∷◌, ◌++◌, map, take, drop, find, Option, Some, None}
+use Rattle.std.specs.List.{position}
 use Rattle.std.specs.Option.{option_map}
 use Rattle.std.specs.Ordering.{int_eq}
 use Rattle.std.specs.Set.{is_member}
@@ -32,14 +33,14 @@ met_at g None tally = tally
 met_at g (Some n) tally = met g n tally
 
 -- the tally after a token is passed: a token that comes or goes empties it; at any other token its fixed node is met
-abbrev pub stepped : Course → ℤ → Tallied → Tallied
-stepped c t tally =
+abbrev pub after_token : Course → ℤ → Tallied → Tallied
+after_token c t tally =
     if is_member int_eq c.moved t then nothing tally.most_nodes tally.most_racks else met_at c.group (node_at c.fixed t) tally
 
 -- the tally after the tokens are passed, from the last to the first
 abbrev pub swept : Course → List ℤ → Tallied → Tallied
 swept c [] tally = tally
-swept c (t ∷ ts) tally = stepped c t (swept c ts tally)
+swept c (t ∷ ts) tally = after_token c t (swept c ts tally)
 
 -- whether the tally lacks nodes or racks at each of the tokens
 abbrev pub lacking : Course → List ℤ → Tallied → List Bool
@@ -55,6 +56,10 @@ lacking_round c at ts tally =
 abbrev pub marked_from : Course → Shape → List ℤ → Option ℕ → List Bool
 marked_from c shape ts None = map (λ t. false) ts
 marked_from c shape ts (Some at) = lacking_round c at ts (nothing shape.wanted (shape.wanted - shape.spare))
+
+-- the same, from the first token that comes or goes
+abbrev pub marks_of : Course → Shape → List ℤ → List Bool
+marks_of c shape ts = marked_from c shape ts (position (is_member int_eq c.moved) ts)
 
 -- at each position, whether either list has true
 abbrev pub either : List Bool → List Bool → List Bool

@@ -1,9 +1,7 @@
-ghost use Rattle.std.specs.Prelude.{◌≡◌, ℤ, IfOk, OnOk, length, map, true};
-ghost use Rattle.std.specs.Ordering.{int_eq};
-ghost use Rattle.std.specs.Set.{is_member};
-ghost use Rattle.cluster_terms.specs.Reach.{is_reached_in};
+ghost use Rattle.std.specs.Prelude.{◌≡◌, IfOk, OnOk, length, map, true};
 ghost use Rattle.node_directory.specs.Members.{group_of};
-ghost use Rattle.ring_reach.specs.Moved.{AreEnds, tokens_in};
+ghost use Rattle.ring_reach.specs.Change.{reaches_in};
+ghost use Rattle.ring_reach.specs.Moved.{AreEnds, HaveSameTokens, tokens_in};
 ghost use Rattle.ring_reach.specs.Sweep.{either};
 
 use crate::shape::common_shape;
@@ -24,7 +22,7 @@ pub struct Change<'a> {
 
 /// The tokens of those pairs whose node is in the group.
 fn tokens_of(alloc: Global, members: &Members, pairs: &[Pair]) -> Result<TokenSet, Memory>
-    ensures { IfOk result (λ set. (t : ℤ) → is_member int_eq set t ≡ is_member int_eq (tokens_in (group_of members.now) pairs.now) t) }
+    ensures { IfOk result (λ set. HaveSameTokens set (tokens_in (group_of members.now) pairs.now)) }
 {
     let mut tokens = Vec::new(alloc);
     for pair in pairs {
@@ -56,7 +54,8 @@ impl<'a> Change<'a> {
     ) -> Result<(), Memory>
         requires ends { AreEnds self.now.fixed.now self.now.moved.now ends.now }
         requires size { length ends.now ≡ length marks.old }
-        ensures { OnOk result (marks.new ≡ either marks.old (map (λ x. is_reached_in self.now.fixed.now self.now.widest.now self.now.moved.now x (group_of members.now)) ends.now)) }
+        ensures { OnOk result (marks.new
+            ≡ either marks.old (map (reaches_in self.now (group_of members.now)) ends.now)) }
     {
         let moved = tokens_of(alloc, members, self.moved)?;
         if moved.is_empty() {

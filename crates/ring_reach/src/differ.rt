@@ -1,8 +1,7 @@
-ghost use Rattle.std.specs.Prelude.{◌≡◌, not, ◌&&◌, is_some, map, IfOk};
-ghost use Rattle.std.specs.List.{list_any};
-ghost use Rattle.cluster_terms.specs.Reach.{same_shape};
-ghost use Rattle.cluster_terms.specs.Replication.{datacenter_group, groups_of};
+ghost use Rattle.std.specs.Prelude.{◌≡◌, IfOk};
+ghost use Rattle.cluster_terms.specs.Replication.{groups_of};
 ghost use Rattle.node_directory.specs.Members.{group_of};
+ghost use Rattle.ring_reach.specs.Settled.{is_in_any_unsettled, is_in_unsettled};
 
 use crate::shape::common_shape;
 use cluster_terms::{Memory, Name, NodeId, Pair, Replication, Rf};
@@ -18,7 +17,8 @@ fn differs_in(
     members: &Members,
     node: NodeId,
 ) -> Result<bool, Memory>
-    ensures { IfOk result (λ differs. let g = group_of members.now in differs ≡ (is_some (g.rack_of node) && not (same_shape g fixed.now widest.now))) }
+    ensures { IfOk result (λ differs.
+        differs ≡ is_in_unsettled fixed.now widest.now node (group_of members.now)) }
 {
     if members.rack_of(node).is_none() {
         return Ok(false);
@@ -36,7 +36,8 @@ fn differs_in_datacenters(
     factors: &[(Name, Rf)],
     node: NodeId,
 ) -> Result<bool, Memory>
-    ensures { IfOk result (λ differs. differs ≡ list_any (λ g. is_some (g.rack_of node) && not (same_shape g fixed.now widest.now)) (map (datacenter_group dir.now.rows) factors.now)) }
+    ensures { IfOk result (λ differs. differs ≡ is_in_any_unsettled
+        (groups_of dir.now.rows (Replication.Topology factors.now)) fixed.now widest.now node) }
 {
     for (name, rf) in factors {
         let members = Members::Datacenter(dir, name, *rf);
@@ -60,7 +61,8 @@ pub fn shape_differs(
     replication: &Replication,
     node: NodeId,
 ) -> Result<bool, Memory>
-    ensures { IfOk result (λ differs. differs ≡ list_any (λ g. is_some (g.rack_of node) && not (same_shape g fixed.now widest.now)) (groups_of dir.now.rows replication.now)) }
+    ensures { IfOk result (λ differs. differs ≡ is_in_any_unsettled
+        (groups_of dir.now.rows replication.now) fixed.now widest.now node) }
 {
     match replication {
         Replication::Simple(rf) => differs_in(alloc, fixed, widest, &Members::All(*rf), node),

@@ -35,11 +35,15 @@ pub fn reached(
     moved: &[Pair],
     replication: &Replication,
 ) -> Result<RangeList, Memory>
-    ensures reach { IfOk result (λ ranges. HaveTokens (is_reached (groups_of dir.now.rows replication.now) fixed.now widest.now moved.now) ranges) }
+    ensures reach { IfOk result (λ ranges. HaveTokens
+        (is_reached (groups_of dir.now.rows replication.now) fixed.now widest.now moved.now) ranges) }
     ensures bounds { IfOk result (λ ranges. AreCutOut (tokens_of fixed.now ++ tokens_of moved.now) ranges) }
-    ensures alone { IfOk result (λ ranges. (x : ℤ) (one other : List Pair) → IsToken x → have_token ranges x ≡ false
-        → IsBetween fixed.now widest.now one → IsBetween fixed.now widest.now other → DifferWithin moved.now one other
-        → place (groups_of dir.now.rows replication.now) x one ≡ place (groups_of dir.now.rows replication.now) x other) }
+    ensures alone { IfOk result (λ ranges. (x : ℤ) (one other : List Pair)
+        → IsToken x → have_token ranges x ≡ false
+        → IsBetween fixed.now widest.now one → IsBetween fixed.now widest.now other
+        → DifferWithin moved.now one other
+        → place (groups_of dir.now.rows replication.now) x one
+        ≡ place (groups_of dir.now.rows replication.now) x other) }
 {
     let cuts = tokens_of_both(alloc, fixed.pairs(), moved)?;
     let change = Change {

@@ -1,18 +1,16 @@
-ghost use Rattle.std.specs.Prelude.{◌≡◌, ℤ, ◌++◌, length, map, IfOk, OnOk};
+ghost use Rattle.std.specs.Prelude.{◌≡◌, ◌++◌, length, map, IfOk, OnOk};
 ghost use Rattle.std.specs.List.{AllByRecursion};
-ghost use Rattle.std.specs.Ordering.{int_eq};
-ghost use Rattle.std.specs.Set.{is_member};
 ghost use Rattle.cluster_terms.specs.Arc.{IsToken};
-ghost use Rattle.cluster_terms.specs.Reach.{is_reached};
-ghost use Rattle.cluster_terms.specs.Replication.{datacenter_group, groups_of};
-ghost use Rattle.cluster_terms.specs.Row.{last_token as last_in, rows_between as rows_of};
-ghost use Rattle.ring_reach.specs.Moved.{AreEnds};
-ghost use Rattle.ring_reach.specs.Sweep.{either};
 ghost use Rattle.cluster_terms.specs.Pair.{tokens_of};
+ghost use Rattle.cluster_terms.specs.Replication.{groups_of};
+ghost use Rattle.cluster_terms.specs.Row as spec;
+ghost use Rattle.ring_reach.specs.Change.{reaches_any};
+ghost use Rattle.ring_reach.specs.Moved.{AreEnds, HaveSameTokens};
+ghost use Rattle.ring_reach.specs.Sweep.{either};
 
 use crate::change::Change;
 use crate::token_set::TokenSet;
-use cluster_terms::{Memory, Name, Pair, Replication, Rf, Token, rows_between, tokens_in_range};
+use cluster_terms::{Memory, Name, Pair, Replication, Rf, Token, rows_between};
 use node_directory::{Directory, Members};
 use std::alloc::Global;
 
@@ -28,7 +26,7 @@ fn push_tokens(tokens: &mut Vec<Token>, pairs: &[Pair]) -> Result<(), Memory>
 
 /// The tokens of both lists of pairs.
 pub fn tokens_of_both(alloc: Global, pairs: &[Pair], more: &[Pair]) -> Result<TokenSet, Memory>
-    ensures { IfOk result (λ set. (t : ℤ) → is_member int_eq set t ≡ is_member int_eq (tokens_of pairs.now ++ tokens_of more.now) t) }
+    ensures { IfOk result (λ set. HaveSameTokens set (tokens_of pairs.now ++ tokens_of more.now)) }
 {
     let mut tokens = Vec::with_capacity(alloc, pairs.len() + more.len())?;
     push_tokens(&mut tokens, pairs)?;
@@ -38,7 +36,9 @@ pub fn tokens_of_both(alloc: Global, pairs: &[Pair], more: &[Pair]) -> Result<To
 
 /// The last tokens of the rows between ascending cuts.
 fn ends_between(alloc: Global, cuts: &[Token]) -> Result<Vec<Token>, Memory>
-    ensures { IfOk result (λ ends. ends.items ≡ map (λ row. last_in row.right) (rows_of cuts.now)) }
+    ensures ends { IfOk result (λ ends. ends.items
+        ≡ map (λ row. spec.last_token row.right) (spec.rows_between cuts.now)) }
+    ensures tokens { OnOk result (AllByRecursion IsToken cuts.now) }
 {
     let rows = rows_between(alloc, cuts)?;
     let mut ends = Vec::with_capacity(alloc, rows.as_slice().len())?;
@@ -59,7 +59,8 @@ fn mark_in_datacenters<'a>(
 ) -> Result<(), Memory>
     requires ends { AreEnds change.now.fixed.now change.now.moved.now ends.now }
     requires size { length ends.now ≡ length marks.old }
-    ensures { OnOk result (marks.new ≡ either marks.old (map (λ x. is_reached (map (datacenter_group dir.now.rows) factors.now) change.now.fixed.now change.now.widest.now change.now.moved.now x) ends.now)) }
+    ensures { OnOk result (marks.new ≡ either marks.old
+        (map (reaches_any change.now (groups_of dir.now.rows (Replication.Topology factors.now))) ends.now)) }
 {
     for (name, rf) in factors {
         change.mark_reached(alloc, &Members::Datacenter(dir, name, *rf), ends, marks)?;
@@ -78,7 +79,8 @@ fn mark_in_all<'a>(
 ) -> Result<(), Memory>
     requires ends { AreEnds change.now.fixed.now change.now.moved.now ends.now }
     requires size { length ends.now ≡ length marks.old }
-    ensures { OnOk result (marks.new ≡ either marks.old (map (λ x. is_reached (groups_of dir.now.rows replication.now) change.now.fixed.now change.now.widest.now change.now.moved.now x) ends.now)) }
+    ensures { OnOk result (marks.new ≡ either marks.old
+        (map (reaches_any change.now (groups_of dir.now.rows replication.now)) ends.now)) }
 {
     match replication {
         Replication::Simple(rf) => change.mark_reached(alloc, &Members::All(*rf), ends, marks),
@@ -97,10 +99,11 @@ pub fn reached_rows(
     cuts: &[Token],
 ) -> Result<Vec<bool>, Memory>
     requires { AreEnds change.now.fixed.now change.now.moved.now cuts.now }
-    ensures tokens { AllByRecursion IsToken cuts.now }
-    ensures rows { IfOk result (λ marks. marks.items ≡ map (λ row. is_reached (groups_of dir.now.rows replication.now) change.now.fixed.now change.now.widest.now change.now.moved.now (last_in row.right)) (rows_of cuts.now)) }
+    ensures tokens { OnOk result (AllByRecursion IsToken cuts.now) }
+    ensures rows { IfOk result (λ marks. marks.items ≡ map
+        (λ row. reaches_any change.now (groups_of dir.now.rows replication.now) (spec.last_token row.right))
+        (spec.rows_between cuts.now)) }
 {
-    tokens_in_range(cuts);
     let ends = ends_between(alloc, cuts)?;
     let mut marks = vec![in alloc; false; ends.len()]?;
     mark_in_all(alloc, change, dir, replication, &ends, &mut marks)?;

@@ -1,8 +1,6 @@
-ghost use Rattle.std.specs.Prelude.{◌≡◌, IfOk, if◌then◌else◌, Some, None};
-ghost use Rattle.cluster_terms.specs.Group.{nodes_of};
-ghost use Rattle.cluster_terms.specs.Reach.{same_shape};
+ghost use Rattle.std.specs.Prelude.{◌≡◌, IfOk};
 ghost use Rattle.node_directory.specs.Members.{group_of};
-ghost use Rattle.node_directory.specs.Shape.{shape_of as shape};
+ghost use Rattle.ring_reach.specs.Settled as spec;
 
 use cluster_terms::{Memory, Pair};
 use node_directory::{Members, Shape, shape_of};
@@ -16,7 +14,8 @@ pub fn common_shape(
     fixed: &[Pair],
     widest: &[Pair],
 ) -> Result<Option<Shape>, Memory>
-    ensures { IfOk result (λ common. let g = group_of members.now in common ≡ (if same_shape g fixed.now widest.now then Some (shape (nodes_of fixed.now) g) else None)) }
+    ensures { IfOk result (λ common.
+        common ≡ spec.common_shape (group_of members.now) fixed.now widest.now) }
 {
     let shape = shape_of(alloc, members, fixed)?;
     if shape == shape_of(alloc, members, widest)? {

@@ -2,7 +2,7 @@ ghost use Rattle.std.specs.Prelude.{◌≡◌, ◌<◌, length, OnOk};
 ghost use Rattle.std.specs.List.{position};
 ghost use Rattle.std.specs.Ordering.{int_eq};
 ghost use Rattle.std.specs.Set.{is_member};
-ghost use Rattle.ring_reach.specs.Sweep.{course_of, either, lacking, lacking_round, marked_from, node_at as node_with, stepped, swept};
+ghost use Rattle.ring_reach.specs.Sweep as spec;
 
 use crate::token_set::TokenSet;
 use cluster_terms::{Memory, NodeId, Token};
@@ -20,7 +20,7 @@ pub struct Sweep<'a> {
 
 /// The node that has a token in a ring, if any. The cost is a binary search.
 fn node_at(ring: &Ring, t: Token) -> Option<NodeId>
-    ensures { result ≡ node_with ring.now t }
+    ensures { result ≡ spec.node_at ring.now t }
 {
     let first = ring.first_at(t)?;
     let pair = &ring.pairs()[first];
@@ -34,7 +34,7 @@ fn node_at(ring: &Ring, t: Token) -> Option<NodeId>
 impl<'a> Sweep<'a> {
     /// Passes one token: a token that comes or goes empties the tally, and at any other token its fixed node is met.
     fn pass(&self, t: Token, tally: &mut Tally<'a>) -> Result<(), Memory>
-        ensures { OnOk result (tally.new ≡ stepped (course_of self.now) t tally.old) }
+        ensures { OnOk result (tally.new ≡ spec.after_token (spec.course_of self.now) t tally.old) }
     {
         if self.moved.has(t) {
             tally.clear();
@@ -54,8 +54,9 @@ impl<'a> Sweep<'a> {
         marks: &mut [bool],
     ) -> Result<(), Memory>
         requires { length tokens.now ≡ length marks.old }
-        ensures tally { OnOk result (tally.new ≡ swept (course_of self.now) tokens.now tally.old) }
-        ensures marks { OnOk result (marks.new ≡ either marks.old (lacking (course_of self.now) tokens.now tally.old)) }
+        ensures tally { OnOk result (tally.new ≡ spec.swept (spec.course_of self.now) tokens.now tally.old) }
+        ensures marks { OnOk result (marks.new
+            ≡ spec.either marks.old (spec.lacking (spec.course_of self.now) tokens.now tally.old)) }
     {
         for at in (0..tokens.len()).rev() {
             self.pass(tokens[at], tally)?;
@@ -75,7 +76,8 @@ impl<'a> Sweep<'a> {
     ) -> Result<(), Memory>
         requires begin { begin < length tokens.now }
         requires one { length tokens.now ≡ length marks.old }
-        ensures { OnOk result (marks.new ≡ either marks.old (lacking_round (course_of self.now) begin tokens.now tally.old)) }
+        ensures { OnOk result (marks.new ≡ spec.either marks.old
+            (spec.lacking_round (spec.course_of self.now) begin tokens.now tally.old)) }
     {
         let (front, rest) = tokens.split_at(begin + 1);
         let (front_marks, rest_marks) = marks.split_at_mut(begin + 1);
@@ -105,7 +107,8 @@ impl<'a> Sweep<'a> {
         marks: &mut [bool],
     ) -> Result<(), Memory>
         requires { length tokens.now ≡ length marks.old }
-        ensures { OnOk result (marks.new ≡ either marks.old (marked_from (course_of self.now) shape tokens.now (position (is_member int_eq self.now.moved) tokens.now))) }
+        ensures { OnOk result (marks.new
+            ≡ spec.either marks.old (spec.marks_of (spec.course_of self.now) shape tokens.now)) }
     {
         let Some(begin) = self.begin(tokens) else {
             return Ok(());

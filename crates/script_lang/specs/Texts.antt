@@ -119,8 +119,8 @@ placed_text row reads writes =
     ++ codes "] read " ++ list_text reads ++ codes " write " ++ list_text writes)
 
 -- a row, with the read replicas and the write replicas at its last token
-abbrev pub row_text : Image → Replication → TokenRange → List ℕ
-row_text image replication row =
+abbrev pub placed_row_text : Image → Replication → TokenRange → List ℕ
+placed_row_text image replication row =
     let x = last_token row.right in
     placed_text row (reads_at image replication x) (writes_at image replication x)
 
@@ -131,7 +131,7 @@ place_head epoch keyspace rows = line (codes "PLACE " ++ decimal epoch ++ codes 
 unfoldable pub place_text : Image → KeyspaceRow → List ℕ
 place_text image keyspace =
     let rows = rows_between (cuts image) in
-    place_head image.epoch keyspace.name (length rows) ++ flat_map (row_text image keyspace.replication) rows
+    place_head image.epoch keyspace.name (length rows) ++ flat_map (placed_row_text image keyspace.replication) rows
 
 -- the answer to a quorum query: its word, the epoch, how many replicas a read needs, the read replicas, and the same
 -- for writes

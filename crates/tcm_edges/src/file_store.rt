@@ -1,5 +1,6 @@
-ghost use Rattle.std.specs.Prelude.{◌≡◌, ◌≤◌, IfErr, IfOk, IsOkUnless, None, OnErr, OnOk};
-ghost use Rattle.tcm_edges.specs.Causes.{HasLoadCause, HasWriteCause, OnFailed, OnMemory, OnLoadFailed, OnLoadMemory, one_more};
+ghost use Rattle.std.specs.Prelude.{◌≡◌, ◌≤◌, IfErr, IfOk, IsOkUnless, OnErr, OnOk};
+ghost use Rattle.tcm_edges.specs.Causes.{HasLoadCause, HasWriteCause, OnFailed, OnMemory, OnLoadFailed, OnLoadMemory};
+ghost use Rattle.tcm_edges.specs.Counted.{with_failure};
 ghost use Rattle.tcm_edges.specs.Files.{untold_files, IsLoad, ChangesFile, OthersKept, GainsAll, GainsPart, IsReplaced, IsOldOrNew};
 ghost use Rattle.tcm_edges.specs.Writes.{KeptAtLoadMemory, KeptAtMemory, TellsAlike};
 
@@ -37,7 +38,7 @@ impl<R> FileStore<R> {
 
     /// Counts a failure.
     fn fail(&mut self)
-        ensures counted { self.new ≡ record self.old { failures = one_more self.old.failures } }
+        ensures counted { self.new ≡ with_failure self.old }
         ensures later { self.old.failures ≤ self.new.failures }
     {
         self.failed = self.failed.saturating_add(1);
@@ -106,8 +107,7 @@ impl<R: Files + AllocGlobal> Store for FileStore<R> {
         ensures kept { untold_files ≡ untold_files }
         ensures cause { HasLoadCause self.old.failures self.new.failures result }
         ensures memory { KeptAtLoadMemory self.old.failures self.new.failures result }
-        ensures counted { IfErr result (λ fault. OnLoadFailed fault
-            (self.new ≡ record self.old { failures = one_more self.old.failures })) }
+        ensures counted { IfErr result (λ fault. OnLoadFailed fault (self.new ≡ with_failure self.old)) }
         ensures uncounted { OnOk result (self.new ≡ self.old) }
         ensures unchanged { IfErr result (λ fault. OnLoadMemory fault (self.new ≡ self.old)) }
     {
@@ -132,7 +132,7 @@ impl<R: Files + AllocGlobal> Store for FileStore<R> {
         ensures memory { KeptAtMemory untold_files untold_files self.old.failures self.new.failures result }
         ensures told { TellsAlike untold_files untold_files }
         ensures sure { IsOkUnless result WriteFault.Failed }
-        ensures counted { OnErr result (self.new ≡ record self.old { failures = one_more self.old.failures }) }
+        ensures counted { OnErr result (self.new ≡ with_failure self.old) }
         ensures uncounted { OnOk result (self.new ≡ self.old) }
     {
         if append_file(&self.rt, name, bytes).is_err() {
@@ -153,8 +153,7 @@ impl<R: Files + AllocGlobal> Store for FileStore<R> {
         ensures cause { HasWriteCause self.old.failures self.new.failures result }
         ensures memory { KeptAtMemory untold_files untold_files self.old.failures self.new.failures result }
         ensures told { TellsAlike untold_files untold_files }
-        ensures counted { IfErr result (λ fault. OnFailed fault
-            (self.new ≡ record self.old { failures = one_more self.old.failures })) }
+        ensures counted { IfErr result (λ fault. OnFailed fault (self.new ≡ with_failure self.old)) }
         ensures uncounted { OnOk result (self.new ≡ self.old) }
         ensures unchanged { IfErr result (λ fault. OnMemory fault (self.new ≡ self.old)) }
     {

@@ -49,7 +49,8 @@ const TABLES: [(&str, &[Script]); 21] = [
 
 #[test]
 fn scripts_have_their_answers(rt: HostRuntime) -> Result<(), Fail> {
-    for (opening, scripts) in TABLES {
+    for row in &TABLES {
+        let (opening, scripts) = *row;
         for piece in [7, 4_096] {
             go_on(&rt, rt.alloc(), opening, scripts, piece)?;
         }

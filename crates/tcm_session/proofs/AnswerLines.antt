@@ -25,7 +25,7 @@ use Rattle.transformations.specs.declared.sequence.SeqRow.{SeqRow}
 use Rattle.cluster_metadata.specs.Served.{keyspace_of}
 use Rattle.script_lang.proofs.SaidLemmas.{IsFormed}
 use Rattle.script_lang.specs.Grammar.{line_of}
-use Rattle.script_lang.specs.Texts.{kind_text, left_text, line, list_text, named_text, no_text, node_text, nodes_head, nodes_text, ok_text, pairs_text, phase_text, place_head, place_text, placed_text, refusal_text, right_text, row_text, sequence_text, sets_text, state_text, tokens_text}
+use Rattle.script_lang.specs.Texts.{kind_text, left_text, line, list_text, named_text, no_text, node_text, nodes_head, nodes_text, ok_text, pairs_text, phase_text, place_head, place_text, placed_text, refusal_text, right_text, placed_row_text, sequence_text, sets_text, state_text, tokens_text}
 use Rattle.script_lang.specs.declared.script_line.ScriptLine.{ScriptLine}
 use Rattle.script_lang.specs.declared.script_line.ScriptLine.TheVariants.{Commit, Place, Nodes, Quorum, Local}
 use Rattle.script_lang.specs.declared.script_line.Target.TheVariants.{Epoch}
@@ -69,9 +69,9 @@ place_lines : (image : Image) (k : KeyspaceRow) → is_plain k.name ≡ true →
 unfolding place_text
 place_lines image k plain =
     let rows = rows_between (cuts image) in
-    AreLines-append IsOfNoQuorum (place_head image.epoch k.name (length rows)) (flat_map (row_text image k.replication) rows) (head_lines image.epoch k.name (length rows) plain)
-    (AreLines-flat_map IsOfNoQuorum (row_text image k.replication) rows
-    (all_each (λ (row : TokenRange). AreLines IsOfNoQuorum (row_text image k.replication row))
+    AreLines-append IsOfNoQuorum (place_head image.epoch k.name (length rows)) (flat_map (placed_row_text image k.replication) rows) (head_lines image.epoch k.name (length rows) plain)
+    (AreLines-flat_map IsOfNoQuorum (placed_row_text image k.replication) rows
+    (all_each (λ (row : TokenRange). AreLines IsOfNoQuorum (placed_row_text image k.replication row))
     (λ row. placed_lines row (reads_at image k.replication (last_token row.right)) (writes_at image k.replication (last_token row.right))) rows))
 
 -- ---- nodes

@@ -59,8 +59,8 @@ formed_register value =
     (name_at (codes "dc") value) (of_name (codes "dc") value))
     (name_at (codes "name") value) (of_name (codes "name") value)
 
-formed_keyspace : (value : Data) → IfSome (kinds.keyspace_of value) IsFormed
-unfolding kinds.keyspace_of
+formed_keyspace : (value : Data) → IfSome (kinds.set_keyspace_of value) IsFormed
+unfolding kinds.set_keyspace_of
 formed_keyspace value =
     IfSome-where IsName _ IsFormed
     (λ name n. IfSome-where IsReplication _ IsFormed (λ r is. (n, is)) (replication_at (codes "replication") value) (of_replication_at (codes "replication") value))

@@ -13,7 +13,6 @@ pub mod PlainImages
 pub mod PlainTexts
 pub mod PrintedLemmas
 pub mod ReadLemmas
-pub mod ReplayLemmas
 pub mod RunCauses
 pub mod RunLemmas
 pub mod RunOutcomes

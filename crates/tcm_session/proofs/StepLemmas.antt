@@ -1,5 +1,5 @@
 -- The ends of a step.
-use Rattle.std.proofs.Common.{◌≡◌, ◌≢◌, ℕ, ◌-◌, ◌≤◌, Bool, true, false, if◌then◌else◌, List, [], ◌∷◌, ◌++◌, length, take, Option, Result, Ok, Err, Some, OnOk, IfErr, MatchResult, refl, sym, ap, ◌∙◌, subst, append-nil, length-append, arith}
+use Rattle.std.proofs.Common.{◌≡◌, ◌≢◌, ℕ, ◌≤◌, Bool, true, false, if◌then◌else◌, List, [], ◌∷◌, ◌++◌, length, take, Option, Result, Ok, Err, Some, OnOk, IfErr, MatchResult, refl, sym, ap, ◌∙◌, subst, append-nil, length-append, arith}
 use Rattle.std.proofs.Math.Seq.{take-append_seam}
 use Rattle.tcm_edges.specs.Causes.{OnFailed, OnMemory, Rose}
 use Rattle.tcm_edges.specs.Files.{ChangesFile, Files, GainsAll, GainsPart, OthersKept}
@@ -56,12 +56,6 @@ steps_only reply name log out out' files count (Err e) none only =
     }
 
 -- ---- an entry that is noted
-
--- an entry taken back
-pub popped : (log : List Entry) (entry : Entry) → take (length (log ++ entry ∷ []) - 1) (log ++ entry ∷ []) ≡ log
-popped log entry =
-    let size : length (log ++ entry ∷ []) - 1 ≡ length log = omega (arith, length-append log (entry ∷ [])) in
-    ap (λ n. take n (log ++ entry ∷ [])) size ∙ take-append_seam log (entry ∷ [])
 
 -- a text that was added leaves what was there
 pub kept_before : (out text out' : List ℕ) → out' ≡ out ++ text → take (length out) out' ≡ out

@@ -33,6 +33,10 @@ abbrev pub commit_reply : List Entry → ℕ → Command → Reply
 commit_reply log id command =
     let committed = commit_of log id command in record { text = commit_text committed.answer; added = committed.added }
 
+-- the reply to a commit that is accepted with this entry
+abbrev pub accepted_reply : Entry → Reply
+accepted_reply entry = record { text = ok_text entry.epoch; added = entry ∷ [] }
+
 -- the placements of a keyspace
 abbrev pub placements : Image → Option KeyspaceRow → List ℕ
 placements image None = no_text (codes "KEYSPACE")

@@ -108,6 +108,11 @@ pub record RunsFor {S : Type 0} (outcome_of : List ℕ → Outcome) (left : S �
 abbrev pub MayHold : Option Files → Files → Type 0
 MayHold files all = IfSome files (λ these. these ≡ all)
 
+-- a run over a store, for all files that the store may hold
+abbrev pub RunsOnAny : {S : Type 0} → (Files → List ℕ → Outcome) → (S → Option (List ℕ)) → S → S → Option (List ℕ) → Option (List ℕ) → Option Files → Option Files → ℕ → Type 0
+RunsOnAny outcome_of left input input' written written' files files' status =
+    (all : Files) → MayHold files all → RunsFor (outcome_of all) left input input' written written' files' status
+
 -- a run over a store that may hold some files
 pub record RunsOn {S : Type 0} (outcome_of : Files → List ℕ → Outcome) (left : S → Option (List ℕ)) (input input' : S) (written written' : Option (List ℕ)) (files files' : Option Files) (status : ℕ) : Type 0 where
   pub all : Files

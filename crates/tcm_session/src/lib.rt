@@ -12,7 +12,6 @@ mod query;
 mod quorum_text;
 mod reading;
 mod refused_line;
-mod replay;
 mod rings;
 mod script;
 mod session;

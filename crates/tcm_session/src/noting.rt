@@ -1,11 +1,11 @@
 //! Adds entries to the log, and their lines to its file.
 
-ghost use Rattle.std.specs.Prelude.{◌≡◌, ◌+◌, ◌≤◌, ◌∷◌, ◌++◌, [], length, None, Some, OnErr, OnOk, IfErr, MatchResult};
+ghost use Rattle.std.specs.Prelude.{◌≡◌, ◌+◌, ◌≤◌, ◌∷◌, ◌++◌, [], length, None, Some, OnOk, IfErr, MatchResult};
 ghost use Rattle.std.specs.Option.{option_copied};
-ghost use Rattle.script_lang.specs.Texts.{ok_text as accepted_text};
 ghost use Rattle.transformations.specs.Log.{entry_with_id};
-ghost use Rattle.wire_json.specs.Texts.{entry_line as line_of_entry};
+ghost use Rattle.wire_json.specs.Texts as wire;
 ghost use Rattle.tcm_session.specs.LogFiles.{Gains};
+ghost use Rattle.tcm_session.specs.Machine.{accepted_reply};
 ghost use Rattle.tcm_session.specs.Steps.{Leaves, Steps};
 
 use crate::fault::StepFault;
@@ -40,7 +40,8 @@ fn keep_in_file<D: Store>(
     requires epoch { entry.epoch ≡ length log.old + 1 }
     requires id { entry_with_id log.old entry.id ≡ None }
     ensures log { MatchResult result (λ _. log.new ≡ log.old ++ entry ∷ []) (λ _. log.new ≡ log.old) }
-    ensures file { OnOk result (Gains (Some name.now) (line_of_entry entry) (D.files store.old) (D.files store.new)) }
+    ensures file { OnOk result
+        (Gains (Some name.now) (wire.entry_line entry) (D.files store.old) (D.files store.new)) }
     ensures fault { IfErr result (λ e. Leaves e (Some name.now) (entry ∷ [])
         (D.files store.old) (D.files store.new) (D.faults store.old) (D.faults store.new)) }
     ensures later { D.faults store.old ≤ D.faults store.new }
@@ -68,8 +69,7 @@ pub fn note<D: Store>(
 ) -> Result<(), StepFault>
     requires epoch { entry.epoch ≡ length log.old + 1 }
     requires id { entry_with_id log.old entry.id ≡ None }
-    ensures steps { Steps (record { text = accepted_text entry.epoch; added = entry ∷ [] }) (option_copied file.entry)
-        log.old log.new out.old out.new
+    ensures steps { Steps (accepted_reply entry) (option_copied file.entry) log.old log.new out.old out.new
         (D.files store.old) (D.files store.new) (D.faults store.old) (D.faults store.new) result }
     ensures unnamed { option_copied file.entry ≡ None → store.new ≡ store.old }
 {

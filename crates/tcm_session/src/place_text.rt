@@ -2,7 +2,7 @@
 
 ghost use Rattle.std.specs.Prelude.{◌≡◌, ◌++◌, flat_map, length, take, OnOk};
 ghost use Rattle.cluster_metadata.specs.Served.{keyspace_of};
-ghost use Rattle.script_lang.specs.Texts.{place_text as place_words, row_text as row_words};
+ghost use Rattle.script_lang.specs.Texts as spec;
 ghost use Rattle.tcm_session.specs.Machine.{placements};
 ghost use Rattle.tcm_session.specs.Placers.{IsPlacing};
 
@@ -24,7 +24,8 @@ pub fn place_text(
     keyspace: &Name,
     out: &mut ByteText,
 ) -> Result<(), Memory>
-    ensures added { OnOk result (out.new ≡ out.old ++ placements metadata.now (keyspace_of metadata.now keyspace.now)) }
+    ensures added { OnOk result (out.new
+        ≡ out.old ++ placements metadata.now (keyspace_of metadata.now keyspace.now)) }
     ensures kept { take (length out.old) out.new ≡ out.old }
 {
     match metadata.replication(keyspace) {
@@ -43,7 +44,8 @@ fn placements_text(
     replication: &Replication,
     out: &mut ByteText,
 ) -> Result<(), Memory>
-    ensures added { OnOk result (out.new ≡ out.old ++ place_words metadata.now (record { name = keyspace.now; replication = replication.now })) }
+    ensures added { OnOk result (out.new ≡ out.old ++ spec.place_text metadata.now
+        (record { name = keyspace.now; replication = replication.now })) }
     ensures kept { take (length out.old) out.new ≡ out.old }
 {
     let image = metadata.as_image();
@@ -65,7 +67,8 @@ fn rows_text(
     out: &mut ByteText,
 ) -> Result<(), Memory>
     requires { IsPlacing image.now replication.now placers.now }
-    ensures added { OnOk result (out.new ≡ out.old ++ flat_map (row_words image.now replication.now) rows.now) }
+    ensures added { OnOk result (out.new
+        ≡ out.old ++ flat_map (spec.placed_row_text image.now replication.now) rows.now) }
     ensures kept { take (length out.old) out.new ≡ out.old }
 {
     for row in rows {
@@ -84,7 +87,8 @@ fn row_text(
     out: &mut ByteText,
 ) -> Result<(), Memory>
     requires { IsPlacing image.now replication.now placers.now }
-    ensures added { OnOk result (out.new ≡ out.old ++ row_words image.now replication.now row.now) }
+    ensures added { OnOk result (out.new
+        ≡ out.old ++ spec.placed_row_text image.now replication.now row.now) }
     ensures kept { take (length out.old) out.new ≡ out.old }
 {
     let last = row.last_token();

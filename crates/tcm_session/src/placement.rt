@@ -1,10 +1,8 @@
 //! Places replicas on the rings of an image.
 
-ghost use Rattle.std.specs.Prelude.{◌≡◌, ◌<◌, ℤ, [], ◌∷◌, IfOk};
-ghost use Rattle.cluster_terms.specs.Group.{place as placed};
-ghost use Rattle.cluster_terms.specs.Replication.{groups_of};
-ghost use Rattle.transformations.specs.Rings.{reads_at as reads_of, writes_at as writes_of};
-ghost use Rattle.tcm_session.specs.Placers.{IsPlacing, placed_by};
+ghost use Rattle.std.specs.Prelude.{◌≡◌, ◌<◌, IfOk};
+ghost use Rattle.transformations.specs.Rings as spec;
+ghost use Rattle.tcm_session.specs.Placers.{IsPlacing, PlacesOn, placed_by};
 ghost use Rattle.tcm_session.specs.Rings.{AreRings};
 
 use crate::rings::Rings;
@@ -35,7 +33,7 @@ impl<'a> Placer<'a> {
         dir: &'a Directory,
         replication: &'a Replication,
     ) -> Result<Placer<'a>, Memory>
-        ensures { IfOk result (λ placer. (x : ℤ) → placed_by placer x ≡ placed (groups_of dir.now.rows replication.now) x ring.now) }
+        ensures { IfOk result (PlacesOn ring.now dir.now.rows replication.now) }
     {
         match replication {
             Replication::Simple(rf) => Ok(Placer::Simple(ring, *rf)),
@@ -107,7 +105,7 @@ impl<'a> Placers<'a> {
         at: Token,
     ) -> Result<NodeSet, Memory>
         requires { IsPlacing image.now replication.now self.now }
-        ensures { IfOk result (λ nodes. nodes ≡ reads_of image.now replication.now at) }
+        ensures { IfOk result (λ nodes. nodes ≡ spec.reads_at image.now replication.now at) }
     {
         self.read.place(alloc, at)
     }
@@ -123,7 +121,7 @@ impl<'a> Placers<'a> {
         at: Token,
     ) -> Result<NodeSet, Memory>
         requires { IsPlacing image.now replication.now self.now }
-        ensures { IfOk result (λ nodes. nodes ≡ writes_of image.now replication.now at) }
+        ensures { IfOk result (λ nodes. nodes ≡ spec.writes_at image.now replication.now at) }
     {
         let before = self.low.place(alloc, at)?;
         let after = self.high.place(alloc, at)?;

@@ -1,16 +1,16 @@
 //! Runs the program: the words after its name, a script as input, and the printed answers.
 
-ghost use Rattle.std.specs.Prelude.{◌≡◌, ◌≢◌, ◌⊎◌, ◌++◌, [], length, None, Some, Ok, false, map, string_bytes, OnOk, IfErr, IfOk};
+ghost use Rattle.std.specs.Prelude.{◌≡◌, ◌≢◌, ◌⊎◌, [], None, Some, Ok, map, string_bytes, OnOk, IfOk};
 ghost use Rattle.std.specs.Option.{option_copied, option_map};
-ghost use Rattle.tcm_edges.specs.Files.{Files};
 ghost use Rattle.tcm_session.specs.Counts.{counts};
-ghost use Rattle.tcm_session.specs.Endings.{IsCommitOf, ending_lines, ending_status, ending_text, fault_status as status_of_fault, status_by};
+ghost use Rattle.tcm_session.specs.Endings as spec;
 ghost use Rattle.tcm_session.specs.Faults.{HasRunCause};
-ghost use Rattle.tcm_session.specs.LogFiles.{Gains, cut_to_lines, entry_lines, lines_part, log_of, refused_line_text as refused_words};
+ghost use Rattle.tcm_session.specs.LogFiles.{Gains, entry_lines, log_of};
+ghost use Rattle.tcm_session.specs.LogFiles as log_file;
 ghost use Rattle.tcm_session.specs.Machine.{entries_added};
-ghost use Rattle.tcm_session.specs.Outcome.{commit_outcome, is_commit, named_log, outcome, outcome_from, script_outcome, unread_outcome};
+ghost use Rattle.tcm_session.specs.Outcome.{commit_outcome, named_log, outcome, outcome_from, script_outcome};
 ghost use Rattle.tcm_session.specs.Run.{ComesSurely, HasStatus, IsRun};
-ghost use Rattle.tcm_session.specs.Runs.{IsEnd, LeavesStore, MayHold, RunsFor, RunsOn, Writes};
+ghost use Rattle.tcm_session.specs.Runs.{IsEnd, LeavesStore, RunsOn, RunsOnAny, Writes};
 ghost use Rattle.tcm_session.specs.Loading.{IsCut, IsLinesPart, TakesFile};
 ghost use Rattle.tcm_session.specs.declared.fault.RunFault.TheVariants as fault;
 
@@ -43,7 +43,7 @@ pub struct Status(pub u8);
 
 /// Whether the words are `commit`, and the log file that they name, if they name one. Returns `None` for other words.
 fn commit_words(words: &[String]) -> Option<Option<&str>>
-    ensures { IsCommitOf (map string_bytes words.now) (option_map option_copied result) }
+    ensures { spec.IsCommitOf (map string_bytes words.now) (option_map option_copied result) }
 {
     match words {
         [word] if word.as_str() == "commit" => Some(None),
@@ -54,7 +54,7 @@ fn commit_words(words: &[String]) -> Option<Option<&str>>
 
 /// The status of a run that a fault ends.
 fn fault_status(fault: RunFault) -> Status
-    ensures { result.0 ≡ status_of_fault fault }
+    ensures { result.0 ≡ spec.fault_status fault }
 {
     match fault {
         RunFault::Memory => Status(1),
@@ -66,7 +66,7 @@ fn fault_status(fault: RunFault) -> Status
 
 /// The status of a run after its script was read.
 fn end_status(ending: ReadEnd) -> Status
-    ensures { result.0 ≡ ending_status ending }
+    ensures { result.0 ≡ spec.ending_status ending }
 {
     match ending {
         ReadEnd::AtEnd => Status(0),
@@ -76,7 +76,7 @@ fn end_status(ending: ReadEnd) -> Status
 
 /// The status of a run that ended, by a fault or not.
 fn status_of(ended: Result<Status, RunFault>) -> Status
-    ensures { result.0 ≡ status_by ended }
+    ensures { result.0 ≡ spec.status_by ended }
 {
     match ended {
         Ok(status) => status,
@@ -114,10 +114,12 @@ fn finish<K: Sink, D: Store>(
     out: &mut K,
     store: &mut D,
 ) -> Result<(), RunFault>
-    ensures writes { Writes (ending_text ending session.old begun.now) (K.written out.old) (K.written out.new)
-        (counts 0 (K.faults out.old) (D.faults store.old)) (counts 0 (K.faults out.new) (D.faults store.new)) result }
+    ensures writes { Writes (spec.ending_text ending session.old begun.now)
+        (K.written out.old) (K.written out.new)
+        (counts 0 (K.faults out.old) (D.faults store.old))
+        (counts 0 (K.faults out.new) (D.faults store.new)) result }
     ensures file { OnOk result (Gains (option_copied log.entry)
-        (entry_lines (entries_added session.old (ending_lines ending begun.now)))
+        (entry_lines (entries_added session.old (spec.ending_lines ending begun.now)))
         (D.files store.old) (D.files store.new)) }
     ensures unnamed { LeavesStore (option_copied log.entry) store.old store.new result }
 {
@@ -137,9 +139,10 @@ fn run_script<S: Source, K: Sink, D: Store>(
     out: &mut K,
     store: &mut D,
 ) -> Result<Status, RunFault>
-    ensures runs { (all : Files) → MayHold (D.files store.old) all
-        → RunsFor (script_outcome (record { log = session.old; file = option_copied log.entry; files = all }))
-        S.left input.old input.new (K.written out.old) (K.written out.new) (D.files store.new) (status_by result) }
+    ensures runs { RunsOnAny
+        (λ all. script_outcome (record { log = session.old; file = option_copied log.entry; files = all }))
+        S.left input.old input.new (K.written out.old) (K.written out.new)
+        (D.files store.old) (D.files store.new) (spec.status_by result) }
     ensures cause { HasRunCause
         (counts (S.faults input.old) (K.faults out.old) (D.faults store.old))
         (counts (S.faults input.new) (K.faults out.new) (D.faults store.new)) result }
@@ -160,9 +163,10 @@ fn commit<S: Source, K: Sink, D: Store>(
     out: &mut K,
     store: &mut D,
 ) -> Result<Status, RunFault>
-    ensures runs { (all : Files) → MayHold (D.files store.old) all
-        → RunsFor (script_outcome (record { log = []; file = option_copied log.entry; files = all }))
-        S.left input.old input.new (K.written out.old) (K.written out.new) (D.files store.new) (status_by result) }
+    ensures runs { RunsOnAny
+        (λ all. script_outcome (record { log = []; file = option_copied log.entry; files = all }))
+        S.left input.old input.new (K.written out.old) (K.written out.new)
+        (D.files store.old) (D.files store.new) (spec.status_by result) }
     ensures cause { HasRunCause
         (counts (S.faults input.old) (K.faults out.old) (D.faults store.old))
         (counts (S.faults input.new) (K.faults out.new) (D.faults store.new)) result }
@@ -181,7 +185,7 @@ fn refuse_log<K: Sink>(
     refused: &RefusedLine,
     out: &mut K,
 ) -> Result<Status, RunFault>
-    ensures writes { Writes (refused_words refused.now) (K.written out.old) (K.written out.new)
+    ensures writes { Writes (log_file.refused_line_text refused.now) (K.written out.old) (K.written out.new)
         (counts 0 (K.faults out.old) 0) (counts 0 (K.faults out.new) 0) result }
     ensures status { IfOk result (λ ended. ended.0 ≡ 3) }
 {
@@ -240,9 +244,9 @@ fn resume<S: Source, K: Sink, D: Store>(
     store: &mut D,
 ) -> Result<Status, RunFault>
     requires { session.old ≡ [] }
-    ensures runs { (all : Files) → MayHold (D.files store.old) all
-        → RunsFor (outcome_from name.now all file (log_of file))
-        S.left input.old input.new (K.written out.old) (K.written out.new) (D.files store.new) (status_by result) }
+    ensures runs { RunsOnAny (λ all. outcome_from name.now all file (log_of file))
+        S.left input.old input.new (K.written out.old) (K.written out.new)
+        (D.files store.old) (D.files store.new) (spec.status_by result) }
     ensures cause { HasRunCause
         (counts (S.faults input.old) (K.faults out.old) (D.faults store.old))
         (counts (S.faults input.new) (K.faults out.new) (D.faults store.new)) result }
@@ -263,9 +267,9 @@ fn commit_from<S: Source, K: Sink, D: Store>(
     out: &mut K,
     store: &mut D,
 ) -> Result<Status, RunFault>
-    ensures runs { (all : Files) → MayHold (D.files store.old) all
-        → RunsFor (outcome_from name.now all file (log_of file))
-        S.left input.old input.new (K.written out.old) (K.written out.new) (D.files store.new) (status_by result) }
+    ensures runs { RunsOnAny (λ all. outcome_from name.now all file (log_of file))
+        S.left input.old input.new (K.written out.old) (K.written out.new)
+        (D.files store.old) (D.files store.new) (spec.status_by result) }
     ensures cause { HasRunCause
         (counts (S.faults input.old) (K.faults out.old) (D.faults store.old))
         (counts (S.faults input.new) (K.faults out.new) (D.faults store.new)) result }
@@ -285,8 +289,9 @@ fn commit_to<S: Source, K: Sink, D: Store>(
     out: &mut K,
     store: &mut D,
 ) -> Result<Status, RunFault>
-    ensures runs { RunsOn (commit_outcome (Some name.now)) S.left input.old input.new
-        (K.written out.old) (K.written out.new) (D.files store.old) (D.files store.new) (status_by result) }
+    ensures runs { RunsOn (commit_outcome (Some name.now))
+        S.left input.old input.new (K.written out.old) (K.written out.new)
+        (D.files store.old) (D.files store.new) (spec.status_by result) }
     ensures cause { HasRunCause
         (counts (S.faults input.old) (K.faults out.old) (D.faults store.old))
         (counts (S.faults input.new) (K.faults out.new) (D.faults store.new)) result }
@@ -307,8 +312,9 @@ fn answer_words<S: Source, K: Sink, D: Store>(
     out: &mut K,
     store: &mut D,
 ) -> Result<Status, RunFault>
-    ensures runs { RunsOn (outcome (map string_bytes words.now)) S.left input.old input.new
-        (K.written out.old) (K.written out.new) (D.files store.old) (D.files store.new) (status_by result) }
+    ensures runs { RunsOn (outcome (map string_bytes words.now))
+        S.left input.old input.new (K.written out.old) (K.written out.new)
+        (D.files store.old) (D.files store.new) (spec.status_by result) }
     ensures cause { HasRunCause
         (counts (S.faults input.old) (K.faults out.old) (D.faults store.old))
         (counts (S.faults input.new) (K.faults out.new) (D.faults store.new)) result }

@@ -1,7 +1,7 @@
 //! Queries of the metadata at an epoch.
 
 ghost use Rattle.std.specs.Prelude.{◌≡◌, ◌++◌, length, take, OnOk};
-ghost use Rattle.tcm_session.specs.Machine.{answer_from as answer_of};
+ghost use Rattle.tcm_session.specs.Machine as spec;
 
 use crate::place_text::place_text;
 use crate::quorum_text::{local_text, quorum_text};
@@ -30,7 +30,7 @@ pub fn answer_from(
     query: &Query,
     out: &mut ByteText,
 ) -> Result<(), Memory>
-    ensures added { OnOk result (out.new ≡ out.old ++ answer_of query.now metadata.now) }
+    ensures added { OnOk result (out.new ≡ out.old ++ spec.answer_from query.now metadata.now) }
     ensures kept { take (length out.old) out.new ≡ out.old }
 {
     match query {

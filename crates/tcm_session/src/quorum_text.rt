@@ -1,9 +1,10 @@
 //! Answers to quorum queries.
 
-ghost use Rattle.std.specs.Prelude.{◌≡◌, ◌≤◌, ◌++◌, codes, length, take, is_some, IfOk, IfSome, IsSome, OnOk};
-ghost use Rattle.cluster_terms.specs.Quorum.{datacenter_of, local_sets};
+ghost use Rattle.std.specs.Prelude.{◌≡◌, ◌≤◌, ◌++◌, codes, length, take, is_some, IfSome, IsSome, OnOk};
+ghost use Rattle.cluster_terms.specs.Quorum.{datacenter_of};
 ghost use Rattle.transformations.specs.Meeting.{datacenters_of};
-ghost use Rattle.script_lang.specs.Texts.{quorum_text as quorum_words};
+ghost use Rattle.quorum_sets.specs.Sets.{IfDatacenter};
+ghost use Rattle.script_lang.specs.Texts as spec;
 ghost use Rattle.cluster_metadata.specs.Served.{keyspace_of};
 ghost use Rattle.tcm_session.specs.Machine.{local_quorums, quorums};
 
@@ -23,7 +24,8 @@ pub fn quorum_text(
     t: Token,
     out: &mut ByteText,
 ) -> Result<(), Memory>
-    ensures added { OnOk result (out.new ≡ out.old ++ quorums metadata.now t (keyspace_of metadata.now keyspace.now)) }
+    ensures added { OnOk result (out.new
+        ≡ out.old ++ quorums metadata.now t (keyspace_of metadata.now keyspace.now)) }
     ensures kept { take (length out.old) out.new ≡ out.old }
 {
     let Some(replication) = metadata.replication(keyspace) else {
@@ -59,7 +61,8 @@ fn local_sets_text(
 ) -> Result<(), Memory>
     requires named { IsSome (datacenter_of factors.now dc.now) }
     requires few { length sets.now.1 ≤ 1024 }
-    ensures added { IfSome (datacenter_of factors.now dc.now) (λ f. OnOk result (out.new ≡ out.old ++ quorum_words (codes "LOCAL") metadata.now.epoch (local_sets metadata.now.nodes f sets.now.0 sets.now.1))) }
+    ensures added { IfDatacenter factors.now dc.now metadata.now.nodes sets.now.0 sets.now.1 (λ local.
+        OnOk result (out.new ≡ out.old ++ spec.quorum_text (codes "LOCAL") metadata.now.epoch local)) }
     ensures kept { take (length out.old) out.new ≡ out.old }
 {
     let dir = metadata.directory();
@@ -80,7 +83,8 @@ pub fn local_text(
     t: Token,
     out: &mut ByteText,
 ) -> Result<(), Memory>
-    ensures added { OnOk result (out.new ≡ out.old ++ local_quorums metadata.now dc.now t (keyspace_of metadata.now keyspace.now)) }
+    ensures added { OnOk result (out.new
+        ≡ out.old ++ local_quorums metadata.now dc.now t (keyspace_of metadata.now keyspace.now)) }
     ensures kept { take (length out.old) out.new ≡ out.old }
 {
     let Some(replication) = metadata.replication(keyspace) else {

@@ -94,7 +94,8 @@ pub fn read_script<S: Source, K: Sink, D: Store>(
     store: &mut D,
 ) -> Result<ReadEnd, RunFault>
     requires begun { IsBegun begun.old.items }
-    ensures ok { IfOk result (λ ending. ReadsTo (option_copied log.entry) ending (S.left input.old) (S.left input.new)
+    ensures ok { IfOk result (λ ending. ReadsTo (option_copied log.entry) ending
+        (S.left input.old) (S.left input.new)
         (standing session.old begun.old.items (K.written out.old) (D.files store.old))
         (standing session.new begun.new.items (K.written out.new) (D.files store.new))) }
     ensures err { IfErr result (λ e. StopsAt e input_limit (S.left input.old) (S.left input.new)

@@ -27,9 +27,11 @@ pub fn answer_line<K: Sink, D: Store>(
     out: &mut K,
 ) -> Result<(), RunFault>
     ensures writes { Writes (reply session.old line.now).text (K.written out.old) (K.written out.new)
-        (counts 0 (K.faults out.old) (D.faults store.old)) (counts 0 (K.faults out.new) (D.faults store.new)) result }
+        (counts 0 (K.faults out.old) (D.faults store.old))
+        (counts 0 (K.faults out.new) (D.faults store.new)) result }
     ensures log { OnOk result (session.new ≡ session.old ++ (reply session.old line.now).added) }
-    ensures file { OnOk result (Gains (option_copied log.entry) (entry_lines (reply session.old line.now).added)
+    ensures file { OnOk result (Gains
+        (option_copied log.entry) (entry_lines (reply session.old line.now).added)
         (D.files store.old) (D.files store.new)) }
     ensures unnamed { LeavesStore (option_copied log.entry) store.old store.new result }
 {

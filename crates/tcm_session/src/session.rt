@@ -1,26 +1,26 @@
 //! The session: the log of entries, the metadata after it, and the reply to each line.
 
-ghost use Rattle.std.specs.Prelude.{◌≡◌, ◌+◌, ◌≤◌, ◌∷◌, ◌++◌, [], Ok, codes, length, take, None, OnOk, OnErr, IfOk, IfErr, IfSome, IsTrue, MatchResult};
+ghost use Rattle.std.specs.Prelude.{◌≡◌, ◌+◌, ◌≤◌, ◌∷◌, ◌++◌, [], Ok, codes, length, take, None, OnOk, OnErr, IfOk, IfErr, IfSome, IsTrue};
 ghost use Rattle.std.specs.Option.{option_copied};
 ghost use Rattle.script_lang.specs.Grammar.{HasTokens};
-ghost use Rattle.script_lang.specs.Texts.{no_text as no_words, ok_text as accepted_text, refusal_text as refusal_words};
+ghost use Rattle.script_lang.specs.Texts as spec;
 ghost use Rattle.transformations.specs.History.{commit_refusal, empty_image, image_after, is_command, state_after};
-ghost use Rattle.transformations.specs.Log.{commands_of, entry_with_id, repeated as repeated_commit};
-ghost use Rattle.cluster_metadata.specs.Permission.{ShowsRefusal};
-ghost use Rattle.wire_json.specs.Reading.{HasTokens as HasEntryTokens};
+ghost use Rattle.transformations.specs.Log.{commands_of, entry_with_id, repeated};
+ghost use Rattle.cluster_metadata.specs.Permission.{AdmitsUnless};
+ghost use Rattle.wire_json.specs.Reading as reading;
 ghost use Rattle.tcm_session.specs.LogFiles.{Gains, entry_cause, entry_lines, entry_read, next_entry, unless_refused};
-ghost use Rattle.tcm_session.specs.Machine.{commit_reply, commit_text, query_answer, reply, reply_to};
+ghost use Rattle.tcm_session.specs.Machine.{accepted_reply, commit_reply, commit_text, query_answer, reply, reply_to};
 ghost use Rattle.tcm_session.specs.Steps.{IsNextEntry, Leaves, OnlyAnswers, Steps, TakesLine};
 
 use crate::fault::StepFault;
 use crate::noting::{keep, note};
 use crate::query::{Query, answer_from};
 use crate::refused_line::Cause;
-use crate::replay::{admitted, replay};
 use cluster_metadata::{AdmitFault, Metadata, Permit};
 use cluster_terms::{ByteText, Memory};
 use epoch_log::Log;
 use script_lang::{ScriptLine, Target, no_epoch_text, no_text, ok_text, parse_line, refused_text};
+use snapshot_store::Snapshots;
 use std::alloc::Global;
 use std::marker::Model;
 use tcm_edges::Store;
@@ -38,6 +38,7 @@ pub struct Session {
     alloc: Global,
     log: Log,
     metadata: Metadata,
+    snapshots: Snapshots,
 }
 
 impl Model for Session {
@@ -50,12 +51,13 @@ impl Model for Session {
 
     ghost view = { λ session. session.log };
 
-    ghost invariant = { λ session. (session.metadata ≡ image_after empty_image (commands_of session.log)) × IsLog session.log };
+    ghost invariant = { λ session.
+        (session.metadata ≡ image_after empty_image (commands_of session.log)) × IsLog session.log };
 }
 
 /// Answers a line that isn't in the grammar.
 fn bad_line(out: &mut ByteText) -> Result<(), StepFault>
-    ensures only { OnlyAnswers (no_words (codes "BAD-LINE")) out.old out.new result }
+    ensures only { OnlyAnswers (spec.no_text (codes "BAD-LINE")) out.old out.new result }
 {
     no_text(b"BAD-LINE", out)?;
     Ok(())
@@ -63,7 +65,7 @@ fn bad_line(out: &mut ByteText) -> Result<(), StepFault>
 
 /// Answers a commit that was accepted as this epoch.
 fn accepted(epoch: u64, out: &mut ByteText) -> Result<(), StepFault>
-    ensures only { OnlyAnswers (accepted_text epoch) out.old out.new result }
+    ensures only { OnlyAnswers (spec.ok_text epoch) out.old out.new result }
 {
     ok_text(epoch, out)?;
     Ok(())
@@ -71,15 +73,15 @@ fn accepted(epoch: u64, out: &mut ByteText) -> Result<(), StepFault>
 
 /// Answers a commit that is refused.
 fn refuse(refusal: &Refusal, out: &mut ByteText) -> Result<(), StepFault>
-    ensures only { OnlyAnswers (no_words (refusal_words refusal.now)) out.old out.new result }
+    ensures only { OnlyAnswers (spec.no_text (spec.refusal_text refusal.now)) out.old out.new result }
 {
     refused_text(refusal, out)?;
     Ok(())
 }
 
 /// Answers a commit whose id is in the log, with this entry.
-fn repeated(entry: &Entry, command: &Command, out: &mut ByteText) -> Result<(), StepFault>
-    ensures only { OnlyAnswers (commit_text (repeated_commit entry.now command.now).answer) out.old out.new result }
+fn answer_again(entry: &Entry, command: &Command, out: &mut ByteText) -> Result<(), StepFault>
+    ensures only { OnlyAnswers (commit_text (repeated entry.now command.now).answer) out.old out.new result }
 {
     if entry.cmd.same(command) {
         accepted(entry.epoch, out)
@@ -97,6 +99,7 @@ impl Session {
             alloc,
             log: Log::empty(alloc),
             metadata: Metadata::empty(alloc)?,
+            snapshots: Snapshots::empty(alloc),
         })
     }
 
@@ -106,6 +109,7 @@ impl Session {
             alloc: _,
             log: _,
             metadata,
+            snapshots: _,
         } = self;
         metadata.close();
     }
@@ -137,7 +141,8 @@ impl Session {
         ensures text { OnOk result (out.new ≡ out.old ++ (reply self.old line.now).text) }
         ensures kept { take (length out.old) out.new ≡ out.old }
         ensures log { OnOk result (self.new ≡ self.old ++ (reply self.old line.now).added) }
-        ensures file { OnOk result (Gains (option_copied log.entry) (entry_lines (reply self.old line.now).added)
+        ensures file { OnOk result (Gains
+            (option_copied log.entry) (entry_lines (reply self.old line.now).added)
             (D.files store.old) (D.files store.new)) }
         ensures err { OnErr result (self.new ≡ self.old) }
         ensures fault { IfErr result (λ e. Leaves e (option_copied log.entry) (reply self.old line.now).added
@@ -158,7 +163,8 @@ impl Session {
         out: &mut ByteText,
     ) -> Result<(), StepFault>
         requires { IfSome said (λ line. HasTokens line) }
-        ensures steps { Steps (reply_to self.old said) (option_copied log.entry) self.old self.new out.old out.new
+        ensures steps { Steps (reply_to self.old said) (option_copied log.entry)
+            self.old self.new out.old out.new
             (D.files store.old) (D.files store.new) (D.faults store.old) (D.faults store.new) result }
         ensures unnamed { option_copied log.entry ≡ None → store.new ≡ store.old }
     {
@@ -188,12 +194,13 @@ impl Session {
         out: &mut ByteText,
     ) -> Result<(), StepFault>
         requires { IsTrue (is_command command) }
-        ensures steps { Steps (commit_reply self.old id command) (option_copied log.entry) self.old self.new
-            out.old out.new (D.files store.old) (D.files store.new) (D.faults store.old) (D.faults store.new) result }
+        ensures steps { Steps (commit_reply self.old id command) (option_copied log.entry)
+            self.old self.new out.old out.new
+            (D.files store.old) (D.files store.new) (D.faults store.old) (D.faults store.new) result }
         ensures unnamed { option_copied log.entry ≡ None → store.new ≡ store.old }
     {
         match self.log.seen(id) {
-            Some(entry) => repeated(entry, &command, out),
+            Some(entry) => answer_again(entry, &command, out),
             None => self.commit_new(id, command, log, store, out),
         }
     }
@@ -209,8 +216,9 @@ impl Session {
     ) -> Result<(), StepFault>
         requires formed { IsTrue (is_command command) }
         requires fresh { entry_with_id self.old id ≡ None }
-        ensures steps { Steps (commit_reply self.old id command) (option_copied log.entry) self.old self.new
-            out.old out.new (D.files store.old) (D.files store.new) (D.faults store.old) (D.faults store.new) result }
+        ensures steps { Steps (commit_reply self.old id command) (option_copied log.entry)
+            self.old self.new out.old out.new
+            (D.files store.old) (D.files store.new) (D.faults store.old) (D.faults store.new) result }
         ensures unnamed { option_copied log.entry ≡ None → store.new ≡ store.old }
     {
         match self.admit(&command) {
@@ -234,13 +242,12 @@ impl Session {
         requires { IsTrue (is_command command.now) }
         ensures permit { IfOk result (λ permit. permit
             ≡ record { image = image_after empty_image (commands_of self.now); command = command.now }) }
-        ensures refusal { MatchResult result (λ _. commit_refusal (commands_of self.now) command.now ≡ None)
-            (ShowsRefusal (commit_refusal (commands_of self.now) command.now)) }
+        ensures refusal { AdmitsUnless (commit_refusal (commands_of self.now) command.now) result }
     {
         if self.log.last_epoch() >= MOST_EPOCHS {
             return Err(AdmitFault::Refused(Refusal::EpochsFull));
         }
-        admitted(&self.metadata, command)
+        self.metadata.permit(command)
     }
 
     /// Adds the next entry to the log, and enacts its command.
@@ -255,7 +262,7 @@ impl Session {
         requires next { IsNextEntry self.old entry }
         requires permit { permit
             ≡ record { image = image_after empty_image (commands_of self.old); command = entry.cmd } }
-        ensures steps { Steps (record { text = accepted_text entry.epoch; added = entry ∷ [] }) (option_copied log.entry)
+        ensures steps { Steps (accepted_reply entry) (option_copied log.entry)
             self.old self.new out.old out.new
             (D.files store.old) (D.files store.new) (D.faults store.old) (D.faults store.new) result }
         ensures unnamed { option_copied log.entry ≡ None → store.new ≡ store.old }
@@ -275,7 +282,8 @@ impl Session {
     /// Takes over a line of a log file: adds its entry to the log, or returns the first cause to refuse the line. Then,
     /// and if memory runs out, the log is unchanged.
     pub(crate) fn take_line(&mut self, line: &[u8]) -> Result<Option<Cause>, Memory>
-        ensures ok { IfOk result (λ refused. TakesLine refused (next_entry self.old line.now) self.old self.new) }
+        ensures ok { IfOk result (λ refused.
+            TakesLine refused (next_entry self.old line.now) self.old self.new) }
         ensures err { OnErr result (self.new ≡ self.old) }
     {
         match read_line(self.alloc, line) {
@@ -287,8 +295,9 @@ impl Session {
 
     /// Takes over the content of a line of a log file, as `take_line` does.
     fn take_content(&mut self, content: Line) -> Result<Option<Cause>, Memory>
-        requires { HasEntryTokens content }
-        ensures ok { IfOk result (λ refused. TakesLine refused (entry_read self.old (Ok content)) self.old self.new) }
+        requires { reading.HasTokens content }
+        ensures ok { IfOk result (λ refused.
+            TakesLine refused (entry_read self.old (Ok content)) self.old self.new) }
         ensures err { OnErr result (self.new ≡ self.old) }
     {
         match content {
@@ -299,8 +308,8 @@ impl Session {
     /// Takes over an entry of a log file, as `take_line` does.
     fn take_entry(&mut self, entry: Entry) -> Result<Option<Cause>, Memory>
         requires { IsTrue (is_command entry.cmd) }
-        ensures ok { IfOk result (λ refused. TakesLine refused (unless_refused entry (entry_cause self.old entry))
-            self.old self.new) }
+        ensures ok { IfOk result (λ refused.
+            TakesLine refused (unless_refused entry (entry_cause self.old entry)) self.old self.new) }
         ensures err { OnErr result (self.new ≡ self.old) }
     {
         let next = self.log.last_epoch() + 1;
@@ -371,6 +380,6 @@ impl Session {
         requires { epoch ≤ length self.now }
         ensures { IfOk result (λ metadata. metadata ≡ state_after (commands_of self.now) epoch) }
     {
-        replay(self.alloc, &self.log, epoch)
+        self.snapshots.state_at(&self.log, epoch)
     }
 }

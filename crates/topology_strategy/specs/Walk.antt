@@ -1,12 +1,14 @@
 -- The nodes that a walk takes in one group (NetworkTopologyStrategy).
-use Rattle.std.specs.Prelude.{ℕ, ◌-◌, if◌then◌else◌, List, [], ◌∷◌, ◌++◌, length, nat_eq, nat_lt, Option, Some, None, flat_map}
+use Rattle.std.specs.Prelude.{ℕ, ◌-◌, if◌then◌else◌, List, [], ◌∷◌, ◌++◌, length, take, drop, nat_eq, nat_lt, Option, Some, None, flat_map}
 use Rattle.std.specs.List.{zip}
 use Rattle.std.specs.Set.{is_member}
 use Rattle.std.specs.Str.{bytes_eq}
-use Rattle.cluster_terms.specs.Group.{Group}
+use Rattle.cluster_terms.specs.Group.{Group, nodes_of}
 use Rattle.cluster_terms.specs.Replication.{datacenter_group}
 use Rattle.cluster_terms.specs.declared.node.NodeRow.{NodeRow}
+use Rattle.cluster_terms.specs.declared.token.Pair.{Pair}
 use Rattle.node_directory.specs.declared.shape.Shape.{Shape}
+use Rattle.topology_strategy.specs.Shape.{shapes_of}
 
 -- the nodes that are taken, the racks that are seen, and how many further nodes of seen racks may be taken
 pub record Found : Type 0 where
@@ -40,3 +42,9 @@ taken_along ns g shape = (found_after g shape.wanted ns (record { taken = []; ra
 -- the nodes that the walks along ns take in several datacenters of these shapes, each by itself
 abbrev pub taken_in_all : List ℕ → List NodeRow → List (List ℕ × ℕ) → List Shape → List ℕ
 taken_in_all ns nodes factors shapes = flat_map (λ p. taken_along ns (datacenter_group nodes p.0) p.1) (zip factors shapes)
+
+-- the nodes that the walks from the pair at position i take: each goes once round the ring, and has the shape of its
+-- datacenter in the ring
+abbrev pub taken_from : ℕ → List NodeRow → List (List ℕ × ℕ) → List Pair → List ℕ
+taken_from i nodes factors ring =
+    taken_in_all (nodes_of (drop i ring ++ take i ring)) nodes factors (shapes_of nodes factors (nodes_of ring))

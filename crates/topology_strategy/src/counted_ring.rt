@@ -1,13 +1,13 @@
 ghost use Rattle.std.specs.Prelude.{◌≡◌, ◌+◌, ◌++◌, IfOk};
 ghost use Rattle.std.specs.Ordering.{nat_cmp};
 ghost use Rattle.cluster_terms.specs.Ascending.{ascending};
-ghost use Rattle.cluster_terms.specs.Group.{nodes_of, place};
-ghost use Rattle.cluster_terms.specs.Replication.{groups_of};
+ghost use Rattle.cluster_terms.specs.Group.{nodes_of};
+ghost use Rattle.topology_strategy.specs.GroupedRing.{placement_at};
 ghost use Rattle.topology_strategy.specs.Walk.{taken_in_all};
 
 use crate::shape::count_all;
 use crate::walk::Walk;
-use cluster_terms::{Factors, Memory, Name, NodeId, Pair, Replication, Rf, Steps, Token};
+use cluster_terms::{Factors, Memory, Name, NodeId, Pair, Rf, Steps, Token};
 use node_directory::{Directory, Members, Shape};
 use node_sets::NodeSet;
 use std::alloc::Global;
@@ -50,7 +50,8 @@ fn take_in_all(
     rest: &[Pair],
     front: &[Pair],
 ) -> Result<Vec<NodeId>, Memory>
-    ensures { IfOk result (λ taken. taken.items ≡ taken_in_all (nodes_of rest.now ++ nodes_of front.now) dir.now.rows factors.now shapes.now) }
+    ensures { IfOk result (λ taken. taken.items
+        ≡ taken_in_all (nodes_of rest.now ++ nodes_of front.now) dir.now.rows factors.now shapes.now) }
 {
     let mut taken = Vec::new(alloc);
     for ((name, rf), shape) in factors.iter().zip(shapes) {
@@ -75,7 +76,8 @@ impl<'a> CountedRing<'a> {
         dir: &'a Directory,
         factors: &'a Factors,
     ) -> Result<CountedRing<'a>, Memory>
-        ensures { IfOk result (λ c. c ≡ record { ring = ring.now; nodes = dir.now.rows; factors = factors.now }) }
+        ensures { IfOk result (λ c.
+            c ≡ record { ring = ring.now; nodes = dir.now.rows; factors = factors.now }) }
     {
         let shapes = count_all(alloc, ring.pairs(), dir, factors.rows())?;
         Ok(CountedRing {
@@ -88,7 +90,7 @@ impl<'a> CountedRing<'a> {
 
     /// The nodes that the walks from a token take.
     fn taken_at(&self, t: Token) -> Result<Vec<NodeId>, Memory>
-        ensures { IfOk result (λ taken. place (groups_of self.now.nodes (Replication.Topology self.now.factors)) t self.now.ring ≡ ascending nat_cmp taken.items) }
+        ensures { IfOk result (λ taken. placement_at self.now t ≡ ascending nat_cmp taken.items) }
     {
         let alloc = *self.shapes.allocator();
         let Some(first) = self.ring.first_at(t) else {
@@ -113,7 +115,7 @@ impl<'a> CountedRing<'a> {
     /// datacenter, a look at no more nodes and racks than there are to be replicas. Counts one step of `walks`, even on
     /// an error.
     pub fn replicas<L: Ledger>(&self, t: Token, walks: &mut Steps<L>) -> Result<NodeSet, Memory>
-        ensures placement { IfOk result (λ replicas. replicas ≡ place (groups_of self.now.nodes (Replication.Topology self.now.factors)) t self.now.ring) }
+        ensures placement { IfOk result (λ replicas. replicas ≡ placement_at self.now t) }
         ensures counted { walks.new ≡ walks.old + 1 }
     {
         walks.tick();

@@ -1,9 +1,8 @@
 ghost use Rattle.std.specs.Prelude.{◌≡◌, ◌+◌, IfOk};
-ghost use Rattle.cluster_terms.specs.Group.{place};
-ghost use Rattle.cluster_terms.specs.Replication.{groups_of};
+ghost use Rattle.topology_strategy.specs.GroupedRing.{topology_placement};
 
 use crate::counted_ring::CountedRing;
-use cluster_terms::{Factors, Memory, Replication, Steps, Token};
+use cluster_terms::{Factors, Memory, Steps, Token};
 use node_directory::Directory;
 use node_sets::NodeSet;
 use std::alloc::Global;
@@ -28,7 +27,8 @@ pub fn replicas<L: Ledger>(
     t: Token,
     walks: &mut Steps<L>,
 ) -> Result<NodeSet, Memory>
-    ensures placement { IfOk result (λ replicas. replicas ≡ place (groups_of dir.now.rows (Replication.Topology factors.now)) t ring.now) }
+    ensures placement { IfOk result (λ replicas.
+        replicas ≡ topology_placement dir.now.rows factors.now t ring.now) }
     ensures counted { walks.new ≡ walks.old + 1 }
 {
     match CountedRing::new(alloc, ring, dir, factors) {

@@ -1,23 +1,21 @@
 //! The placement is what NetworkTopologyStrategy's walks take.
 
-ghost use Rattle.std.specs.Prelude.{◌≡◌, ℕ, ℤ, List, [], ◌++◌, take, drop};
+ghost use Rattle.std.specs.Prelude.{◌≡◌, ℕ, ℤ, List, []};
 ghost use Rattle.std.specs.Ordering.{nat_cmp};
 ghost use Rattle.cluster_terms.specs.Ascending.{ascending};
-ghost use Rattle.cluster_terms.specs.Group.{nodes_of, place};
-ghost use Rattle.cluster_terms.specs.Replication.{groups_of};
 ghost use Rattle.cluster_terms.specs.declared.node.NodeRow.{NodeRow};
 ghost use Rattle.cluster_terms.specs.declared.token.Pair.{Pair};
 ghost use Rattle.token_ring.specs.Ring.{IsFirstAt, IsRing};
-ghost use Rattle.topology_strategy.specs.Shape.{shapes_of};
-ghost use Rattle.topology_strategy.specs.Walk.{taken_in_all};
-
-use cluster_terms::Replication;
+ghost use Rattle.topology_strategy.specs.GroupedRing.{topology_placement};
+ghost use Rattle.topology_strategy.specs.Walk.{taken_from};
 
 /// The placement in these datacenters, which is defined by counting, is what NetworkTopologyStrategy's walks take. Each
 /// datacenter has a walk, from the first token at or after `x` round the ring, with the datacenter's shape in the ring.
 /// In an empty ring the placement is empty.
 pub fn placement_is_walked()
-    ensures walk { (nodes : List NodeRow) (factors : List (List ℕ × ℕ)) (ring : List Pair) (x : ℤ) (i : ℕ) → IsRing ring → IsFirstAt ring x i
-        → place (groups_of nodes (Replication.Topology factors)) x ring ≡ ascending nat_cmp (taken_in_all (nodes_of (drop i ring ++ take i ring)) nodes factors (shapes_of nodes factors (nodes_of ring))) }
-    ensures nowhere { (nodes : List NodeRow) (factors : List (List ℕ × ℕ)) (x : ℤ) → place (groups_of nodes (Replication.Topology factors)) x [] ≡ [] }
+    ensures walk { (nodes : List NodeRow) (factors : List (List ℕ × ℕ)) (ring : List Pair) (x : ℤ) (i : ℕ)
+        → IsRing ring → IsFirstAt ring x i
+        → topology_placement nodes factors x ring ≡ ascending nat_cmp (taken_from i nodes factors ring) }
+    ensures nowhere { (nodes : List NodeRow) (factors : List (List ℕ × ℕ)) (x : ℤ)
+        → topology_placement nodes factors x [] ≡ [] }
 {}

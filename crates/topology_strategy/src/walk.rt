@@ -19,12 +19,13 @@ pub struct Walk<'a> {
 }
 
 impl<'a> Model for Walk<'a> {
-    ghost use Rattle.std.specs.Prelude.{map};
+    ghost use Rattle.node_directory.specs.Tally.{racks_in};
     ghost use Rattle.topology_strategy.specs.Walk.{Found};
 
     ghost Value = { Found };
 
-    ghost view = { λ w. record { taken = w.taken.items; racks = map (λ r. r.now) w.racks.items; repeats = w.repeats } };
+    ghost view = { λ w.
+        record { taken = w.taken.items; racks = racks_in w.racks.items; repeats = w.repeats } };
 }
 
 /// Whether a node is taken already.
@@ -73,7 +74,8 @@ impl<'a> Walk<'a> {
         wanted: usize,
         pairs: &[Pair],
     ) -> Result<(), Memory>
-        ensures { OnOk result (self.new ≡ found_after (group_of members.now) wanted (nodes_of pairs.now) self.old) }
+        ensures { OnOk result (self.new
+            ≡ found_after (group_of members.now) wanted (nodes_of pairs.now) self.old) }
     {
         for pair in pairs {
             if self.taken.len() >= wanted {

@@ -4,26 +4,18 @@ use Rattle.std.specs.Cmp.Lexicographic.{pointwise}
 use Rattle.std.specs.Ordering.{int_eq}
 use Rattle.std.specs.Str.{bytes_eq}
 use Rattle.cluster_terms.specs.Replication.{same_replication}
+use Rattle.transformations.specs.Steps.{same_kind}
 use Rattle.transformations.specs.declared.command.Command.{Command}
 use Rattle.transformations.specs.declared.command.Command.TheVariants.{Register, Unregister, UnsafeJoin, Keyspace, DropKeyspace, PrepareJoin, PrepareMove, PrepareLeave, PrepareReplace, Step, Cancel}
 use Rattle.transformations.specs.declared.sequence.Goal.{Goal}
 use Rattle.transformations.specs.declared.sequence.Goal.TheVariants as goal
-use Rattle.transformations.specs.declared.sequence.Kind.{Kind}
-use Rattle.transformations.specs.declared.sequence.Kind.TheVariants as kind
 
--- whether two goals, and two kinds, are equal
+-- whether two goals are equal
 abbrev pub same_goal : Goal → Goal → Bool
 same_goal goal.Start goal.Start = true
 same_goal goal.Mid goal.Mid = true
 same_goal goal.Finish goal.Finish = true
 same_goal _ _ = false
-
-abbrev pub same_kind : Kind → Kind → Bool
-same_kind kind.Join kind.Join = true
-same_kind kind.Move kind.Move = true
-same_kind kind.Leave kind.Leave = true
-same_kind kind.Replace kind.Replace = true
-same_kind _ _ = false
 
 -- whether two commands are equal
 abbrev pub same_command : Command → Command → Bool

@@ -79,7 +79,7 @@ step_there goal.Mid kind.Replace node h = ap (option_map (Step goal.Mid kind.Rep
 step_there goal.Finish kind.Replace node h = ap (option_map (Step goal.Finish kind.Replace)) (node_there node h)
 
 command_there : (command : Command) → HasValues command → is_command command ≡ true → spec.command_of (command_data command) ≡ Some command
-unfolding spec.command_of spec.node_kinds spec.register_of spec.unsafe_join_of spec.prepare_join_of spec.keyspace_of spec.drop_keyspace_of spec.prepare_move_of spec.prepare_replace_of
+unfolding spec.command_of spec.node_kinds spec.register_of spec.unsafe_join_of spec.prepare_join_of spec.set_keyspace_of spec.drop_keyspace_of spec.prepare_move_of spec.prepare_replace_of
 command_there (Register name dc rack) h is = three Register name dc rack _ _ _ (name_there name h.0) (name_there dc h.1) (name_there rack h.2)
 command_there (Unregister node) h is = ap (option_map Unregister) (node_there node h)
 command_there (UnsafeJoin node tokens) h is = two UnsafeJoin node tokens _ _ (node_there node h.0) (list_there tokens h.1 is)

@@ -36,7 +36,7 @@ IfSome-if Q false o p h k = k
 pub record HoldsOfKinds (Q : Command → Type 0) : Type 0 where
   pub register : (value : Data) → IfSome (spec.register_of value) Q
   pub unsafe_join : (value : Data) → IfSome (spec.unsafe_join_of value) Q
-  pub keyspace : (value : Data) → IfSome (spec.keyspace_of value) Q
+  pub keyspace : (value : Data) → IfSome (spec.set_keyspace_of value) Q
   pub drop_keyspace : (value : Data) → IfSome (spec.drop_keyspace_of value) Q
   pub prepare_join : (value : Data) → IfSome (spec.prepare_join_of value) Q
   pub prepare_move : (value : Data) → IfSome (spec.prepare_move_of value) Q

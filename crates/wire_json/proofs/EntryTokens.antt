@@ -47,8 +47,8 @@ unfolding spec.prepare_join_of
 of_prepare_join value =
     IfSome-option_and_then _ IsCommand (λ node. IfSome-where AreTokens _ IsCommand (λ tokens are. are) (tokens_at (codes "tokens") value) (of_tokens_at (codes "tokens") value)) (node_at (codes "node") value)
 
-of_keyspace : (value : Data) → IfSome (spec.keyspace_of value) IsCommand
-unfolding spec.keyspace_of
+of_keyspace : (value : Data) → IfSome (spec.set_keyspace_of value) IsCommand
+unfolding spec.set_keyspace_of
 of_keyspace value =
     IfSome-option_and_then _ IsCommand (λ name. IfSome-option_and_then _ IsCommand (λ r. refl) (replication_at (codes "replication") value)) (name_at (codes "name") value)
 

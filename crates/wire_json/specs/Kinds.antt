@@ -51,14 +51,14 @@ abbrev pub prepare_join : Kind
 prepare_join = record { word = codes "prepare-join"; keys = codes "kind" ∷ codes "node" ∷ codes "tokens" ∷ []; made = prepare_join_of }
 
 -- name, replication
-unfoldable pub keyspace_of : Data → Option Command
-keyspace_of value = do
+unfoldable pub set_keyspace_of : Data → Option Command
+set_keyspace_of value = do
   name ← name_at (codes "name") value
   replication ← replication_at (codes "replication") value
   Some (Keyspace name replication)
 
 abbrev pub keyspace : Kind
-keyspace = record { word = codes "keyspace"; keys = codes "kind" ∷ codes "name" ∷ codes "replication" ∷ []; made = keyspace_of }
+keyspace = record { word = codes "keyspace"; keys = codes "kind" ∷ codes "name" ∷ codes "replication" ∷ []; made = set_keyspace_of }
 
 -- name
 unfoldable pub drop_keyspace_of : Data → Option Command

@@ -14,9 +14,12 @@ abbrev pub keys_of : Members → List (List ℕ)
 keys_of no_members = []
 keys_of (member key value members) = key ∷ keys_of members
 
--- whether a value is an object with exactly these keys
+-- whether the keys of an object are exactly these, and whether a value is an object with exactly these keys
+abbrev pub are_keys : List (List ℕ) → Members → Bool
+are_keys keys members = pointwise bytes_eq (keys_of members) keys
+
 abbrev pub has_keys : List (List ℕ) → Data → Bool
-has_keys keys value = unwrap_or (option_map (λ members. pointwise bytes_eq (keys_of members) keys) (as_object value)) false
+has_keys keys value = unwrap_or (option_map (are_keys keys) (as_object value)) false
 
 -- the text at a key, and the whole number below 2^64 at a key
 abbrev pub text_at : List ℕ → Data → Option (List ℕ)

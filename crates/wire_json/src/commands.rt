@@ -30,7 +30,7 @@ fn command_named(alloc: Global, word: &str, value: &Value) -> Result<Option<Comm
     match word {
         _ if word == "register" => register_of(alloc, value),
         _ if word == "unsafe-join" => unsafe_join_of(alloc, value),
-        _ if word == "keyspace" => keyspace_of(alloc, value),
+        _ if word == "keyspace" => set_keyspace_of(alloc, value),
         _ if word == "drop-keyspace" => drop_keyspace_of(alloc, value),
         _ if word == "prepare-join" => prepare_join_of(alloc, value),
         _ if word == "prepare-move" => Ok(prepare_move_of(value)),
@@ -86,8 +86,8 @@ fn prepare_join_of(alloc: Global, value: &Value) -> Result<Option<Command>, Memo
     Ok(tokens.map(|tokens| Command::PrepareJoin { node, tokens }))
 }
 
-#[tactic(auto, unfolding(crate::specs::Kinds::keyspace_of))]
-fn keyspace_of(alloc: Global, value: &Value) -> Result<Option<Command>, Memory>
+#[tactic(auto, unfolding(crate::specs::Kinds::set_keyspace_of))]
+fn set_keyspace_of(alloc: Global, value: &Value) -> Result<Option<Command>, Memory>
     ensures { IfOk result (λ found. found ≡ spec.command_by spec.keyspace (view value.now)) }
 {
     if !has_keys(value, &["kind", "name", "replication"]) {

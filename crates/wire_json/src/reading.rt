@@ -4,7 +4,7 @@ ghost use Rattle.std.specs.Prelude.{◌≡◌, ◌≢◌, ◌<◌, length, Err, 
 ghost use Rattle.serde_json.specs.View.{view};
 ghost use Rattle.wire_json.specs.Kinds.{command_at};
 ghost use Rattle.wire_json.specs.Reading as spec;
-ghost use Rattle.wire_json.specs.declared.line.ReadLineFault.TheVariants.{Bad, Memory as OutOfMemory};
+ghost use Rattle.wire_json.specs.declared.line.ReadLineFault.TheVariants as fault;
 
 use crate::commands::command_of;
 use crate::line::{Line, ReadLineFault};
@@ -36,9 +36,9 @@ const MOST_EPOCHS: u64 = 65_536;
 ///
 /// Fails with `Memory` if memory runs out.
 pub fn read_line(alloc: Global, bytes: &[u8]) -> Result<Line, ReadLineFault>
-    ensures meaning { result ≢ Err OutOfMemory → result ≡ spec.reading bytes.now }
+    ensures meaning { result ≢ Err fault.Memory → result ≡ spec.reading bytes.now }
     ensures tokens { IfOk result spec.HasTokens }
-    ensures long { 4194304 < length bytes.now → result ≡ Err (Bad 1) }
+    ensures long { 4194304 < length bytes.now → result ≡ Err (fault.Bad 1) }
 {
     if bytes.len() > MOST_BYTES {
         return Err(ReadLineFault::Bad(1));

@@ -1,8 +1,8 @@
 //! Reads the tokens of a command from a JSON list.
 
-ghost use Rattle.std.specs.Prelude.{◌≡◌, IfOk, MatchOption};
+ghost use Rattle.std.specs.Prelude.{◌≡◌, IfOk};
 ghost use Rattle.serde_json.specs.View.{items_view, view};
-ghost use Rattle.transformations.specs.History.{ascend as ascend_test};
+ghost use Rattle.transformations.specs.History as history;
 ghost use Rattle.wire_json.specs.Values as spec;
 
 use crate::values::token_of;
@@ -15,7 +15,7 @@ const MOST_TOKENS: usize = 256;
 
 /// Whether the tokens ascend: each is below the next.
 fn ascend(tokens: &[Token]) -> bool
-    ensures { result ≡ ascend_test tokens.now }
+    ensures { result ≡ history.ascend tokens.now }
 {
     for at in 1..tokens.len() {
         if tokens[at] <= tokens[at - 1] {

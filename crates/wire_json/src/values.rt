@@ -1,8 +1,6 @@
 //! Typed values at the keys of a JSON object.
 
 ghost use Rattle.std.specs.Prelude.{◌≡◌, map, option_map, IfOk};
-ghost use Rattle.std.specs.Cmp.Lexicographic.{pointwise};
-ghost use Rattle.std.specs.Str.{bytes_eq};
 ghost use Rattle.serde_json.specs.View.{members_view, view};
 ghost use Rattle.wire_json.specs.Values as spec;
 
@@ -12,7 +10,7 @@ use std::alloc::Global;
 
 // Whether an object has exactly these keys. The keys are given in ascending order.
 fn same_keys(members: &Map<String, Value>, keys: &[&str]) -> bool
-    ensures { result ≡ pointwise bytes_eq (spec.keys_of (members_view members.now.entries)) (map (λ key. key.now) keys.now) }
+    ensures { result ≡ spec.are_keys (map (λ key. key.now) keys.now) (members_view members.now.entries) }
 {
     let mut found = members.keys();
     for wanted in keys {

@@ -2,6 +2,7 @@
 
 mod directory;
 mod edges;
+mod follower;
 mod log;
 mod metadata;
 mod reach;

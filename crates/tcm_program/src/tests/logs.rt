@@ -13,40 +13,73 @@ use tcm_edges::{
 use tcm_session::{Status, run};
 
 /// The lines of six entries: a node gets the token 0, a keyspace is set, and the join of a second node is started.
-const ENTRY_1: &[u8] =
-    br#"{"command":{"dc":"dc1","kind":"register","name":"a","rack":"r1"},"entry":1,"epoch":1}"#;
+const ENTRY_1: &str =
+    r#"{"command":{"dc":"dc1","kind":"register","name":"a","rack":"r1"},"entry":1,"epoch":1}"#;
 
-const ENTRY_2: &[u8] =
-    br#"{"command":{"kind":"unsafe-join","node":1,"tokens":[0]},"entry":2,"epoch":2}"#;
+const ENTRY_2: &str =
+    r#"{"command":{"kind":"unsafe-join","node":1,"tokens":[0]},"entry":2,"epoch":2}"#;
 
-const ENTRY_3: &[u8] =
-    br#"{"command":{"kind":"keyspace","name":"ks","replication":"simple 1"},"entry":3,"epoch":3}"#;
+const ENTRY_3: &str =
+    r#"{"command":{"kind":"keyspace","name":"ks","replication":"simple 1"},"entry":3,"epoch":3}"#;
 
-const ENTRY_4: &[u8] =
-    br#"{"command":{"dc":"dc1","kind":"register","name":"b","rack":"r1"},"entry":4,"epoch":4}"#;
+const ENTRY_4: &str =
+    r#"{"command":{"dc":"dc1","kind":"register","name":"b","rack":"r1"},"entry":4,"epoch":4}"#;
 
-const ENTRY_5: &[u8] =
-    br#"{"command":{"kind":"prepare-join","node":2,"tokens":[100]},"entry":5,"epoch":5}"#;
+const ENTRY_5: &str =
+    r#"{"command":{"kind":"prepare-join","node":2,"tokens":[100]},"entry":5,"epoch":5}"#;
 
-const ENTRY_6: &[u8] = br#"{"command":{"kind":"start-join","node":2},"entry":6,"epoch":6}"#;
+const ENTRY_6: &str = r#"{"command":{"kind":"start-join","node":2},"entry":6,"epoch":6}"#;
+
+/// The line that brings this join half way.
+const ENTRY_7: &str = r#"{"command":{"kind":"mid-join","node":2},"entry":7,"epoch":7}"#;
 
 /// The line of a second node that is registered after the first.
-const SECOND_NODE: &[u8] =
-    br#"{"command":{"dc":"dc1","kind":"register","name":"b","rack":"r1"},"entry":2,"epoch":2}"#;
+const SECOND_NODE: &str =
+    r#"{"command":{"dc":"dc1","kind":"register","name":"b","rack":"r1"},"entry":2,"epoch":2}"#;
 
-/// The first bytes of a line.
-const FRONT: &[u8] = b"{\"comman";
+/// The lines of three tokens, and of two datacenters, each in ascending order.
+const THREE_TOKENS: &str =
+    r#"{"command":{"kind":"unsafe-join","node":1,"tokens":[-9223372036854775808,-5,5]},"entry":18446744073709551615,"epoch":2}"#;
+
+const TWO_DATACENTERS: &str =
+    r#"{"command":{"kind":"keyspace","name":"kt","replication":"topology dc1:3 dc2:1"},"entry":0,"epoch":3}"#;
 
 /// The first two lines in other spellings.
-const SPELT_1: &[u8] =
-    b" { \"epoch\" : 1, \"entry\":1,\t\"command\":{\"rack\":\"r1\",\"name\":\"\\u0061\",\"kind\":\"register\",\"dc\":\"dc1\"}}\r";
+const SPELT_1: &str =
+    " { \"epoch\" : 1, \"entry\":1,\t\"command\":{\"rack\":\"r1\",\"name\":\"\\u0061\",\"kind\":\"register\",\"dc\":\"dc1\"}}\r";
 
-const SPELT_2: &[u8] =
-    br#"{"entry":7,"entry":2,"command":{"tokens":[ 0 ],"node":1,"kind":"unsafe-join"},"epoch":2} "#;
+const SPELT_2: &str =
+    r#"{"entry":7,"entry":2,"command":{"tokens":[ 0 ],"node":1,"kind":"unsafe-join"},"epoch":2} "#;
 
-/// The lines of a file without their line feeds, and the bytes after its last line feed. `None` stands for an absent
-/// file.
-type File = Option<(&'static [&'static [u8]], &'static [u8])>;
+/// The first bytes of a line.
+const FRONT: &str = "{\"comman";
+
+/// Bytes that are no text.
+const NO_TEXT: &[u8] = b"{\"command\":\"\xff\"}";
+
+/// The lines that letters stand for.
+fn line_of(letter: u8) -> &'static [u8] {
+    match letter {
+        b'1' => ENTRY_1.as_bytes(),
+        b'2' => ENTRY_2.as_bytes(),
+        b'3' => ENTRY_3.as_bytes(),
+        b'4' => ENTRY_4.as_bytes(),
+        b'5' => ENTRY_5.as_bytes(),
+        b'6' => ENTRY_6.as_bytes(),
+        b'7' => ENTRY_7.as_bytes(),
+        b'b' => SECOND_NODE.as_bytes(),
+        b't' => THREE_TOKENS.as_bytes(),
+        b'd' => TWO_DATACENTERS.as_bytes(),
+        b's' => SPELT_1.as_bytes(),
+        b'p' => SPELT_2.as_bytes(),
+        b'f' => FRONT.as_bytes(),
+        _ => NO_TEXT,
+    }
+}
+
+/// A file, told by its lines: each letter stands for a line, and `|` for the end of the last whole one. `None` stands
+/// for an absent file.
+type File = Option<&'static str>;
 
 /// The name of a run, the file before it, its script, the answers, and the file after it.
 type LogRun = (&'static str, File, &'static str, &'static str, File);
@@ -72,25 +105,19 @@ const RUNS: [LogRun; 18] = [
             commit 2 register b dc1 r1\n",
         "OK 1\n\
             OK 2\n",
-        Some((&[ENTRY_1, SECOND_NODE], b"")),
+        Some("1b"),
     ),
     (
         "an empty file",
-        Some((&[], b"")),
+        Some(""),
         "commit 1 register a dc1 r1\n",
         "OK 1\n",
-        Some((&[ENTRY_1], b"")),
+        Some("1"),
     ),
-    (
-        "an empty file and no line",
-        Some((&[], b"")),
-        "",
-        "",
-        Some((&[], b"")),
-    ),
+    ("an empty file and no line", Some(""), "", "", Some("")),
     (
         "a log that goes on",
-        Some((&[ENTRY_1, ENTRY_2], b"")),
+        Some("12"),
         "nodes @2\n\
             commit 3 keyspace ks simple 1\n\
             place @3 ks\n\
@@ -104,19 +131,19 @@ const RUNS: [LogRun; 18] = [
             (0,max] read 1 write 1\n\
             NO KEYSPACE\n\
             NO EPOCH 3\n",
-        Some((&[ENTRY_1, ENTRY_2, ENTRY_3], b"")),
+        Some("123"),
     ),
     (
         "a last line without its line feed",
-        Some((&[ENTRY_1], b"")),
+        Some("1"),
         "commit 7 unregister 2\ncommit 2 unsafe-join 1 0",
         "NO NO-NODE\n\
             OK 2\n",
-        Some((&[ENTRY_1, ENTRY_2], b"")),
+        Some("12"),
     ),
     (
         "ids of the log",
-        Some((&[ENTRY_1, ENTRY_2], b"")),
+        Some("12"),
         "commit 1 register a dc1 r1\n\
             commit 2 unsafe-join 1 1\n\
             commit 2 unsafe-join 1 0\n\
@@ -131,11 +158,11 @@ const RUNS: [LogRun; 18] = [
             OK 3\n\
             OK 3\n\
             OK 1\n",
-        Some((&[ENTRY_1, ENTRY_2, ENTRY_3], b"")),
+        Some("123"),
     ),
     (
         "another spelling stays",
-        Some((&[SPELT_1, SPELT_2], b"")),
+        Some("sp"),
         "commit 1 register a dc1 r1\n\
             commit 2 unsafe-join 1 0\n\
             commit 7 register a dc1 r1\n\
@@ -144,27 +171,20 @@ const RUNS: [LogRun; 18] = [
             OK 2\n\
             NO NAME-TAKEN 1\n\
             OK 3\n",
-        Some((&[SPELT_1, SPELT_2, ENTRY_3], b"")),
+        Some("sp3"),
     ),
     (
         "tokens and datacenters ascend in the file",
-        Some((&[ENTRY_1], b"")),
+        Some("1"),
         "commit 18446744073709551615 unsafe-join 1 5 -9223372036854775808 -5\n\
             commit 0 keyspace kt topology dc2:1 dc1:3\n",
         "OK 2\n\
             OK 3\n",
-        Some((
-            &[
-                ENTRY_1,
-                br#"{"command":{"kind":"unsafe-join","node":1,"tokens":[-9223372036854775808,-5,5]},"entry":18446744073709551615,"epoch":2}"#,
-                br#"{"command":{"kind":"keyspace","name":"kt","replication":"topology dc1:3 dc2:1"},"entry":0,"epoch":3}"#,
-            ],
-            b"",
-        )),
+        Some("1td"),
     ),
     (
         "a join that goes on",
-        Some((&[ENTRY_1, ENTRY_2, ENTRY_3, ENTRY_4, ENTRY_5, ENTRY_6], b"")),
+        Some("123456"),
         "quorum @6 ks 50\n\
             commit 5 prepare-join 2 100\n\
             commit 7 register b dc1 r1\n\
@@ -180,237 +200,193 @@ const RUNS: [LogRun; 18] = [
             (min,0] read 1 write 1\n\
             (0,100] read 1 write 1\n\
             (100,max] read 1 write 1\n",
-        Some((
-            &[
-                ENTRY_1,
-                ENTRY_2,
-                ENTRY_3,
-                ENTRY_4,
-                ENTRY_5,
-                ENTRY_6,
-                br#"{"command":{"kind":"mid-join","node":2},"entry":7,"epoch":7}"#,
-            ],
-            b"",
-        )),
+        Some("1234567"),
     ),
-    (
-        "cut-tail",
-        Some((&[ENTRY_1], FRONT)),
-        "",
-        "",
-        Some((&[ENTRY_1], b"")),
-    ),
+    ("cut-tail", Some("1|f"), "", "", Some("1")),
     (
         "a cut tail and a new entry",
-        Some((&[ENTRY_1], FRONT)),
+        Some("1|f"),
         "commit 2 unsafe-join 1 0\n",
         "OK 2\n",
-        Some((&[ENTRY_1, ENTRY_2], b"")),
+        Some("12"),
     ),
     (
         "a cut tail that is a whole line",
-        Some((&[ENTRY_1], ENTRY_2)),
+        Some("1|2"),
         "nodes @1\n\
             nodes @2\n",
         "NODES 1 1 0\n\
             1 a dc1 r1 REGISTERED -\n\
             NO EPOCH 1\n",
-        Some((&[ENTRY_1], b"")),
+        Some("1"),
     ),
     (
         "a cut tail that is sent again",
-        Some((&[ENTRY_1], ENTRY_2)),
+        Some("1|2"),
         "commit 2 unsafe-join 1 0\n",
         "OK 2\n",
-        Some((&[ENTRY_1, ENTRY_2], b"")),
+        Some("12"),
     ),
-    (
-        "a cut tail that is no text",
-        Some((&[ENTRY_1], b"\xff\x00 ")),
-        "",
-        "",
-        Some((&[ENTRY_1], b"")),
-    ),
-    (
-        "a cut tail and no line",
-        Some((&[], FRONT)),
-        "",
-        "",
-        Some((&[], b"")),
-    ),
+    ("a cut tail that is no text", Some("1|x"), "", "", Some("1")),
+    ("a cut tail and no line", Some("|f"), "", "", Some("")),
     (
         "a cut tail before the first entry",
-        Some((&[], FRONT)),
+        Some("|f"),
         "commit 1 register a dc1 r1\n",
         "OK 1\n",
-        Some((&[ENTRY_1], b"")),
+        Some("1"),
     ),
 ];
 
-/// The name of a refused log, the lines before the one that is refused, this line, and the text that is printed.
-type Refused = (
-    &'static str,
-    &'static [&'static [u8]],
-    &'static [u8],
-    &'static str,
-);
+/// The name of a refused log, the lines before the one that is refused, told as those of a file, this line, and the text that is printed.
+type Refused = (&'static str, &'static str, &'static str, &'static str);
 
 /// The bytes after each refused line: another line to refuse, and the front of a line.
-const REST: &[u8] = b"\n{\n{\"comman";
+const REST: &str = "\n{\n{\"comman";
 
 /// Logs that are refused, with status 3.
 const REFUSED: [Refused; 28] = [
-    ("no JSON", &[ENTRY_1], b"{", "REFUSED 1 2 LINE 2\n"),
-    ("an empty line", &[], b"", "REFUSED 1 1 LINE 2\n"),
-    (
-        "no text",
-        &[ENTRY_1],
-        b"{\"command\":\"\xff\"}",
-        "REFUSED 1 2 LINE 2\n",
-    ),
+    ("no JSON", "1", "{", "REFUSED 1 2 LINE 2\n"),
+    ("an empty line", "", "", "REFUSED 1 1 LINE 2\n"),
+    ("no text", "1x", "", "REFUSED 1 2 LINE 2\n"),
     (
         "a key too few",
-        &[ENTRY_1, ENTRY_2],
-        br#"{"command":{"kind":"cancel","node":1},"entry":3}"#,
+        "12",
+        r#"{"command":{"kind":"cancel","node":1},"entry":3}"#,
         "REFUSED 1 3 LINE 3\n",
     ),
     (
         "a key too many",
-        &[],
-        br#"{"command":{"kind":"cancel","node":1},"entry":1,"epoch":1,"more":1}"#,
+        "",
+        r#"{"command":{"kind":"cancel","node":1},"entry":1,"epoch":1,"more":1}"#,
         "REFUSED 1 1 LINE 3\n",
     ),
-    ("no object", &[ENTRY_1], b"[]", "REFUSED 1 2 LINE 3\n"),
+    ("no object", "1", "[]", "REFUSED 1 2 LINE 3\n"),
     (
         "epoch 0",
-        &[],
-        br#"{"command":{"kind":"cancel","node":1},"entry":1,"epoch":0}"#,
+        "",
+        r#"{"command":{"kind":"cancel","node":1},"entry":1,"epoch":0}"#,
         "REFUSED 1 1 LINE 4\n",
     ),
     (
         "epoch 65,537",
-        &[ENTRY_1],
-        br#"{"command":{"kind":"cancel","node":1},"entry":2,"epoch":65537}"#,
+        "1",
+        r#"{"command":{"kind":"cancel","node":1},"entry":2,"epoch":65537}"#,
         "REFUSED 1 2 LINE 4\n",
     ),
     (
         "half an epoch",
-        &[ENTRY_1],
-        br#"{"command":{"kind":"cancel","node":1},"entry":2,"epoch":1.5}"#,
+        "1",
+        r#"{"command":{"kind":"cancel","node":1},"entry":2,"epoch":1.5}"#,
         "REFUSED 1 2 LINE 4\n",
     ),
     (
         "an id that is too large",
-        &[ENTRY_1],
-        br#"{"command":{"kind":"cancel","node":1},"entry":18446744073709551616,"epoch":2}"#,
+        "1",
+        r#"{"command":{"kind":"cancel","node":1},"entry":18446744073709551616,"epoch":2}"#,
         "REFUSED 1 2 LINE 4\n",
     ),
     (
         "the epoch before the command of a line",
-        &[ENTRY_1],
-        br#"{"command":{"kind":"join","node":1},"entry":2,"epoch":0}"#,
+        "1",
+        r#"{"command":{"kind":"join","node":1},"entry":2,"epoch":0}"#,
         "REFUSED 1 2 LINE 4\n",
     ),
     (
         "tokens that do not ascend",
-        &[ENTRY_1],
-        br#"{"command":{"kind":"unsafe-join","node":1,"tokens":[5,0]},"entry":2,"epoch":2}"#,
+        "1",
+        r#"{"command":{"kind":"unsafe-join","node":1,"tokens":[5,0]},"entry":2,"epoch":2}"#,
         "REFUSED 1 2 LINE 5\n",
     ),
     (
         "a token twice",
-        &[ENTRY_1],
-        br#"{"command":{"kind":"unsafe-join","node":1,"tokens":[0,0]},"entry":2,"epoch":2}"#,
+        "1",
+        r#"{"command":{"kind":"unsafe-join","node":1,"tokens":[0,0]},"entry":2,"epoch":2}"#,
         "REFUSED 1 2 LINE 5\n",
     ),
     (
         "no token",
-        &[ENTRY_1],
-        br#"{"command":{"kind":"unsafe-join","node":1,"tokens":[]},"entry":2,"epoch":2}"#,
+        "1",
+        r#"{"command":{"kind":"unsafe-join","node":1,"tokens":[]},"entry":2,"epoch":2}"#,
         "REFUSED 1 2 LINE 5\n",
     ),
     (
         "too many replicas",
-        &[ENTRY_1, ENTRY_2],
-        br#"{"command":{"kind":"keyspace","name":"ks","replication":"simple 17"},"entry":3,"epoch":3}"#,
+        "12",
+        r#"{"command":{"kind":"keyspace","name":"ks","replication":"simple 17"},"entry":3,"epoch":3}"#,
         "REFUSED 1 3 LINE 5\n",
     ),
     (
         "no kind of command",
-        &[ENTRY_1],
-        br#"{"command":{"kind":"join","node":1},"entry":2,"epoch":2}"#,
+        "1",
+        r#"{"command":{"kind":"join","node":1},"entry":2,"epoch":2}"#,
         "REFUSED 1 2 LINE 5\n",
     ),
     (
         "the line before its place in the log",
-        &[ENTRY_1],
-        br#"{"command":{"kind":"join","node":1},"entry":1,"epoch":3}"#,
+        "1",
+        r#"{"command":{"kind":"join","node":1},"entry":1,"epoch":3}"#,
         "REFUSED 1 2 LINE 5\n",
     ),
-    (
-        "fork-and-gap",
-        &[ENTRY_1],
-        ENTRY_3,
-        "REFUSED 1 2 EPOCH 2 3\n",
-    ),
+    ("fork-and-gap", "1", ENTRY_3, "REFUSED 1 2 EPOCH 2 3\n"),
     (
         "a log without its first entry",
-        &[],
+        "",
         ENTRY_2,
         "REFUSED 1 1 EPOCH 1 2\n",
     ),
     (
         "the epoch before the id",
-        &[ENTRY_1, ENTRY_2],
+        "12",
         ENTRY_1,
         "REFUSED 1 3 EPOCH 3 1\n",
     ),
     (
         "the epoch before the command",
-        &[ENTRY_1],
-        br#"{"command":{"kind":"cancel","node":7},"entry":2,"epoch":65536}"#,
+        "1",
+        r#"{"command":{"kind":"cancel","node":7},"entry":2,"epoch":65536}"#,
         "REFUSED 1 2 EPOCH 2 65536\n",
     ),
     (
         "an id twice",
-        &[ENTRY_1, ENTRY_2],
-        br#"{"command":{"kind":"keyspace","name":"ks","replication":"simple 1"},"entry":1,"epoch":3}"#,
+        "12",
+        r#"{"command":{"kind":"keyspace","name":"ks","replication":"simple 1"},"entry":1,"epoch":3}"#,
         "REFUSED 1 3 ID 1 1\n",
     ),
     (
         "an id and its command twice",
-        &[ENTRY_1, ENTRY_2],
-        br#"{"command":{"kind":"unsafe-join","node":1,"tokens":[0]},"entry":2,"epoch":3}"#,
+        "12",
+        r#"{"command":{"kind":"unsafe-join","node":1,"tokens":[0]},"entry":2,"epoch":3}"#,
         "REFUSED 1 3 ID 2 2\n",
     ),
     (
         "the id before the command",
-        &[ENTRY_1, ENTRY_2],
-        br#"{"command":{"kind":"cancel","node":7},"entry":2,"epoch":3}"#,
+        "12",
+        r#"{"command":{"kind":"cancel","node":7},"entry":2,"epoch":3}"#,
         "REFUSED 1 3 ID 2 2\n",
     ),
     (
         "no node",
-        &[ENTRY_1],
-        br#"{"command":{"kind":"unsafe-join","node":7,"tokens":[0]},"entry":2,"epoch":2}"#,
+        "1",
+        r#"{"command":{"kind":"unsafe-join","node":7,"tokens":[0]},"entry":2,"epoch":2}"#,
         "REFUSED 1 2 COMMAND 2 NO-NODE\n",
     ),
     (
         "a name that is taken",
-        &[ENTRY_1],
-        br#"{"command":{"dc":"dc1","kind":"register","name":"a","rack":"r1"},"entry":2,"epoch":2}"#,
+        "1",
+        r#"{"command":{"dc":"dc1","kind":"register","name":"a","rack":"r1"},"entry":2,"epoch":2}"#,
         "REFUSED 1 2 COMMAND 2 NAME-TAKEN 1\n",
     ),
     (
         "a node that is joined",
-        &[ENTRY_1, ENTRY_2],
-        br#"{"command":{"kind":"unsafe-join","node":1,"tokens":[7]},"entry":3,"epoch":3}"#,
+        "12",
+        r#"{"command":{"kind":"unsafe-join","node":1,"tokens":[7]},"entry":3,"epoch":3}"#,
         "REFUSED 1 3 COMMAND 3 NODE-STATE JOINED\n",
     ),
     (
         "no keyspace",
-        &[],
-        br#"{"command":{"kind":"drop-keyspace","name":"ks"},"entry":18446744073709551615,"epoch":1}"#,
+        "",
+        r#"{"command":{"kind":"drop-keyspace","name":"ks"},"entry":18446744073709551615,"epoch":1}"#,
         "REFUSED 1 1 COMMAND 1 NO-KEYSPACE\n",
     ),
 ];
@@ -423,105 +399,92 @@ type Stop = (&'static str, File, (u64, u64), &'static str, File);
 const REGISTERS: &str = "commit 1 register a dc1 r1\ncommit 2 register b dc1 r1\n";
 
 /// The file once both registers are in it.
-const BOTH: File = Some((&[ENTRY_1, SECOND_NODE], b""));
+const BOTH: File = Some("1b");
 
 /// Runs that end with status 6.
 const STOPS: [Stop; 12] = [
-    (
-        "store-stops",
-        None,
-        (3, 0),
-        "OK 1\n",
-        Some((&[ENTRY_1], b"")),
-    ),
+    ("store-stops", None, (3, 0), "OK 1\n", Some("1")),
     (
         "a front of a line is kept",
         None,
-        (3, 5),
+        (3, 8),
         "OK 1\n",
-        Some((&[ENTRY_1], br#"{"com"#)),
+        Some("1|f"),
     ),
     (
         "a line is kept without its line feed",
         None,
         (3, 85),
         "OK 1\n",
-        Some((&[ENTRY_1], SECOND_NODE)),
+        Some("1|b"),
     ),
-    (
-        "a whole line is kept",
-        None,
-        (3, 86),
-        "OK 1\n",
-        Some((&[ENTRY_1, SECOND_NODE], b"")),
-    ),
+    ("a whole line is kept", None, (3, 86), "OK 1\n", Some("1b")),
     ("the first append", None, (2, 0), "", None),
     (
         "a front of the first line is kept",
         None,
         (2, 8),
         "",
-        Some((&[], FRONT)),
+        Some("|f"),
     ),
     (
         "the whole first line is kept",
         None,
         (2, 1000),
         "",
-        Some((&[ENTRY_1], b"")),
+        Some("1"),
     ),
-    (
-        "a load",
-        Some((&[ENTRY_1], FRONT)),
-        (1, 9),
-        "",
-        Some((&[ENTRY_1], FRONT)),
-    ),
+    ("a load", Some("1|f"), (1, 9), "", Some("1|f")),
     ("a load of no file", None, (1, 0), "", None),
     (
         "a cut that leaves the old file",
-        Some((&[ENTRY_1], FRONT)),
+        Some("1|f"),
         (2, 0),
         "",
-        Some((&[ENTRY_1], FRONT)),
+        Some("1|f"),
     ),
     (
         "a cut that leaves the new file",
-        Some((&[ENTRY_1], FRONT)),
+        Some("1|f"),
         (2, 1),
         "",
-        Some((&[ENTRY_1], b"")),
+        Some("1"),
     ),
     (
         "an append after a cut",
-        Some((&[ENTRY_1], FRONT)),
+        Some("1|f"),
         (3, 0),
         "OK 1\n",
-        Some((&[ENTRY_1], b"")),
+        Some("1"),
     ),
 ];
 
 /// The bytes of another file of the store.
-const OTHER: &[u8] = b"other\n{";
+const OTHER: &str = "other\n{";
 
-/// The bytes of a file: its lines, and the bytes after them.
-fn bytes_of(alloc: Global, lines: &[&[u8]], tail: &[u8]) -> Result<Vec<u8>, Fail> {
+/// The bytes of a file that is told by its lines.
+fn bytes_of(alloc: Global, told: &str) -> Result<Vec<u8>, Fail> {
     let mut bytes = Vec::new(alloc);
-    for line in lines {
-        bytes.extend_from_slice(line)?;
-        bytes.push(b'\n')?;
+    let mut whole = true;
+    for letter in told.as_bytes() {
+        if *letter == b'|' {
+            whole = false;
+        } else {
+            bytes.extend_from_slice(line_of(*letter))?;
+            if whole {
+                bytes.push(b'\n')?;
+            }
+        }
     }
-    bytes.extend_from_slice(tail)?;
     Ok(bytes)
 }
 
 /// A store with the other file, and the file `x` unless it is absent. The calls of the list fail.
 fn store_of(alloc: Global, fails: StoreFailList, file: File) -> Result<MemStore, Fail> {
     let mut store = MemStore::new(alloc, fails);
-    store.put("other", OTHER)?;
-    if let Some((lines, tail)) = file {
-        let bytes = bytes_of(alloc, lines, tail)?;
-        store.put("x", bytes.as_slice())?;
+    store.put("other", OTHER.as_bytes())?;
+    if let Some(told) = file {
+        store.put("x", bytes_of(alloc, told)?.as_slice())?;
     }
     Ok(store)
 }
@@ -531,12 +494,17 @@ fn sure_store_of(alloc: Global, file: File) -> Result<MemStore, Fail> {
     store_of(alloc, StoreFailList::empty(alloc), file)
 }
 
+/// Whether the other file is unchanged.
+fn keeps_other(store: &MemStore) -> bool {
+    store.file("other") == Some(OTHER.as_bytes())
+}
+
 /// Whether the file `x` has these contents, and the other file is unchanged.
 fn holds(alloc: Global, store: &MemStore, file: File) -> Result<bool, Fail> {
-    let other = store.file("other") == Some(OTHER);
+    let other = keeps_other(store);
     match file {
-        Some((lines, tail)) => {
-            let bytes = bytes_of(alloc, lines, tail)?;
+        Some(told) => {
+            let bytes = bytes_of(alloc, told)?;
             Ok(other && store.file("x") == Some(bytes.as_slice()))
         }
         None => Ok(other && store.file("x").is_none()),
@@ -574,12 +542,34 @@ fn is_run<A: Abort>(
 /// The words of a run over the log file `x`.
 const WORDS: [&str; 2] = ["commit", "x"];
 
-/// Runs each script over its log, and compares the file, too.
+/// Runs a script over the log of a store, and compares the status, the answers and the file with those that are wanted.
+fn leaves<A: Abort>(
+    rt: &A,
+    alloc: Global,
+    name: &str,
+    script: &str,
+    mut store: MemStore,
+    wanted: (u8, &str, File),
+) -> Result<(), Fail> {
+    is_run(
+        rt,
+        alloc,
+        name,
+        &WORDS,
+        script,
+        &mut store,
+        (wanted.0, wanted.1),
+    )?;
+    assert!(rt; holds(alloc, &store, wanted.2)?, "{name}");
+    Ok(())
+}
+
+/// Runs each script over its log.
 fn goes_on<A: Abort>(rt: &A, alloc: Global) -> Result<(), Fail> {
-    for (name, before, script, answers, after) in RUNS {
-        let mut store = sure_store_of(alloc, before)?;
-        is_run(rt, alloc, name, &WORDS, script, &mut store, (0, answers))?;
-        assert!(rt; holds(alloc, &store, after)?, "{name}");
+    for run in &RUNS {
+        let (name, before, script, answers, after) = *run;
+        let store = sure_store_of(alloc, before)?;
+        leaves(rt, alloc, name, script, store, (0, answers, after))?;
     }
     Ok(())
 }
@@ -598,15 +588,23 @@ fn is_refused<A: Abort>(
     let script = "commit 9 register z dc1 r1\n";
     is_run(rt, alloc, name, &WORDS, script, &mut store, (3, text))?;
     assert!(rt; store.file("x") == Some(file), "{name}");
-    assert!(rt; store.file("other") == Some(OTHER), "{name}");
+    assert!(rt; keeps_other(&store), "{name}");
     Ok(())
+}
+
+/// The bytes of a log that is refused.
+fn refused_bytes(alloc: Global, lines: &str, line: &str) -> Result<Vec<u8>, Fail> {
+    let mut file = bytes_of(alloc, lines)?;
+    file.extend_from_slice(line.as_bytes())?;
+    file.extend_from_slice(REST.as_bytes())?;
+    Ok(file)
 }
 
 /// Runs a script over each log that is refused.
 fn refuses<A: Abort>(rt: &A, alloc: Global) -> Result<(), Fail> {
-    for (name, lines, line, text) in REFUSED {
-        let mut file = bytes_of(alloc, lines, line)?;
-        file.extend_from_slice(REST)?;
+    for refused in &REFUSED {
+        let (name, lines, line, text) = *refused;
+        let file = refused_bytes(alloc, lines, line)?;
         is_refused(rt, alloc, name, file.as_slice(), text)?;
     }
     Ok(())
@@ -615,7 +613,7 @@ fn refuses<A: Abort>(rt: &A, alloc: Global) -> Result<(), Fail> {
 /// A file with the first line of a log after spaces, `size` bytes, and a line feed.
 fn padded_line(alloc: Global, size: usize) -> Result<Vec<u8>, Fail> {
     let mut line = vec![in alloc; b' '; size.saturating_sub(ENTRY_1.len())]?;
-    line.extend_from_slice(ENTRY_1)?;
+    line.extend_from_slice(ENTRY_1.as_bytes())?;
     line.push(b'\n')?;
     Ok(line)
 }
@@ -657,7 +655,7 @@ const OTHER_WORDS: [&[&str]; 4] = [
 /// Other words print the usage line.
 fn refuses_words<A: Abort>(rt: &A, alloc: Global) -> Result<(), Fail> {
     let usage = "usage: tcm commit [LOG] | replay FILE.. | snapshot LOG E | gen START N\n";
-    for words in OTHER_WORDS {
+    for words in &OTHER_WORDS {
         let mut store = sure_store_of(alloc, None)?;
         is_run(
             rt,
@@ -694,21 +692,12 @@ fn fail_of(alloc: Global, fail: (u64, u64)) -> Result<StoreFailList, Fail> {
 
 /// Runs in which the store fails, each followed by a run of the same script over the file that it left.
 fn stops<A: Abort>(rt: &A, alloc: Global) -> Result<(), Fail> {
-    for (name, before, fail, answers, after) in STOPS {
-        let mut store = store_of(alloc, fail_of(alloc, fail)?, before)?;
-        is_run(rt, alloc, name, &WORDS, REGISTERS, &mut store, (6, answers))?;
-        assert!(rt; holds(alloc, &store, after)?, "{name}");
-        let mut store = sure_store_of(alloc, after)?;
-        is_run(
-            rt,
-            alloc,
-            name,
-            &WORDS,
-            REGISTERS,
-            &mut store,
-            (0, "OK 1\nOK 2\n"),
-        )?;
-        assert!(rt; holds(alloc, &store, BOTH)?, "{name}");
+    for stop in &STOPS {
+        let (name, before, fail, answers, after) = *stop;
+        let store = store_of(alloc, fail_of(alloc, fail)?, before)?;
+        leaves(rt, alloc, name, REGISTERS, store, (6, answers, after))?;
+        let store = sure_store_of(alloc, after)?;
+        leaves(rt, alloc, name, REGISTERS, store, (0, "OK 1\nOK 2\n", BOTH))?;
     }
     Ok(())
 }

@@ -1,6 +1,6 @@
 use Rattle.std.proofs.Common.{◌≡◌, true, take}
 use Rattle.std.specs.Map.{values_of}
-use Rattle.node_directory.specs.Directory.{are_distinct, names_of}
+use Rattle.node_directory.specs.Directory.{names_are_distinct, node_names}
 use Rattle.node_directory.specs.Kept.{AreNamed}
 use Rattle.node_directory.proofs.kept.by_name.Given as goal
 
@@ -9,5 +9,5 @@ abbrev pub invariant-loop-row : goal.invariant-loop-row
 invariant-loop-row l = record {
   named : AreNamed l.nodes.entries;
   rows : values_of l.nodes.entries ≡ take l.row-index l.rows;
-  distinct : are_distinct (names_of (take l.row-index l.rows)) ≡ true;
+  distinct : names_are_distinct (node_names (take l.row-index l.rows)) ≡ true;
 }

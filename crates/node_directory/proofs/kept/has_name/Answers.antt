@@ -2,11 +2,11 @@ use Rattle.std.proofs.Common.{ap, ◌∙◌}
 use Rattle.std.specs.Map.{values_of}
 use Rattle.std.specs.Set.{is_member}
 use Rattle.std.specs.Str.{bytes_eq}
-use Rattle.node_directory.specs.Directory.{names_of}
+use Rattle.node_directory.specs.Directory.{node_names}
 use Rattle.node_directory.proofs.KeptLemmas.{is_some-lookup}
 use Rattle.node_directory.proofs.kept.has_name.Goals as goal
 
 pub returns : goal.returns
 returns c =
     let es = c.args.nodes.now.entries in
-    c.contains_key.ensures ∙ is_some-lookup es c.requires c.as_str.result.now ∙ ap (is_member bytes_eq (names_of (values_of es))) c.as_str.ensures.text
+    c.contains_key.ensures ∙ is_some-lookup es c.requires c.as_str.result.now ∙ ap (is_member bytes_eq (node_names (values_of es))) c.as_str.ensures.text

@@ -14,15 +14,15 @@ use Rattle.ring_reach.proofs.rows.reached_rows.Goals as goal
 pub mark_in_all-requires-clause-ends : goal.mark_in_all-requires-clause-ends
 mark_in_all-requires-clause-ends c =
     let change = c.args.change.now in
-    subst (AreEnds change.fixed.now change.moved.now) (sym (c.deref.ensures.value ∙ c.in_ok-ends.ensures))
-    (ends_between change.fixed.now change.moved.now c.args.cuts.now c.tokens_in_range.ensures c.requires)
+    subst (AreEnds change.fixed.now change.moved.now) (sym (c.deref.ensures.value ∙ c.in_ok-ends.ensures.ends))
+    (ends_between change.fixed.now change.moved.now c.args.cuts.now c.in_ok-ends.ensures.tokens c.requires)
 
 pub returns-clause-rows : goal.returns-clause-rows
 returns-clause-rows c =
     let change = c.args.change.now in
     let rows = rows_between c.args.cuts.now in
     let test : ℤ → Bool = λ x. is_reached (groups_of c.args.dir.now.rows c.args.replication.now) change.fixed.now change.widest.now change.moved.now x in
-    let ends : c.deref.result.now ≡ map (λ (row : TokenRange). last_token row.right) rows = c.deref.ensures.value ∙ c.in_ok-ends.ensures in
+    let ends : c.deref.result.now ≡ map (λ (row : TokenRange). last_token row.right) rows = c.deref.ensures.value ∙ c.in_ok-ends.ensures.ends in
     let others = map test c.deref.result.now in
     let fresh : c.deref_mut.result.now ≡ replicate c.len.result false = c.deref_mut.ensures.value ∙ c.in_ok-marks.ensures.items_if_clones_equal (λ y same. same) in
     let size : c.len.result ≡ length others = c.len.ensures ∙ sym c.deref.ensures.len ∙ sym (length-map c.deref.result.now test) in

@@ -62,7 +62,8 @@ fn changed<A: Abort>(rt: &A, alloc: Global) -> Result<Directory, Fail> {
 #[test]
 fn nodes_of_a_directory(rt: HostRuntime) -> Result<(), Fail> {
     let alloc = rt.alloc();
-    for (first, second, name, good) in ROWS {
+    for row in &ROWS {
+        let (first, second, name, good) = *row;
         let rows = [row_of(alloc, first, "a")?, row_of(alloc, second, name)?];
         let found = Directory::from_rows(alloc, &rows, 4)?;
         assert_eq!(rt; found.is_some(), good, "{first} {second} {name}");

@@ -32,7 +32,8 @@ const SHAPES: [(&str, &[u32], &[u32], u32, bool); 9] = [
 
 fn directory(alloc: Global) -> Result<Directory, Fail> {
     let mut rows = Vec::new(alloc);
-    for (id, name, dc, rack) in NODES {
+    for row in &NODES {
+        let (id, name, dc, rack) = *row;
         rows.push(NodeRow {
             id: NodeId(id),
             name: name_of(alloc, name)?,
@@ -60,7 +61,8 @@ fn pairs_of(alloc: Global, nodes: &[u32]) -> Result<Vec<Pair>, Fail> {
 fn shapes_of_groups(rt: HostRuntime) -> Result<(), Fail> {
     let alloc = rt.alloc();
     let dir = directory(alloc)?;
-    for (text, fixed, widest, node, wanted) in SHAPES {
+    for row in &SHAPES {
+        let (text, fixed, widest, node, wanted) = *row;
         let asked = Replication::parse(alloc, text)?.ok_or(text)?;
         let fixed = pairs_of(alloc, fixed)?;
         let fixed = Ring::from_pairs(alloc, &fixed)?.ok_or("a token comes twice")?;

@@ -29,7 +29,8 @@ const OWNERS: [(i64, usize, u32); 4] = [(i64::MIN, 0, 1), (-1, 1, 2), (i64::MAX,
 fn owners<A: Abort>(rt: &A, alloc: Global) -> Result<(), Fail> {
     let pairs = [pair(i64::MAX, 3), pair(i64::MIN, 1), pair(0, 2)];
     let ring = Ring::from_pairs(alloc, &pairs)?.ok_or("a token comes twice")?;
-    for (t, first, owner) in OWNERS {
+    for row in &OWNERS {
+        let (t, first, owner) = *row;
         assert_eq!(rt; ring.first_at(Token::new(t)), Some(first), "at {t}");
         assert_eq!(rt; ring.owner(Token::new(t)), Some(NodeId(owner)), "at {t}");
     }
@@ -131,10 +132,12 @@ fn shows(ranges: &RangeList, ends: &[Ends]) -> bool {
 }
 
 fn ranges_of_tokens<A: Abort>(rt: &A, alloc: Global) -> Result<(), Fail> {
-    for (cuts, chosen, ends) in CHOSEN {
+    for row in &CHOSEN {
+        let (cuts, chosen, ends) = *row;
         assert!(rt; shows(&ranges_of(alloc, cuts, chosen)?, ends));
     }
-    for (one, other, ends) in UNIONS {
+    for row in &UNIONS {
+        let (one, other, ends) = *row;
         let one = ranges_of(alloc, one, &[false, true, false])?;
         let other = ranges_of(alloc, other, &[false, true, false])?;
         assert!(rt; shows(&one.union(&other)?, ends));

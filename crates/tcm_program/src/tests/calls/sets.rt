@@ -35,7 +35,8 @@ fn shows(set: &NodeSet, ids: &[u32]) -> bool {
 
 #[test]
 fn sets_of_nodes(rt: HostRuntime) -> Result<(), Fail> {
-    for (one, other, both, rest) in SETS {
+    for row in &SETS {
+        let (one, other, both, rest) = *row;
         let one = set_of(rt.alloc(), one)?;
         let other = set_of(rt.alloc(), other)?;
         let union = one.union(&other)?;

@@ -95,7 +95,8 @@ fn written_again(alloc: Global, text: &str) -> Result<(ByteText, u32), Fail> {
 }
 
 fn texts_are_written_in_one_way<A: Abort>(rt: &A, alloc: Global) -> Result<(), Fail> {
-    for (text, written, total) in TEXTS {
+    for row in &TEXTS {
+        let (text, written, total) = *row;
         let (out, found) = written_again(alloc, text)?;
         assert_eq!(rt; out.as_slice(), written.as_bytes());
         assert_eq!(rt; found, total, "{text}");
@@ -104,7 +105,8 @@ fn texts_are_written_in_one_way<A: Abort>(rt: &A, alloc: Global) -> Result<(), F
 }
 
 fn other_texts_say_nothing<A: Abort>(rt: &A, alloc: Global) -> Result<(), Fail> {
-    for text in NO_TEXTS {
+    for row in &NO_TEXTS {
+        let text = *row;
         let found = Replication::parse(alloc, text)?;
         assert!(rt; found.is_none(), "{text} is a replication");
     }
@@ -119,7 +121,8 @@ fn are_same(alloc: Global, text: &str, other: &str) -> Result<bool, Fail> {
 }
 
 fn some_are_the_same<A: Abort>(rt: &A, alloc: Global) -> Result<(), Fail> {
-    for (text, other, same) in PAIRS {
+    for row in &PAIRS {
+        let (text, other, same) = *row;
         assert_eq!(rt; are_same(alloc, text, other)?, same, "{text}, {other}");
     }
     Ok(())
@@ -136,7 +139,8 @@ fn make_factors(alloc: Global, names: &[&str]) -> Result<bool, Fail> {
 }
 
 fn factors_ascend<A: Abort>(rt: &A, alloc: Global) -> Result<(), Fail> {
-    for (names, good) in FACTORS {
+    for row in &FACTORS {
+        let (names, good) = *row;
         assert_eq!(rt; make_factors(alloc, names)?, good);
     }
     Ok(())

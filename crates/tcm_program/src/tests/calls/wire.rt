@@ -346,19 +346,23 @@ fn nested(alloc: Global, count: usize) -> Result<Vec<u8>, Fail> {
 /// Parts of a line that break a rule.
 fn parts_break_rules<A: Abort>(rt: &A, alloc: Global) -> Result<(), Fail> {
     let cancel = "{\"kind\":\"cancel\",\"node\":4}";
-    for id in NO_IDS {
+    for row in &NO_IDS {
+        let id = *row;
         let line = line_of(alloc, cancel, id, "1")?;
         assert_eq!(rt; rule_of(alloc, line.as_bytes())?, 4, "{id}");
     }
-    for epoch in NO_EPOCHS {
+    for row in &NO_EPOCHS {
+        let epoch = *row;
         let line = line_of(alloc, cancel, "0", epoch)?;
         assert_eq!(rt; rule_of(alloc, line.as_bytes())?, 4, "{epoch}");
     }
-    for command in NO_COMMANDS {
+    for row in &NO_COMMANDS {
+        let command = *row;
         let line = line_of(alloc, command, "0", "1")?;
         assert_eq!(rt; rule_of(alloc, line.as_bytes())?, 5, "{command}");
     }
-    for tokens in NO_TOKENS {
+    for row in &NO_TOKENS {
+        let tokens = *row;
         assert_eq!(rt; rule_of_tokens(alloc, tokens)?, 5, "{tokens}");
     }
     Ok(())
@@ -378,10 +382,12 @@ fn limits_hold<A: Abort>(rt: &A, alloc: Global) -> Result<(), Fail> {
 #[test]
 fn entry_lines(rt: HostRuntime) -> Result<(), Fail> {
     let alloc = rt.alloc();
-    for (words, text) in COMMANDS {
+    for row in &COMMANDS {
+        let (words, text) = *row;
         goes_both_ways(&rt, alloc, words, text)?;
     }
-    for (words, line) in SPELLINGS {
+    for row in &SPELLINGS {
+        let (words, line) = *row;
         let entry = Entry {
             id: 1,
             epoch: 2,
@@ -390,7 +396,8 @@ fn entry_lines(rt: HostRuntime) -> Result<(), Fail> {
         let found = read(alloc, line.as_bytes())?.ok_or(line)?;
         assert!(rt; found.same(&entry), "{line}");
     }
-    for (rule, line) in BROKEN {
+    for row in &BROKEN {
+        let (rule, line) = *row;
         assert_eq!(rt; rule_of(alloc, line)?, rule);
     }
     parts_break_rules(&rt, alloc)?;

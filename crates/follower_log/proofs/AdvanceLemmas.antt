@@ -1,0 +1,204 @@
+-- How an advance goes: what one entry leads to, and where it ends among the entries of a log.
+use Rattle.std.proofs.Common.{nat_le, ◌≡◌, ℕ, ◌+◌, ◌<◌, ◌≤◌, Bool, true, false, ◌==◌, if◌then◌else◌, List, [], ◌∷◌, drop, Option, Some, None, Result, Ok, Err, true≢false, refl, sym, ap, ◌∙◌, subst, eq-eqb, arith}
+use Rattle.std.proofs.lemmas.Bool.{and_parts, eqb-true, ne_eqb}
+use Rattle.std.proofs.lemmas.Bool.Decides.{nat_tests}
+use Rattle.std.proofs.lemmas.Option.{none-some}
+use Rattle.transformations.proofs.commands.SameLemmas.{same_command_tells}
+use Rattle.transformations.proofs.histories.HistoryLemmas.{next-epoch}
+use Rattle.transformations.specs.History.{next_image}
+use Rattle.transformations.specs.Refusals.{refusal_of}
+use Rattle.transformations.specs.Same.{same_command}
+use Rattle.transformations.specs.declared.command.Command.{Command}
+use Rattle.transformations.specs.declared.entry.Entry.{Entry}
+use Rattle.transformations.specs.declared.image.Image.{Image}
+use Rattle.transformations.specs.declared.refusal.Refusal.{Refusal}
+use Rattle.follower_log.specs.Follower.{ComesTo, FollowerState, IsAdvance, IsCutFrom, IsCutPast, advanced, cut_first, hand_above, hand_entry, hand_image, is_full, is_next, is_same, stays, Handed, waiting_at}
+use Rattle.follower_log.specs.Kept.{Advances, ComesFirst, Leads, first_of}
+use Rattle.cluster_metadata.specs.Permission.{ShowsRefusal}
+use Rattle.cluster_metadata.specs.declared.admit_fault.AdmitFault.{AdmitFault}
+use Rattle.cluster_metadata.specs.declared.admit_fault.AdmitFault.TheVariants as admit
+use Rattle.follower_log.specs.declared.fault.FollowerFault.{FollowerFault}
+use Rattle.follower_log.specs.declared.fault.FollowerFault.TheVariants.{Fork, Refused, Memory, MemoryAt}
+use Rattle.follower_log.specs.declared.took.Took.{Took}
+use Rattle.follower_log.specs.declared.took.Took.TheVariants.{At, Old, Held, Full}
+
+-- ---- the first entry
+
+-- a next entry that is accepted is applied, and the rest follows
+pub advanced_on : (image : Image) (entry : Entry) (waiting : List Entry) → is_next image entry ≡ true → refusal_of image entry.cmd ≡ None
+    → advanced image (entry ∷ waiting) ≡ cut_first image (entry ∷ waiting) (advanced (next_image image entry.cmd) waiting)
+advanced_on image entry waiting next accepted = rw (next, accepted) refl
+
+-- a next entry that is refused is dropped
+pub advanced_refused : (image : Image) (entry : Entry) (waiting : List Entry) (refusal : Refusal) → is_next image entry ≡ true → refusal_of image entry.cmd ≡ Some refusal
+    → advanced image (entry ∷ waiting) ≡ cut_first image (entry ∷ waiting) (stays (record { image = image; waiting = waiting }) (Err (Refused entry.epoch refusal)))
+advanced_refused image entry waiting refusal next refused = rw (next, refused) refl
+
+-- an entry past a gap is left
+pub advanced_stays : (image : Image) (entry : Entry) (waiting : List Entry) → is_next image entry ≡ false
+    → advanced image (entry ∷ waiting) ≡ stays (record { image = image; waiting = entry ∷ waiting }) (Ok (At image.epoch))
+advanced_stays image entry waiting past = rw past refl
+
+-- ---- two entries of one epoch
+
+-- an entry that is the one that waits is held; another one is a fork
+pub compared_same : (f : FollowerState) (held came : Entry) → held ≡ came → hand_above f came (Some held) ≡ stays f (Ok (Held f.image.epoch))
+compared_same f held came same =
+    let is : is_same held came ≡ true = rw same (rw (eq-eqb came.id came.id refl) ((same_command_tells came.cmd came.cmd).1 refl)) in
+    rw is refl
+
+pub compared_other : (f : FollowerState) (held came : Entry) → held.epoch ≡ came.epoch → (held ≡ came → ⊥) → hand_above f came (Some held) ≡ stays f (Err (Fork came.epoch held came))
+compared_other f held came epochs apart = by (is_same held came) refl
+  where
+    equal : held.id ≡ came.id → held.epoch ≡ came.epoch → held.cmd ≡ came.cmd → held ≡ came
+    equal ids same cmds =
+        let by_id : ℕ → Entry = λ i. record { id = i; epoch = held.epoch; cmd = held.cmd } in
+        let by_epoch : ℕ → Entry = λ e. record { id = came.id; epoch = e; cmd = held.cmd } in
+        let by_cmd : Command → Entry = λ c. record { id = came.id; epoch = came.epoch; cmd = c } in
+        ap by_id ids ∙ ap by_epoch same ∙ ap by_cmd cmds
+
+    by : (b : Bool) → is_same held came ≡ b → hand_above f came (Some held) ≡ stays f (Err (Fork came.epoch held came))
+    by true is =
+        let parts = and_parts (held.id == came.id) (same_command held.cmd came.cmd) is in
+        let ids : held.id ≡ came.id = eqb-true held.id came.id parts.0 in
+        let cmds : held.cmd ≡ came.cmd = (same_command_tells held.cmd came.cmd).0 parts.1 in
+        absurd (apart (equal ids epochs cmds))
+    by false is = rw is refl
+
+-- the fault that names a refusal shows it
+pub shows_refused : (first : Option Refusal) (fault : AdmitFault) (refusal : Refusal) → fault ≡ admit.Refused refusal → ShowsRefusal first fault → first ≡ Some refusal
+shows_refused first fault refusal is shows = subst (ShowsRefusal first) is shows
+
+-- ---- one entry more is applied
+
+pub leads_from : (before after : FollowerState) (entry : Entry) → Some entry ≡ first_of before.waiting → after.waiting ≡ drop 1 before.waiting → entry.epoch ≡ before.image.epoch + 1
+    → refusal_of before.image entry.cmd ≡ None → after.image ≡ next_image before.image entry.cmd → Leads before after
+leads_from before after entry first rest next accepted image = record {
+  entry = entry;
+  waiting = parts before.waiting first ∙ ap (λ l. entry ∷ l) (sym rest);
+  next = eq-eqb entry.epoch (before.image.epoch + 1) next;
+  accepted = accepted;
+  image = image;
+}
+  where
+    parts : (waiting : List Entry) → Some entry ≡ first_of waiting → waiting ≡ entry ∷ drop 1 waiting
+    parts [] first = absurd (none-some entry (sym first))
+    parts (e ∷ waiting) first = (let own : entry ≡ e = cc first in ap (λ x. x ∷ waiting) (sym own))
+
+-- what the rest of an advance comes to, the whole comes to
+pub advances_on : (before after : FollowerState) (result : Result Took FollowerFault) (end : FollowerState) → Leads before after → Advances after result end → Advances before result end
+advances_on before after result end leads goes = by result goes
+  where
+    on : advanced before.image before.waiting ≡ cut_first before.image before.waiting (advanced after.image after.waiting)
+    on =
+        ap (advanced before.image) leads.waiting
+        ∙ advanced_on before.image leads.entry after.waiting leads.next leads.accepted
+        ∙ ap (λ i. cut_first before.image (leads.entry ∷ after.waiting) (advanced i after.waiting)) (sym leads.image)
+        ∙ ap (λ w. cut_first before.image w (advanced after.image after.waiting)) (sym leads.waiting)
+
+    up : after.image.epoch ≡ before.image.epoch + 1
+    up = ap (λ (i : Image). i.epoch) leads.image ∙ next-epoch before.image leads.entry.cmd
+
+    later : (epoch : ℕ) → after.image.epoch ≤ epoch → (before.image.epoch == epoch) ≡ false
+    later epoch low = ne_eqb before.image.epoch epoch (λ same. omega (arith, same, up, low))
+
+    by : (result' : Result Took FollowerFault) → Advances after result' end → ComesTo before (advanced before.image before.waiting) result' end × IsAdvance before.image.epoch result'
+    by (Ok (At e)) ((same, there), low) = (subst (λ step. ComesTo before step (Ok (At e)) end) (sym on) (same, there), omega (arith, low, up))
+    by (Err (Refused e r)) ((same, there), low) = (subst (λ step. ComesTo before step (Err (Refused e r)) end) (sym on) (same, there), omega (arith, low, up))
+    by (Err (MemoryAt e)) (cut, low) =
+        let here : (if before.image.epoch == e then Some before else (advanced after.image after.waiting).cut e) ≡ Some end = rw (later e low) cut in
+        (subst (λ step. ComesTo before step (Err (MemoryAt e)) end) (sym on) here, omega (arith, low, up))
+    by (Ok (Old e)) (done, low) = absurd low
+    by (Ok (Held e)) (done, low) = absurd low
+    by (Ok (Full e)) (done, low) = absurd low
+    by (Err Memory) (done, low) = absurd low
+    by (Err (Fork e held came)) (done, low) = absurd low
+
+-- the answer of one step: an entry was applied, or the advance ends where it is
+pub leads_if : (before after : FollowerState) (b : Bool) → b ≡ true → ComesFirst before (Ok b) after → Leads before after
+leads_if before after true is comes = comes
+leads_if before after false is comes = absurd (true≢false (sym is))
+
+pub ends_if : (before after : FollowerState) (b : Bool) (epoch : ℕ) → b ≡ false → epoch ≡ after.image.epoch → ComesFirst before (Ok b) after → Advances before (Ok (At epoch)) after
+ends_if before after true epoch is at comes = absurd (true≢false is)
+ends_if before after false epoch is at (same, ends) = subst (λ e. Advances before (Ok (At e)) after) (sym (at ∙ ap (λ (f : FollowerState). f.image.epoch) same)) ends
+
+-- an advance never answers that nothing was taken, so any follower may stand before it
+pub any_before : (before other end : FollowerState) (result : Result Took FollowerFault) → Advances before result end → ComesTo other (advanced before.image before.waiting) result end
+any_before before other end (Ok (At e)) (comes, low) = comes
+any_before before other end (Err (Refused e r)) (comes, low) = comes
+any_before before other end (Err (MemoryAt e)) (comes, low) = comes
+any_before before other end (Ok (Old e)) (comes, low) = absurd low
+any_before before other end (Ok (Held e)) (comes, low) = absurd low
+any_before before other end (Ok (Full e)) (comes, low) = absurd low
+any_before before other end (Err Memory) (comes, low) = absurd low
+any_before before other end (Err (Fork e held came)) (comes, low) = absurd low
+
+pub cut_past : (epoch low : ℕ) (result : Result Took FollowerFault) → epoch < low → IsAdvance low result → IsCutPast epoch result
+cut_past epoch low (Err (MemoryAt e)) past up = omega (arith, past, up)
+cut_past epoch low (Ok t) past up = tt
+cut_past epoch low (Err (Refused e r)) past up = tt
+cut_past epoch low (Err Memory) past up = tt
+cut_past epoch low (Err (Fork e held came)) past up = tt
+
+-- a step that changes nothing isn't cut
+pub stay_past : (epoch : ℕ) (before after : FollowerState) (answer result : Result Took FollowerFault) → ComesTo before (stays before answer) result after → IsCutPast epoch result
+stay_past epoch before after answer (Err (MemoryAt e)) cut = absurd (none-some after cut)
+stay_past epoch before after answer (Ok t) cut = tt
+stay_past epoch before after answer (Err (Refused e r)) cut = tt
+stay_past epoch before after answer (Err Memory) cut = tt
+stay_past epoch before after answer (Err (Fork e held came)) cut = tt
+
+-- and neither is one that compares two entries of an epoch
+pub compared_past : (epoch : ℕ) (f : FollowerState) (held came : Entry) (result : Result Took FollowerFault) → ComesTo f (hand_above f came (Some held)) result f → IsCutPast epoch result
+compared_past epoch f held came result comes = stay_past epoch f f _ result comes
+
+-- ---- where a step can be cut
+
+cut_low : (image : Image) (waiting : List Entry) (epoch : ℕ) (after : FollowerState) → (advanced image waiting).cut epoch ≡ Some after → image.epoch ≤ epoch
+cut_low image [] epoch after cut = absurd (none-some after cut)
+cut_low image (entry ∷ waiting) epoch after cut = by (cut_low (next_image image entry.cmd) waiting epoch after) (is_next image entry) refl (refusal_of image entry.cmd) refl
+  where
+    here : (step : Handed) → (step.cut epoch ≡ Some after → image.epoch ≤ epoch) → (cut_first image (entry ∷ waiting) step).cut epoch ≡ Some after → image.epoch ≤ epoch
+    here step later cut = at (image.epoch == epoch) refl cut
+      where
+        at : (b : Bool) → (image.epoch == epoch) ≡ b → (if b then Some (record { image = image; waiting = entry ∷ waiting }) else step.cut epoch) ≡ Some after → image.epoch ≤ epoch
+        at true same cut = omega (arith, eqb-true image.epoch epoch same)
+        at false other cut = later cut
+
+    by : ((advanced (next_image image entry.cmd) waiting).cut epoch ≡ Some after → (next_image image entry.cmd).epoch ≤ epoch) → (b : Bool) → is_next image entry ≡ b → (o : Option Refusal) → refusal_of image entry.cmd ≡ o → image.epoch ≤ epoch
+    by later false gap o is = absurd (none-some after (subst (λ (h : Handed). h.cut epoch ≡ Some after) (advanced_stays image entry waiting gap) cut))
+    by later true next (Some refusal) is = here (stays (record { image = image; waiting = waiting }) (Err (Refused entry.epoch refusal))) (λ e. absurd (none-some after e)) (subst (λ (h : Handed). h.cut epoch ≡ Some after) (advanced_refused image entry waiting refusal next is) cut)
+    by later true next None is =
+        here (advanced (next_image image entry.cmd) waiting) (λ e. omega (arith, later e, next-epoch image entry.cmd)) (subst (λ (h : Handed). h.cut epoch ≡ Some after) (advanced_on image entry waiting next is) cut)
+
+-- a call that comes to an advance from an image is cut no further back than there, and neither is one that changes nothing
+pub cut_from_advance : (epoch : ℕ) (image : Image) (waiting : List Entry) (before after : FollowerState) (result : Result Took FollowerFault) → epoch ≤ image.epoch → ComesTo before (advanced image waiting) result after → IsCutFrom epoch result
+cut_from_advance epoch image waiting before after (Err (MemoryAt e)) up cut = omega (arith, up, cut_low image waiting e after cut)
+cut_from_advance epoch image waiting before after (Ok t) up comes = tt
+cut_from_advance epoch image waiting before after (Err (Refused e r)) up comes = tt
+cut_from_advance epoch image waiting before after (Err Memory) up comes = tt
+cut_from_advance epoch image waiting before after (Err (Fork e held came)) up comes = tt
+
+cut_from_stay : (epoch : ℕ) (before after : FollowerState) (answer result : Result Took FollowerFault) → ComesTo before (stays before answer) result after → IsCutFrom epoch result
+cut_from_stay epoch before after answer (Err (MemoryAt e)) cut = absurd (none-some after cut)
+cut_from_stay epoch before after answer (Ok t) comes = tt
+cut_from_stay epoch before after answer (Err (Refused e r)) comes = tt
+cut_from_stay epoch before after answer (Err Memory) comes = tt
+cut_from_stay epoch before after answer (Err (Fork e held came)) comes = tt
+
+pub cut_from_entry : (f g : FollowerState) (entry : Entry) (result : Result Took FollowerFault) → ComesTo f (hand_entry f entry) result g → IsCutFrom f.image.epoch result
+cut_from_entry f g entry result comes = by (nat_le entry.epoch f.image.epoch) refl (waiting_at f.waiting entry.epoch) refl (is_full f entry) refl
+  where
+    by : (low : Bool) → nat_le entry.epoch f.image.epoch ≡ low → (held : Option Entry) → waiting_at f.waiting entry.epoch ≡ held → (full : Bool) → is_full f entry ≡ full → IsCutFrom f.image.epoch result
+    by true e held is full many = cut_from_stay f.image.epoch f g _ result (rw e at comes)
+    by false e (Some held) is full many = cut_from_stay f.image.epoch f g _ result (rw (e, is) at comes)
+    by false e None is true many = cut_from_stay f.image.epoch f g _ result (rw (e, is, many) at comes)
+    by false e None is false many = cut_from_advance f.image.epoch f.image _ f g result (omega arith) (rw (e, is, many) at comes)
+
+pub cut_from_image : (f g : FollowerState) (image : Image) (result : Result Took FollowerFault) → ComesTo f (hand_image f image) result g → IsCutFrom f.image.epoch result
+cut_from_image f g image result comes = by (nat_le image.epoch f.image.epoch) refl
+  where
+    by : (low : Bool) → nat_le image.epoch f.image.epoch ≡ low → IsCutFrom f.image.epoch result
+    by true e = cut_from_stay f.image.epoch f g _ result (rw e at comes)
+    by false e = (let past : f.image.epoch < image.epoch = grind (arith, nat_tests) in cut_from_advance f.image.epoch image _ f g result (omega (arith, past)) (rw e at comes))

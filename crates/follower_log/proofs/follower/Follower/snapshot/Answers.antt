@@ -1,0 +1,10 @@
+use Rattle.follower_log.proofs.AdvanceLemmas.{cut_from_image}
+use Rattle.follower_log.proofs.ShowsLemmas.{image_shows}
+use Rattle.follower_log.proofs.follower.Follower.snapshot.Goals as goal
+
+pub returns-clause-shows : goal.returns-clause-shows
+returns-clause-shows c log taken is of stands =
+    image_shows log taken c.args.self.now c.hand_over_image.new.self c.args.image c.hand_over_image.result is of stands c.hand_over_image.ensures
+
+pub returns-clause-least : goal.returns-clause-least
+returns-clause-least c = cut_from_image c.args.self.now c.hand_over_image.new.self c.args.image c.hand_over_image.result c.hand_over_image.ensures

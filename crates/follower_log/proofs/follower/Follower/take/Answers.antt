@@ -1,0 +1,16 @@
+use Rattle.std.proofs.Common.{sym, ap, subst, arith}
+use Rattle.follower_log.proofs.KeptLemmas.{can_wait-put}
+use Rattle.follower_log.specs.Follower.{FollowerState}
+use Rattle.follower_log.specs.Kept.{CanWait, CanWaitAt}
+use Rattle.follower_log.proofs.follower.Follower.take.Goals as goal
+
+pub invariant_of-self-2 : goal.invariant_of-self-2
+invariant_of-self-2 c =
+    let at = ap (λ (f : FollowerState). f.image.epoch) c.self.view_is in
+    let own : CanWaitAt c.self.inside.metadata.epoch c.args.entry.now = record {
+      above = omega (arith, c.requires.above, at);
+      within = c.requires.epoch;
+      formed = c.requires.formed;
+    } in
+    let one : CanWaitAt c.self.inside.metadata.epoch c.in_ok-copy.field-0 = subst (CanWaitAt c.self.inside.metadata.epoch) (sym c.in_ok-copy.ensures) own in
+    subst (CanWait c.self.inside.metadata.epoch) (sym c.in_ok-insert.ensures.ok) (can_wait-put c.self.inside.metadata.epoch c.in_ok-copy.field-0 c.self.inside.waiting one c.self.invariant)

@@ -1,0 +1,94 @@
+//! The entries that wait, by epoch.
+
+ghost use Rattle.std.specs.Prelude.{◌≡◌, [], drop, filter, length, nat_lt, None, OnErr, OnOk};
+ghost use Rattle.std.specs.Option.{option_copied};
+ghost use Rattle.cluster_terms.specs.Ascending.{put};
+ghost use Rattle.follower_log.specs.Follower.{by_epoch, waiting_at};
+ghost use Rattle.follower_log.specs.Kept.{AreAbove, first_of};
+
+use cluster_terms::Memory;
+use std::alloc::Global;
+use std::collections::BTreeMap;
+use std::marker::Model;
+use transformations::Entry;
+
+/// Entries that ascend by epoch, no two at one epoch.
+#[derive(Debug, Drop)]
+pub struct Waiting {
+    by_epoch: BTreeMap<u64, Entry>,
+}
+
+impl Model for Waiting {
+    ghost use Rattle.std.specs.Prelude.{List};
+    ghost use Rattle.std.specs.Map.{values_of};
+    ghost use Rattle.transformations.specs.declared.entry.Entry.{Entry};
+    ghost use Rattle.follower_log.specs.Kept.{AreByEpoch};
+
+    ghost Value = { List Entry };
+
+    ghost view = { λ waiting. values_of waiting.by_epoch.entries };
+
+    ghost invariant = { λ waiting. AreByEpoch waiting.by_epoch.entries };
+}
+
+impl Waiting {
+    /// No entry. Takes no memory.
+    pub fn empty(alloc: Global) -> Waiting
+        ensures { result ≡ [] }
+    {
+        Waiting {
+            by_epoch: BTreeMap::new(alloc),
+        }
+    }
+
+    /// The number of entries.
+    pub fn len(&self) -> usize
+        ensures { result ≡ length self.now }
+    {
+        self.by_epoch.len()
+    }
+
+    /// The entry of an epoch. The cost is a search by epoch.
+    pub fn at(&self, epoch: u64) -> Option<&Entry>
+        ensures { option_copied result ≡ waiting_at self.now epoch }
+    {
+        self.by_epoch.get(&epoch)
+    }
+
+    /// The entry of the least epoch.
+    pub fn first(&self) -> Option<&Entry>
+        ensures { option_copied result ≡ first_of self.now }
+    {
+        match self.by_epoch.first_key_value() {
+            Some((_epoch, entry)) => Some(entry),
+            None => None,
+        }
+    }
+
+    /// Adds an entry whose epoch no entry has. If memory runs out, nothing is added. The cost is a search by epoch.
+    pub fn insert(&mut self, entry: Entry) -> Result<(), Memory>
+        requires { waiting_at self.old entry.epoch ≡ None }
+        ensures ok { OnOk result (self.new ≡ put by_epoch entry self.old) }
+        ensures err { OnErr result (self.new ≡ self.old) }
+    {
+        match self.by_epoch.insert(entry.epoch, entry) {
+            Ok(_) => Ok(()),
+            Err(_) => Err(Memory),
+        }
+    }
+
+    /// Drops the entry of the least epoch, if there is one. Takes no memory.
+    pub fn drop_first(&mut self)
+        ensures others { self.new ≡ drop 1 self.old }
+        ensures above { AreAbove (first_of self.old) self.new }
+    {
+        let _first = self.by_epoch.pop_first();
+    }
+
+    /// Drops the entries whose epoch is at most this one. Takes no memory.
+    pub fn drop_to(&mut self, epoch: u64)
+        ensures { self.new ≡ filter (λ entry. nat_lt epoch entry.epoch) self.old }
+    {
+        self.by_epoch.retain(|kept, _| *kept > epoch);
+    }
+}

@@ -1,0 +1,13 @@
+-- The tokens that a change of a ring reaches.
+-- Of the code: no promise rests on these.
+use Rattle.std.specs.Prelude.{Bool, ℤ, List}
+use Rattle.cluster_terms.specs.Group.{Group}
+use Rattle.cluster_terms.specs.Reach.{is_reached, is_reached_in}
+use Rattle.ring_reach.specs.declared.change.Change.{Change}
+
+-- whether a change reaches a token in a group, and whether it reaches a token in any of several groups
+abbrev pub reaches_in : Change → Group → ℤ → Bool
+reaches_in change g = λ x. is_reached_in change.fixed.now change.widest.now change.moved.now x g
+
+abbrev pub reaches_any : Change → List Group → ℤ → Bool
+reaches_any change gs = λ x. is_reached gs change.fixed.now change.widest.now change.moved.now x

@@ -1,4 +1,0 @@
-use Rattle.tcm_session.proofs.replay.admitted.Given as goal
-
-abbrev pub ghosts-counted : goal.ghosts-counted
-ghosts-counted a = record { name = a.blank.name; parts = a.blank.parts }

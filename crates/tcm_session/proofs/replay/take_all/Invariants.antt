@@ -1,8 +1,0 @@
-use Rattle.std.proofs.Common.{◌≡◌}
-use Rattle.transformations.specs.History.{state_after}
-use Rattle.transformations.specs.Log.{commands_of}
-use Rattle.tcm_session.proofs.replay.take_all.Given as goal
-
--- the entries before this one are taken over
-abbrev pub invariant-loop-before : goal.invariant-loop-before
-invariant-loop-before l = l.metadata ≡ state_after (commands_of l.log) l.before
