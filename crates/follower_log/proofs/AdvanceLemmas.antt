@@ -12,7 +12,7 @@ use Rattle.transformations.specs.declared.command.Command.{Command}
 use Rattle.transformations.specs.declared.entry.Entry.{Entry}
 use Rattle.transformations.specs.declared.image.Image.{Image}
 use Rattle.transformations.specs.declared.refusal.Refusal.{Refusal}
-use Rattle.follower_log.specs.Follower.{ComesTo, FollowerState, IsAdvance, IsCutFrom, IsCutPast, advanced, cut_first, hand_above, hand_entry, hand_image, is_full, is_next, is_same, stays, Handed, waiting_at}
+use Rattle.follower_log.specs.Follower.{Performs, FollowerState, IsAdvance, IsCutFrom, IsCutPast, advanced, cut_first, hand_above, hand_entry, hand_image, is_full, is_next, is_same, stays, Handed, waiting_at}
 use Rattle.follower_log.specs.Kept.{Advances, ComesFirst, Leads, first_of}
 use Rattle.cluster_metadata.specs.Permission.{ShowsRefusal}
 use Rattle.cluster_metadata.specs.declared.admit_fault.AdmitFault.{AdmitFault}
@@ -102,12 +102,12 @@ advances_on before after result end leads goes = by result goes
     later : (epoch : ℕ) → after.image.epoch ≤ epoch → (before.image.epoch == epoch) ≡ false
     later epoch low = ne_eqb before.image.epoch epoch (λ same. omega (arith, same, up, low))
 
-    by : (result' : Result Took FollowerFault) → Advances after result' end → ComesTo before (advanced before.image before.waiting) result' end × IsAdvance before.image.epoch result'
-    by (Ok (At e)) ((same, there), low) = (subst (λ step. ComesTo before step (Ok (At e)) end) (sym on) (same, there), omega (arith, low, up))
-    by (Err (Refused e r)) ((same, there), low) = (subst (λ step. ComesTo before step (Err (Refused e r)) end) (sym on) (same, there), omega (arith, low, up))
+    by : (result' : Result Took FollowerFault) → Advances after result' end → Performs before (advanced before.image before.waiting) result' end × IsAdvance before.image.epoch result'
+    by (Ok (At e)) ((same, there), low) = (subst (λ step. Performs before step (Ok (At e)) end) (sym on) (same, there), omega (arith, low, up))
+    by (Err (Refused e r)) ((same, there), low) = (subst (λ step. Performs before step (Err (Refused e r)) end) (sym on) (same, there), omega (arith, low, up))
     by (Err (MemoryAt e)) (cut, low) =
         let here : (if before.image.epoch == e then Some before else (advanced after.image after.waiting).cut e) ≡ Some end = rw (later e low) cut in
-        (subst (λ step. ComesTo before step (Err (MemoryAt e)) end) (sym on) here, omega (arith, low, up))
+        (subst (λ step. Performs before step (Err (MemoryAt e)) end) (sym on) here, omega (arith, low, up))
     by (Ok (Old e)) (done, low) = absurd low
     by (Ok (Held e)) (done, low) = absurd low
     by (Ok (Full e)) (done, low) = absurd low
@@ -124,7 +124,7 @@ ends_if before after true epoch is at comes = absurd (true≢false is)
 ends_if before after false epoch is at (same, ends) = subst (λ e. Advances before (Ok (At e)) after) (sym (at ∙ ap (λ (f : FollowerState). f.image.epoch) same)) ends
 
 -- an advance never answers that nothing was taken, so any follower may stand before it
-pub any_before : (before other end : FollowerState) (result : Result Took FollowerFault) → Advances before result end → ComesTo other (advanced before.image before.waiting) result end
+pub any_before : (before other end : FollowerState) (result : Result Took FollowerFault) → Advances before result end → Performs other (advanced before.image before.waiting) result end
 any_before before other end (Ok (At e)) (comes, low) = comes
 any_before before other end (Err (Refused e r)) (comes, low) = comes
 any_before before other end (Err (MemoryAt e)) (comes, low) = comes
@@ -142,7 +142,7 @@ cut_past epoch low (Err Memory) past up = tt
 cut_past epoch low (Err (Fork e held came)) past up = tt
 
 -- a step that changes nothing isn't cut
-pub stay_past : (epoch : ℕ) (before after : FollowerState) (answer result : Result Took FollowerFault) → ComesTo before (stays before answer) result after → IsCutPast epoch result
+pub stay_past : (epoch : ℕ) (before after : FollowerState) (answer result : Result Took FollowerFault) → Performs before (stays before answer) result after → IsCutPast epoch result
 stay_past epoch before after answer (Err (MemoryAt e)) cut = absurd (none-some after cut)
 stay_past epoch before after answer (Ok t) cut = tt
 stay_past epoch before after answer (Err (Refused e r)) cut = tt
@@ -150,7 +150,7 @@ stay_past epoch before after answer (Err Memory) cut = tt
 stay_past epoch before after answer (Err (Fork e held came)) cut = tt
 
 -- and neither is one that compares two entries of an epoch
-pub compared_past : (epoch : ℕ) (f : FollowerState) (held came : Entry) (result : Result Took FollowerFault) → ComesTo f (hand_above f came (Some held)) result f → IsCutPast epoch result
+pub compared_past : (epoch : ℕ) (f : FollowerState) (held came : Entry) (result : Result Took FollowerFault) → Performs f (hand_above f came (Some held)) result f → IsCutPast epoch result
 compared_past epoch f held came result comes = stay_past epoch f f _ result comes
 
 -- ---- where a step can be cut
@@ -173,21 +173,21 @@ cut_low image (entry ∷ waiting) epoch after cut = by (cut_low (next_image imag
         here (advanced (next_image image entry.cmd) waiting) (λ e. omega (arith, later e, next-epoch image entry.cmd)) (subst (λ (h : Handed). h.cut epoch ≡ Some after) (advanced_on image entry waiting next is) cut)
 
 -- a call that comes to an advance from an image is cut no further back than there, and neither is one that changes nothing
-pub cut_from_advance : (epoch : ℕ) (image : Image) (waiting : List Entry) (before after : FollowerState) (result : Result Took FollowerFault) → epoch ≤ image.epoch → ComesTo before (advanced image waiting) result after → IsCutFrom epoch result
+pub cut_from_advance : (epoch : ℕ) (image : Image) (waiting : List Entry) (before after : FollowerState) (result : Result Took FollowerFault) → epoch ≤ image.epoch → Performs before (advanced image waiting) result after → IsCutFrom epoch result
 cut_from_advance epoch image waiting before after (Err (MemoryAt e)) up cut = omega (arith, up, cut_low image waiting e after cut)
 cut_from_advance epoch image waiting before after (Ok t) up comes = tt
 cut_from_advance epoch image waiting before after (Err (Refused e r)) up comes = tt
 cut_from_advance epoch image waiting before after (Err Memory) up comes = tt
 cut_from_advance epoch image waiting before after (Err (Fork e held came)) up comes = tt
 
-cut_from_stay : (epoch : ℕ) (before after : FollowerState) (answer result : Result Took FollowerFault) → ComesTo before (stays before answer) result after → IsCutFrom epoch result
+cut_from_stay : (epoch : ℕ) (before after : FollowerState) (answer result : Result Took FollowerFault) → Performs before (stays before answer) result after → IsCutFrom epoch result
 cut_from_stay epoch before after answer (Err (MemoryAt e)) cut = absurd (none-some after cut)
 cut_from_stay epoch before after answer (Ok t) comes = tt
 cut_from_stay epoch before after answer (Err (Refused e r)) comes = tt
 cut_from_stay epoch before after answer (Err Memory) comes = tt
 cut_from_stay epoch before after answer (Err (Fork e held came)) comes = tt
 
-pub cut_from_entry : (f g : FollowerState) (entry : Entry) (result : Result Took FollowerFault) → ComesTo f (hand_entry f entry) result g → IsCutFrom f.image.epoch result
+pub cut_from_entry : (f g : FollowerState) (entry : Entry) (result : Result Took FollowerFault) → Performs f (hand_entry f entry) result g → IsCutFrom f.image.epoch result
 cut_from_entry f g entry result comes = by (nat_le entry.epoch f.image.epoch) refl (waiting_at f.waiting entry.epoch) refl (is_full f entry) refl
   where
     by : (low : Bool) → nat_le entry.epoch f.image.epoch ≡ low → (held : Option Entry) → waiting_at f.waiting entry.epoch ≡ held → (full : Bool) → is_full f entry ≡ full → IsCutFrom f.image.epoch result
@@ -196,7 +196,7 @@ cut_from_entry f g entry result comes = by (nat_le entry.epoch f.image.epoch) re
     by false e None is true many = cut_from_stay f.image.epoch f g _ result (rw (e, is, many) at comes)
     by false e None is false many = cut_from_advance f.image.epoch f.image _ f g result (omega arith) (rw (e, is, many) at comes)
 
-pub cut_from_image : (f g : FollowerState) (image : Image) (result : Result Took FollowerFault) → ComesTo f (hand_image f image) result g → IsCutFrom f.image.epoch result
+pub cut_from_image : (f g : FollowerState) (image : Image) (result : Result Took FollowerFault) → Performs f (hand_image f image) result g → IsCutFrom f.image.epoch result
 cut_from_image f g image result comes = by (nat_le image.epoch f.image.epoch) refl
   where
     by : (low : Bool) → nat_le image.epoch f.image.epoch ≡ low → IsCutFrom f.image.epoch result

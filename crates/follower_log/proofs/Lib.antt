@@ -1,5 +1,7 @@
 pub mod AdvanceLemmas
 pub mod AmongLemmas
+pub mod CutLemmas
+pub mod GrowthLemmas
 pub mod KeptLemmas
 pub mod PrefixLemmas
 pub mod ShowsLemmas

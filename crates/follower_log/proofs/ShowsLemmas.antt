@@ -15,8 +15,8 @@ use Rattle.transformations.specs.declared.entry.Entry.{Entry}
 use Rattle.transformations.specs.declared.image.Image.{Image}
 use Rattle.follower_log.proofs.AmongLemmas.{OneMore, among_alike, contains_drop, epoch_within, filter_above, found, found_among, put_among}
 use Rattle.follower_log.proofs.PrefixLemmas.{Ends, GoesOn, among, goes_on, log_follows, state_plus}
-use Rattle.follower_log.specs.Follower.{ComesTo, FollowerState, Handed, advanced, by_epoch, empty_follower, hand_above, hand_entry, hand_image, is_full, is_same, stays, waiting_at}
-use Rattle.follower_log.specs.Prefix.{IsImageOf, IsPrefix, Reaches, Shows, StandsFor, Taken, has_entry, is_base, nothing_taken, with_entry, with_image}
+use Rattle.follower_log.specs.Follower.{Performs, FollowerState, Handed, advanced, by_epoch, empty_follower, hand_above, hand_entry, hand_image, is_full, is_same, stays, waiting_at}
+use Rattle.follower_log.specs.Prefix.{IsImageOf, IsPrefix, Reaches, StandsAfter, StandsFor, Taken, has_entry, is_base, nothing_taken, with_entry, with_image}
 use Rattle.follower_log.specs.declared.fault.FollowerFault.{FollowerFault}
 use Rattle.follower_log.specs.declared.fault.FollowerFault.TheVariants.{Fork, Refused, Memory, MemoryAt}
 use Rattle.follower_log.specs.declared.took.Took.{Took}
@@ -149,7 +149,7 @@ longest log taken f stands none = record { reached = stands.reached; longest = m
             absurd (true≢false (sym taken_so ∙ none))
 
 -- no entry past the log was taken
-none_past : (log : List Entry) (taken : Taken) (e : ℕ) → AllByRecursion (λ e. e ≤ length log) taken.entries → length log < e → has_entry taken e ≡ false
+pub none_past : (log : List Entry) (taken : Taken) (e : ℕ) → AllByRecursion (λ e. e ≤ length log) taken.entries → length log < e → has_entry taken e ≡ false
 none_past log taken e all past = by (has_entry taken e) refl
   where
     by : (b : Bool) → has_entry taken e ≡ b → b ≡ false
@@ -173,9 +173,9 @@ goes_prefix log taken k step is base goes =
 -- ---- calls
 
 -- a call that comes to a step that changes nothing
-shows_stay : (log : List Entry) (before after : Taken) (f g : FollowerState) (took : Took) (result : Result Took FollowerFault) → Shows log before after (Ok took) f → StandsFor log before f
-    → ComesTo f (stays f (Ok took)) result g → Shows log before after result g
-shows_stay log before after f g took (Ok t) shows stands (is, same) = subst (λ r. Shows log before after r g) (sym is) (subst (Shows log before after (Ok took)) (sym same) shows)
+shows_stay : (log : List Entry) (before after : Taken) (f g : FollowerState) (took : Took) (result : Result Took FollowerFault) → StandsAfter log before after (Ok took) f → StandsFor log before f
+    → Performs f (stays f (Ok took)) result g → StandsAfter log before after result g
+shows_stay log before after f g took (Ok t) shows stands (is, same) = subst (λ r. StandsAfter log before after r g) (sym is) (subst (StandsAfter log before after (Ok took)) (sym same) shows)
 shows_stay log before after f g took (Err Memory) shows stands same = subst (StandsFor log before) (sym same) stands
 shows_stay log before after f g took (Err (MemoryAt e)) shows stands same = absurd (none-some g same)
 shows_stay log before after f g took (Err (Fork e held came)) shows stands (is, same) = (let clash : Err (Fork e held came) ≡ Ok took = is in absurd cc)
@@ -183,7 +183,7 @@ shows_stay log before after f g took (Err (Refused e r)) shows stands (is, same)
 
 -- a call that comes to an advance from a state of the log
 shows_advance : (log : List Entry) (before after : Taken) (f g : FollowerState) (k : ℕ) (result : Result Took FollowerFault) → IsLog log → Base log after k → StandsFor log before f
-    → ComesTo f (advanced (state_after (commands_of log) k) (among (has_entry after) (drop k log))) result g → Shows log before after result g
+    → Performs f (advanced (state_after (commands_of log) k) (among (has_entry after) (drop k log))) result g → StandsAfter log before after result g
 shows_advance log before after f g k result is base stands comes = by result comes
   where
     step : Handed
@@ -195,7 +195,7 @@ shows_advance log before after f g k result is base stands comes = by result com
     both : StandsFor log after step.after × IsPrefix after step.after.image.epoch
     both = goes_prefix log after k step is base goes
 
-    by : (result : Result Took FollowerFault) → ComesTo f step result g → Shows log before after result g
+    by : (result : Result Took FollowerFault) → Performs f step result g → StandsAfter log before after result g
     by (Ok (At e)) (same, there) = subst (λ h. StandsFor log after h × IsPrefix after h.image.epoch) (sym there) both
     by (Ok (Old e)) (same, there) = (let clash : Ok (Old e) ≡ Ok (At step.after.image.epoch) = same ∙ goes.answer in absurd cc)
     by (Ok (Held e)) (same, there) = (let clash : Ok (Held e) ≡ Ok (At step.after.image.epoch) = same ∙ goes.answer in absurd cc)
@@ -210,20 +210,20 @@ base_of log taken f stands = record { within = stands.within; entries = stands.e
 
 -- an advance without anything handed
 pub advance_shows : (log : List Entry) (taken : Taken) (f g : FollowerState) (result : Result Took FollowerFault) → IsLog log → StandsFor log taken f
-    → ComesTo f (advanced f.image f.waiting) result g → Shows log taken taken result g
+    → Performs f (advanced f.image f.waiting) result g → StandsAfter log taken taken result g
 advance_shows log taken f g result is stands comes =
     shows_advance log taken taken f g f.image.epoch result is (base_of log taken f stands) stands
-    (subst (λ i. ComesTo f (advanced i (among (has_entry taken) (drop f.image.epoch log))) result g) stands.image (subst (λ w. ComesTo f (advanced f.image w) result g) stands.waiting comes))
+    (subst (λ i. Performs f (advanced i (among (has_entry taken) (drop f.image.epoch log))) result g) stands.image (subst (λ w. Performs f (advanced f.image w) result g) stands.waiting comes))
 
 -- an image of the log is handed over
 pub image_shows : (log : List Entry) (taken : Taken) (f g : FollowerState) (image : Image) (result : Result Took FollowerFault) → IsLog log → IsImageOf log image → StandsFor log taken f
-    → ComesTo f (hand_image f image) result g → Shows log taken (with_image taken image.epoch) result g
+    → Performs f (hand_image f image) result g → StandsAfter log taken (with_image taken image.epoch) result g
 image_shows log taken f g image result is of stands comes = by (nat_le image.epoch f.image.epoch) refl
   where
     b : ℕ
     b = image.epoch
 
-    by : (low : Bool) → nat_le image.epoch f.image.epoch ≡ low → Shows log taken (with_image taken image.epoch) result g
+    by : (low : Bool) → nat_le image.epoch f.image.epoch ≡ low → StandsAfter log taken (with_image taken image.epoch) result g
     by true e =
         let old : StandsFor log (with_image taken b) f = record {
           within = stands.within;
@@ -254,11 +254,11 @@ image_shows log taken f g image result is of stands comes = by (nat_le image.epo
         ∙ ap (among (has_entry taken)) (drop-drop n f.image.epoch log ∙ ap (λ m. drop m log) (omega (arith, past))) in
         let step = rw e at comes in
         shows_advance log taken (with_image taken b) f g b result is base stands
-        (subst (λ i. ComesTo f (advanced i (among (has_entry taken) (drop b log))) result g) of.state (subst (λ w. ComesTo f (advanced image w) result g) left step))
+        (subst (λ i. Performs f (advanced i (among (has_entry taken) (drop b log))) result g) of.state (subst (λ w. Performs f (advanced image w) result g) left step))
 
 -- an entry of the log is handed over
 pub entry_shows : (log : List Entry) (taken : Taken) (f g : FollowerState) (entry : Entry) (result : Result Took FollowerFault) → IsLog log → Contains log entry → StandsFor log taken f
-    → ComesTo f (hand_entry f entry) result g → Shows log taken (with_entry taken entry.epoch) result g
+    → Performs f (hand_entry f entry) result g → StandsAfter log taken (with_entry taken entry.epoch) result g
 entry_shows log taken f g entry result is in_it stands comes = by (nat_le entry.epoch k) refl
   where
     k : ℕ
@@ -290,21 +290,21 @@ entry_shows log taken f g entry result is in_it stands comes = by (nat_le entry.
       waiting = stands.waiting ∙ same;
     }
 
-    by : (low : Bool) → nat_le entry.epoch k ≡ low → Shows log taken more result g
+    by : (low : Bool) → nat_le entry.epoch k ≡ low → StandsAfter log taken more result g
     by true e =
         let below : entry.epoch ≤ k = grind (arith, nat_tests) in
         let alike = among_alike (has_entry taken) (has_entry more) (k + 1) (drop k log) numbered (λ x up. sym (one.keeps x (ne_eqb x entry.epoch (λ at. omega (arith, at, up, below))))) in
         shows_stay log taken more f g (Old k) result (still alike) stands (rw e at comes)
     by false e = above (grind (arith, nat_tests)) (rw e at comes)
       where
-        above : k < entry.epoch → ComesTo f (hand_above f entry (waiting_at f.waiting entry.epoch)) result g → Shows log taken more result g
+        above : k < entry.epoch → Performs f (hand_above f entry (waiting_at f.waiting entry.epoch)) result g → StandsAfter log taken more result g
         above past next =
             let in_rest : Contains (drop k log) entry = contains_drop k 1 log entry (numbers_of log is) in_it (omega (arith, past)) in
             let there : waiting_at f.waiting entry.epoch ≡ found (has_entry taken entry.epoch) entry =
             ap (λ w. waiting_at w entry.epoch) stands.waiting ∙ found_among (has_entry taken) (k + 1) (drop k log) entry numbered in_rest in
-            waits (has_entry taken entry.epoch) refl in_rest (subst (λ o. ComesTo f (hand_above f entry o) result g) there next)
+            waits (has_entry taken entry.epoch) refl in_rest (subst (λ o. Performs f (hand_above f entry o) result g) there next)
           where
-            waits : (b : Bool) → has_entry taken entry.epoch ≡ b → Contains (drop k log) entry → ComesTo f (hand_above f entry (found b entry)) result g → Shows log taken more result g
+            waits : (b : Bool) → has_entry taken entry.epoch ≡ b → Contains (drop k log) entry → Performs f (hand_above f entry (found b entry)) result g → StandsAfter log taken more result g
             waits true taken_so in_rest step =
                 let self : is_same entry entry ≡ true = rw (eq-eqb entry.id entry.id refl) ((same_command_tells entry.cmd entry.cmd).1 refl) in
                 let alike = among_alike (has_entry taken) (has_entry more) (k + 1) (drop k log) numbered (λ x up. same_test x (x == entry.epoch) refl) in
@@ -315,7 +315,7 @@ entry_shows log taken f g entry result is in_it stands comes = by (nat_le entry.
                 same_test x false at = sym (one.keeps x at)
             waits false untaken in_rest step = full (is_full f entry) refl
               where
-                full : (b : Bool) → is_full f entry ≡ b → Shows log taken more result g
+                full : (b : Bool) → is_full f entry ≡ b → StandsAfter log taken more result g
                 full true e = shows_stay log taken more f g (Full k) result stands stands (rw e at step)
                 full false e =
                     let put_in : put by_epoch entry f.waiting ≡ among (has_entry more) (drop k log) =
@@ -323,7 +323,7 @@ entry_shows log taken f g entry result is in_it stands comes = by (nat_le entry.
                     let base : Base log more k = record { within = stands.within; entries = entries; images = stands.images; reached = reached } in
                     let go = rw e at step in
                     shows_advance log taken more f g k result is base stands
-                    (subst (λ i. ComesTo f (advanced i (among (has_entry more) (drop k log))) result g) stands.image (subst (λ w. ComesTo f (advanced f.image w) result g) put_in go))
+                    (subst (λ i. Performs f (advanced i (among (has_entry more) (drop k log))) result g) stands.image (subst (λ w. Performs f (advanced f.image w) result g) put_in go))
 
 -- the follower before it is handed anything stands for every log
 pub empty_stands : (log : List Entry) → StandsFor log nothing_taken empty_follower

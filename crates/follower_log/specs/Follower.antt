@@ -43,9 +43,9 @@ abbrev pub is_next : Image → Entry → Bool
 is_next image entry = entry.epoch == image.epoch + 1
 
 -- the first waiting entry is dropped if it is refused; or else it is applied, and the rest follows
-abbrev pub unless_refused : Option Refusal → Image → Entry → List Entry → Handed → Handed
-unless_refused None image entry waiting applied = applied
-unless_refused (Some refusal) image entry waiting applied = stays (record { image = image; waiting = waiting }) (Err (Refused entry.epoch refusal))
+abbrev pub unless_dropped : Option Refusal → Image → Entry → List Entry → Handed → Handed
+unless_dropped None image entry waiting applied = applied
+unless_dropped (Some refusal) image entry waiting applied = stays (record { image = image; waiting = waiting }) (Err (Refused entry.epoch refusal))
 
 -- a step that can be cut where it begins, too
 abbrev pub cut_first : Image → List Entry → Handed → Handed
@@ -58,7 +58,7 @@ advanced image [] = stays (record { image = image; waiting = [] }) (Ok (At image
 advanced image (entry ∷ waiting) =
     if is_next image entry
     then cut_first image (entry ∷ waiting)
-    (unless_refused (refusal_of image entry.cmd) image entry waiting (advanced (next_image image entry.cmd) waiting))
+    (unless_dropped (refusal_of image entry.cmd) image entry waiting (advanced (next_image image entry.cmd) waiting))
     else stays (record { image = image; waiting = entry ∷ waiting }) (Ok (At image.epoch))
 
 -- the waiting entry of an epoch
@@ -103,10 +103,10 @@ hand_image follower image =
 
 -- a call comes to a step: to its answer and its follower, or after want of memory to the follower where it is cut, or to
 -- nothing
-abbrev pub ComesTo : FollowerState → Handed → Result Took FollowerFault → FollowerState → Type 0
-ComesTo before step (Err Memory) after = after ≡ before
-ComesTo before step (Err (MemoryAt epoch)) after = step.cut epoch ≡ Some after
-ComesTo before step result after = (result ≡ step.answer) × (after ≡ step.after)
+abbrev pub Performs : FollowerState → Handed → Result Took FollowerFault → FollowerState → Type 0
+Performs before step (Err Memory) after = after ≡ before
+Performs before step (Err (MemoryAt epoch)) after = step.cut epoch ≡ Some after
+Performs before step result after = (result ≡ step.answer) × (after ≡ step.after)
 
 -- the answers of an advance from an epoch: it comes no further back, and isn't without effect for want of memory
 abbrev pub IsAdvance : ℕ → Result Took FollowerFault → Type 0

@@ -6,7 +6,7 @@ use Rattle.std.specs.Map.{keys_of, values_of}
 use Rattle.transformations.specs.History.{is_command, most_epochs, next_image}
 use Rattle.transformations.specs.Refusals.{refusal_of}
 use Rattle.transformations.specs.declared.entry.Entry.{Entry}
-use Rattle.follower_log.specs.Follower.{ComesTo, FollowerState, IsAdvance, advanced, is_next}
+use Rattle.follower_log.specs.Follower.{Performs, FollowerState, IsAdvance, advanced, is_next}
 use Rattle.follower_log.specs.declared.fault.FollowerFault.{FollowerFault}
 use Rattle.follower_log.specs.declared.took.Took.{Took}
 use Rattle.follower_log.specs.declared.took.Took.TheVariants.{At}
@@ -37,7 +37,7 @@ CanWait epoch waiting = AllByRecursion (CanWaitAt epoch) waiting
 
 -- an advance from a follower comes to this result and this follower
 abbrev pub Advances : FollowerState → Result Took FollowerFault → FollowerState → Type 0
-Advances before result after = ComesTo before (advanced before.image before.waiting) result after × IsAdvance before.image.epoch result
+Advances before result after = Performs before (advanced before.image before.waiting) result after × IsAdvance before.image.epoch result
 
 -- the first waiting entry was the next one, and was applied
 pub record Leads (before after : FollowerState) : Type 0 where

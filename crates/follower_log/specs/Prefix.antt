@@ -67,12 +67,12 @@ pub record IsImageOf (log : List Entry) (image : Image) : Type 0 where
 
 -- what a call leaves that was handed something of the log, so that `after` was taken: a fork and a refusal don't come;
 -- where memory is found the follower shows the longest gapless prefix
-abbrev pub Shows : List Entry → Taken → Taken → Result Took FollowerFault → FollowerState → Type 0
-Shows log before after (Ok (At epoch)) follower = StandsFor log after follower × IsPrefix after follower.image.epoch
-Shows log before after (Ok (Old epoch)) follower = StandsFor log after follower
-Shows log before after (Ok (Held epoch)) follower = StandsFor log after follower
-Shows log before after (Ok (Full epoch)) follower = StandsFor log before follower
-Shows log before after (Err (MemoryAt epoch)) follower = StandsFor log after follower
-Shows log before after (Err Memory) follower = StandsFor log before follower
-Shows log before after (Err (Fork epoch held came)) follower = ⊥
-Shows log before after (Err (Refused epoch refusal)) follower = ⊥
+abbrev pub StandsAfter : List Entry → Taken → Taken → Result Took FollowerFault → FollowerState → Type 0
+StandsAfter log before after (Ok (At epoch)) follower = StandsFor log after follower × IsPrefix after follower.image.epoch
+StandsAfter log before after (Ok (Old epoch)) follower = StandsFor log after follower
+StandsAfter log before after (Ok (Held epoch)) follower = StandsFor log after follower
+StandsAfter log before after (Ok (Full epoch)) follower = StandsFor log before follower
+StandsAfter log before after (Err (MemoryAt epoch)) follower = StandsFor log after follower
+StandsAfter log before after (Err Memory) follower = StandsFor log before follower
+StandsAfter log before after (Err (Fork epoch held came)) follower = ⊥
+StandsAfter log before after (Err (Refused epoch refusal)) follower = ⊥

@@ -5,9 +5,9 @@ ghost use Rattle.transformations.specs.Log.{IsLog};
 ghost use Rattle.transformations.specs.Meeting.{HaveReplications};
 ghost use Rattle.transformations.specs.Valid.{IsValid};
 ghost use Rattle.transformations.specs.declared.entry.Entry.{Entry as LogEntry};
-ghost use Rattle.follower_log.specs.Follower.{ComesTo, FollowerState, IsAdvance, IsCutFrom, IsCutPast, advanced, by_epoch, empty_follower, hand_above, hand_entry, hand_image, hand_new, is_next, waiting_at};
+ghost use Rattle.follower_log.specs.Follower.{Performs, FollowerState, IsAdvance, IsCutFrom, IsCutPast, advanced, by_epoch, empty_follower, hand_above, hand_entry, hand_image, hand_new, is_next, waiting_at};
 ghost use Rattle.follower_log.specs.Kept.{Advances, ComesFirst};
-ghost use Rattle.follower_log.specs.Prefix.{IsEntryOf, IsImageOf, Shows, StandsFor, Taken, nothing_taken, with_entry, with_image};
+ghost use Rattle.follower_log.specs.Prefix.{IsEntryOf, IsImageOf, StandsAfter, StandsFor, Taken, nothing_taken, with_entry, with_image};
 
 use crate::fault::FollowerFault;
 use crate::took::Took;
@@ -47,7 +47,7 @@ impl Model for Follower {
 /// Compares an entry that came with the one of its epoch that waits, at a follower of this epoch.
 fn compared(held: &Entry, came: &Entry, epoch: u64) -> Result<Took, FollowerFault>
     ensures { (f : FollowerState) → f.image.epoch ≡ epoch → held.now.epoch ≡ came.now.epoch
-        → ComesTo f (hand_above f came.now (Some held.now)) result f }
+        → Performs f (hand_above f came.now (Some held.now)) result f }
 {
     if held.same(came) {
         Ok(Took::Held(epoch))
@@ -95,8 +95,8 @@ impl Follower {
     /// entry that comes to be the next; an entry past a gap waits.
     ///
     /// `Old`, `Held` and `Full` change nothing. Errors: `Fork` if another entry of this epoch waits, which changes
-    /// nothing; `Refused` if an entry that came to be the next is refused, then this entry is dropped, the follower is at
-    /// the epoch before it, and the others still wait; `Memory` if memory runs out before the entry is taken, which
+    /// nothing; `Refused` if an entry that came to be the next is refused, then this entry is dropped, the follower is
+    /// at the epoch before it, and the others still wait; `Memory` if memory runs out before the entry is taken, which
     /// changes nothing; `MemoryAt` if it runs out later.
     ///
     /// Handed entries of one log and images of its states, the follower shows the state of the longest prefix without a
@@ -106,12 +106,12 @@ impl Follower {
     pub fn deliver(&mut self, entry: &Entry) -> Result<Took, FollowerFault>
         requires formed { IsTrue (is_command entry.now.cmd) }
         requires epoch { entry.now.epoch ≤ most_epochs }
-        ensures step { ComesTo self.old (hand_entry self.old entry.now) result self.new }
+        ensures step { Performs self.old (hand_entry self.old entry.now) result self.new }
         ensures next { is_next self.old.image entry.now ≡ true → IsCutPast self.old.image.epoch result }
         ensures least { IsCutFrom self.old.image.epoch result }
         ensures shows { (log : List LogEntry) (taken : Taken) → IsLog log → IsEntryOf log entry.now
             → StandsFor log taken self.old
-            → Shows log taken (with_entry taken entry.now.epoch) result self.new }
+            → StandsAfter log taken (with_entry taken entry.now.epoch) result self.new }
     {
         self.hand_over(entry)
     }
@@ -120,7 +120,7 @@ impl Follower {
     fn hand_over(&mut self, entry: &Entry) -> Result<Took, FollowerFault>
         requires formed { IsTrue (is_command entry.now.cmd) }
         requires epoch { entry.now.epoch ≤ most_epochs }
-        ensures step { ComesTo self.old (hand_entry self.old entry.now) result self.new }
+        ensures step { Performs self.old (hand_entry self.old entry.now) result self.new }
         ensures next { is_next self.old.image entry.now ≡ true → IsCutPast self.old.image.epoch result }
     {
         let epoch = self.epoch();
@@ -139,7 +139,7 @@ impl Follower {
         requires above { self.old.image.epoch < entry.now.epoch }
         requires epoch { entry.now.epoch ≤ most_epochs }
         requires none { waiting_at self.old.waiting entry.now.epoch ≡ None }
-        ensures step { ComesTo self.old (hand_new self.old entry.now) result self.new }
+        ensures step { Performs self.old (hand_new self.old entry.now) result self.new }
         ensures next { is_next self.old.image entry.now ≡ true → IsCutPast self.old.image.epoch result }
     {
         let epoch = self.epoch();
@@ -159,7 +159,7 @@ impl Follower {
         requires next { entry.now.epoch ≡ self.old.image.epoch + 1 }
         requires epoch { entry.now.epoch ≤ most_epochs }
         requires none { waiting_at self.old.waiting entry.now.epoch ≡ None }
-        ensures step { ComesTo self.old
+        ensures step { Performs self.old
             (advanced self.old.image (put by_epoch entry.now self.old.waiting)) result self.new }
         ensures past { IsCutPast self.old.image.epoch result }
     {
@@ -170,9 +170,9 @@ impl Follower {
         }
     }
 
-    /// Hands over an image. It is valid, and each of its keyspaces has a replication. An image above the follower's epoch
-    /// replaces the follower's. The waiting entries that it contains are dropped, and then those that come to be the next
-    /// are applied.
+    /// Hands over an image. It is valid, and each of its keyspaces has a replication. An image above the follower's
+    /// epoch replaces the follower's. The waiting entries that it contains are dropped, and then those that come to be
+    /// the next are applied.
     ///
     /// `Old` changes nothing. Errors: `Refused`, `Memory` and `MemoryAt`, as for `deliver`. Handed entries of one log
     /// and images of its states, the follower shows the state of the longest prefix without a gap after each `At`, and
@@ -182,10 +182,10 @@ impl Follower {
     pub fn snapshot(&mut self, image: Image) -> Result<Took, FollowerFault>
         requires valid { IsValid image }
         requires replications { HaveReplications image }
-        ensures step { ComesTo self.old (hand_image self.old image) result self.new }
+        ensures step { Performs self.old (hand_image self.old image) result self.new }
         ensures least { IsCutFrom self.old.image.epoch result }
         ensures shows { (log : List LogEntry) (taken : Taken) → IsLog log → IsImageOf log image
-            → StandsFor log taken self.old → Shows log taken (with_image taken image.epoch) result self.new }
+            → StandsFor log taken self.old → StandsAfter log taken (with_image taken image.epoch) result self.new }
     {
         self.hand_over_image(image)
     }
@@ -194,7 +194,7 @@ impl Follower {
     fn hand_over_image(&mut self, image: Image) -> Result<Took, FollowerFault>
         requires valid { IsValid image }
         requires replications { HaveReplications image }
-        ensures { ComesTo self.old (hand_image self.old image) result self.new }
+        ensures { Performs self.old (hand_image self.old image) result self.new }
     {
         let epoch = self.epoch();
         if image.epoch <= epoch {
@@ -215,10 +215,10 @@ impl Follower {
     ///
     /// Errors: `Refused` and `MemoryAt`, as for `deliver`. Cost: that of `Metadata::apply` for each entry.
     pub fn advance(&mut self) -> Result<Took, FollowerFault>
-        ensures step { ComesTo self.old (advanced self.old.image self.old.waiting) result self.new }
+        ensures step { Performs self.old (advanced self.old.image self.old.waiting) result self.new }
         ensures alone { IsAdvance self.old.image.epoch result }
         ensures shows { (log : List LogEntry) (taken : Taken) → IsLog log
-            → StandsFor log taken self.old → Shows log taken taken result self.new }
+            → StandsFor log taken self.old → StandsAfter log taken taken result self.new }
     {
         self.apply_waiting()
     }

@@ -1,10 +1,11 @@
--- The commands that have names: what the definitions make of words that are names.
+-- The commands and lines that have names: what the definitions make of words that are names.
 use Rattle.std.proofs.Common.{◌≡◌, ℕ, ◌∙◌, if◌then◌else◌, List, [], ◌∷◌, length, map, Option, Some, None, get_or, arith, ap}
 use Rattle.std.proofs.lemmas.Bool.{cond-true}
 use Rattle.std.proofs.lemmas.Option.{cond_some}
 use Rattle.cluster_terms.specs.Name.{is_name}
 use Rattle.transformations.specs.declared.command.Command.TheVariants.{Register, DropKeyspace}
-use Rattle.script_lang.specs.Grammar.{register_command, drop_keyspace_command}
+use Rattle.script_lang.specs.Grammar.{register_command, drop_keyspace_command, follower_line}
+use Rattle.script_lang.specs.declared.script_line.ScriptLine.TheVariants.{Follower}
 
 -- the name that a word is, if it is one
 abbrev pub name_in : List ℕ → Option (List ℕ)
@@ -18,6 +19,15 @@ drop_keyspace_named word (w ∷ []) d name one is =
     let parts = cond_some (is_name (word w)) (word w) name is in
     cond-true (is_name (word w)) (Some (DropKeyspace (word w))) None parts.0 ∙ ap (λ (text : List ℕ). Some (DropKeyspace text)) parts.1
 drop_keyspace_named word (w ∷ v ∷ ws) d name one is = absurd (omega arith)
+
+-- F
+pub follower_named : {B : Type 0} (word : B → List ℕ) (words : List B) (d : B) (name : List ℕ) → length words ≡ 1 → name_in (word (get_or words 0 d)) ≡ Some name → follower_line (map word words) ≡ Some (Follower name)
+unfolding follower_line
+follower_named word [] d name one is = absurd (omega arith)
+follower_named word (w ∷ []) d name one is =
+    let parts = cond_some (is_name (word w)) (word w) name is in
+    cond-true (is_name (word w)) (Some (Follower (word w))) None parts.0 ∙ ap (λ (text : List ℕ). Some (Follower text)) parts.1
+follower_named word (w ∷ v ∷ ws) d name one is = absurd (omega arith)
 
 -- NAME DC RACK
 pub register_named : {B : Type 0} (word : B → List ℕ) (words : List B) (d : B) (name dc rack : List ℕ) → length words ≡ 3 → name_in (word (get_or words 0 d)) ≡ Some name → name_in (word (get_or words 1 d)) ≡ Some dc → name_in (word (get_or words 2 d)) ≡ Some rack → register_command (map word words) ≡ Some (Register name dc rack)

@@ -1,5 +1,5 @@
 -- What lines say: their commands have tokens, names and replications, and their queries tokens.
-use Rattle.std.proofs.Common.{◌≡◌, ℕ, ◌^◌, ℤ, Bool, true, false, ◌&&◌, cond, nat_le, List, [], ◌∷◌, length, Option, Some, None, option_map, codes, IsTrue, refl}
+use Rattle.std.proofs.Common.{◌≡◌, ℕ, ◌^◌, if◌then◌else◌, ℤ, Bool, true, false, ◌&&◌, cond, nat_le, List, [], ◌∷◌, length, Option, Some, None, option_map, codes, IsTrue, refl}
 use Rattle.std.proofs.lemmas.Bool.{and_parts}
 use Rattle.std.specs.List.{AllByRecursion}
 use Rattle.std.specs.Option.{IfSome}
@@ -16,7 +16,7 @@ use Rattle.transformations.specs.declared.command.Command.{Command}
 use Rattle.transformations.specs.declared.command.Command.TheVariants.{Register, Unregister, UnsafeJoin, Keyspace, DropKeyspace, PrepareJoin, PrepareMove, PrepareLeave, PrepareReplace, Step, Cancel}
 use Rattle.script_lang.specs.Grammar as spec
 use Rattle.script_lang.specs.declared.script_line.ScriptLine.{ScriptLine}
-use Rattle.script_lang.specs.declared.script_line.ScriptLine.TheVariants.{Commit, Place, Nodes, Quorum, Local}
+use Rattle.script_lang.specs.declared.script_line.ScriptLine.TheVariants.{Commit, Follower, Deliver, Snapshot, Place, Nodes, Quorum, Local}
 use Rattle.script_lang.proofs.LineTokens.{AreTokens, of_node_and_tokens}
 use Rattle.script_lang.proofs.OptionValues.{each_chained, each_found, each_mapped, either, mapped, where_true}
 use Rattle.script_lang.proofs.ReplicationWords.{of_replication}
@@ -140,6 +140,9 @@ of_command (word ∷ words) = of_command_named word words
 -- what a line says: the command is formed, and the token of a query is a token
 abbrev pub IsSaid : ScriptLine → Type 0
 IsSaid (Commit id command) = IsFormed command
+IsSaid (Follower name) = Unit {0}
+IsSaid (Deliver name epoch) = Unit {0}
+IsSaid (Snapshot name epoch) = Unit {0}
 IsSaid (Place target keyspace) = Unit {0}
 IsSaid (Nodes target) = Unit {0}
 IsSaid (Quorum target keyspace token) = IsToken token
@@ -160,6 +163,31 @@ of_commit : (words : List (List ℕ)) → IfSome (spec.commit_line words) IsRigh
 unfolding spec.commit_line
 of_commit [] = tt
 of_commit (id ∷ words) = each_chained _ IsRight (λ n. mapped (Commit n) IsRight (spec.command_of words) (of_command words)) (spec.number_below (2 ^ 64) id)
+
+of_follower : (words : List (List ℕ)) → IfSome (spec.follower_line words) IsRight
+unfolding spec.follower_line
+of_follower [] = tt
+of_follower (name ∷ []) = either IsRight (is_name name) (Some (Follower name)) None (tt, tt) tt
+of_follower (name ∷ word ∷ words) = tt
+
+-- a follower's name and an epoch
+module _ (line : List ℕ → ℕ → ScriptLine) (right : (name : List ℕ) (epoch : ℕ) → IsRight (line name epoch)) where
+  of_handed : (name epoch : List ℕ) → IfSome (if is_name name then option_map (line name) (spec.number_below (2 ^ 64) epoch) else None) IsRight
+  of_handed name epoch = either IsRight (is_name name) _ None (each_mapped (line name) IsRight (right name) (spec.number_below (2 ^ 64) epoch)) tt
+
+of_deliver : (words : List (List ℕ)) → IfSome (spec.deliver_line words) IsRight
+unfolding spec.deliver_line
+of_deliver [] = tt
+of_deliver (name ∷ []) = tt
+of_deliver (name ∷ epoch ∷ []) = of_handed Deliver (λ name epoch. (tt, tt)) name epoch
+of_deliver (name ∷ epoch ∷ word ∷ words) = tt
+
+of_snapshot : (words : List (List ℕ)) → IfSome (spec.snapshot_line words) IsRight
+unfolding spec.snapshot_line
+of_snapshot [] = tt
+of_snapshot (name ∷ []) = tt
+of_snapshot (name ∷ epoch ∷ []) = of_handed Snapshot (λ name epoch. (tt, tt)) name epoch
+of_snapshot (name ∷ epoch ∷ word ∷ words) = tt
 
 of_place : (words : List (List ℕ)) → IfSome (spec.place_line words) IsRight
 unfolding spec.place_line
@@ -200,10 +228,13 @@ unfolding spec.line_of_words
 of_words [] = tt
 of_words (word ∷ words) =
     either _ (bytes_eq word (codes "commit")) _ _ (of_commit words)
+    (either _ (bytes_eq word (codes "follower")) _ _ (of_follower words)
+    (either _ (bytes_eq word (codes "deliver")) _ _ (of_deliver words)
+    (either _ (bytes_eq word (codes "snapshot")) _ _ (of_snapshot words)
     (either _ (bytes_eq word (codes "place")) _ _ (of_place words)
     (either _ (bytes_eq word (codes "nodes")) _ _ (of_nodes words)
     (either _ (bytes_eq word (codes "quorum")) _ _ (of_quorum words)
-    (either _ (bytes_eq word (codes "local")) _ _ (of_local words) tt))))
+    (either _ (bytes_eq word (codes "local")) _ _ (of_local words) tt)))))))
 
 -- the two apart
 pub of_words_tokens : (words : List (List ℕ)) → IfSome (spec.line_of_words words) spec.HasTokens

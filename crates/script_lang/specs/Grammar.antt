@@ -14,9 +14,9 @@ use Rattle.transformations.specs.declared.sequence.Goal.TheVariants.{Start, Mid,
 use Rattle.transformations.specs.declared.sequence.Kind.TheVariants.{Join, Move, Leave, Replace}
 use Rattle.transformations.specs.History.{is_command}
 use Rattle.script_lang.specs.declared.script_line.ScriptLine.{ScriptLine}
-use Rattle.script_lang.specs.declared.script_line.ScriptLine.TheVariants.{Commit, Place, Nodes, Quorum, Local}
+use Rattle.script_lang.specs.declared.script_line.ScriptLine.TheVariants.{Commit, Follower, Deliver, Snapshot, Place, Nodes, Quorum, Local}
 use Rattle.script_lang.specs.declared.script_line.Target.{Target}
-use Rattle.script_lang.specs.declared.script_line.Target.TheVariants.{Epoch}
+use Rattle.script_lang.specs.declared.script_line.Target.TheVariants.{Epoch, Named}
 
 -- a number below a limit, in decimal digits without a sign or leading zeros
 unfoldable pub number_below : ℕ → List ℕ → Option ℕ
@@ -129,10 +129,26 @@ unfoldable pub commit_line : List (List ℕ) → Option ScriptLine
 commit_line [] = None
 commit_line (id ∷ command) = option_and_then (λ n. option_map (Commit n) (command_of command)) (number_below (2 ^ 64) id)
 
--- a target: @ and an epoch
+-- F
+unfoldable pub follower_line : List (List ℕ) → Option ScriptLine
+follower_line (name ∷ []) = if is_name name then Some (Follower name) else None
+follower_line _ = None
+
+-- F E
+unfoldable pub deliver_line : List (List ℕ) → Option ScriptLine
+deliver_line (name ∷ epoch ∷ []) = if is_name name then option_map (Deliver name) (number_below (2 ^ 64) epoch) else None
+deliver_line _ = None
+
+unfoldable pub snapshot_line : List (List ℕ) → Option ScriptLine
+snapshot_line (name ∷ epoch ∷ []) = if is_name name then option_map (Snapshot name) (number_below (2 ^ 64) epoch) else None
+snapshot_line _ = None
+
+-- a target: @ and an epoch, or the name of a follower
 unfoldable pub target_of : List ℕ → Option Target
 target_of [] = None
-target_of (c ∷ cs) = if c == 64 then option_map Epoch (number_below (2 ^ 64) cs) else None
+target_of (c ∷ cs) =
+    if c == 64 then option_map Epoch (number_below (2 ^ 64) cs)
+    else if is_name (c ∷ cs) then Some (Named (c ∷ cs)) else None
 
 -- TARGET KS
 unfoldable pub place_line : List (List ℕ) → Option ScriptLine
@@ -161,6 +177,9 @@ unfoldable pub line_of_words : List (List ℕ) → Option ScriptLine
 line_of_words [] = None
 line_of_words (word ∷ words) =
     if bytes_eq word (codes "commit") then commit_line words
+    else if bytes_eq word (codes "follower") then follower_line words
+    else if bytes_eq word (codes "deliver") then deliver_line words
+    else if bytes_eq word (codes "snapshot") then snapshot_line words
     else if bytes_eq word (codes "place") then place_line words
     else if bytes_eq word (codes "nodes") then nodes_line words
     else if bytes_eq word (codes "quorum") then quorum_line words

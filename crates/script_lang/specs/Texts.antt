@@ -112,6 +112,10 @@ ok_text epoch = line (codes "OK " ++ decimal epoch)
 abbrev pub no_text : List ℕ → List ℕ
 no_text reason = line (codes "NO " ++ reason)
 
+-- the answer to a line on a follower: a word, and the follower's epoch
+abbrev pub epoch_text : List ℕ → ℕ → List ℕ
+epoch_text word epoch = line (word ++ codes " " ++ decimal epoch)
+
 -- a row with its read replicas and its write replicas
 unfoldable pub placed_text : TokenRange → List ℕ → List ℕ → List ℕ
 placed_text row reads writes =

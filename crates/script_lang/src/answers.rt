@@ -46,3 +46,13 @@ pub fn no_epoch_text(last: u64, out: &mut ByteText) -> Result<(), Memory>
     labelled(b"NO EPOCH ", &last, out)?;
     out.extend(b"\n")
 }
+
+/// Adds `WORD epoch`, the answer to a line on a follower. Fails only if memory runs out.
+pub fn epoch_text(word: &[u8], epoch: u64, out: &mut ByteText) -> Result<(), Memory>
+    ensures added { OnOk result (out.new ≡ out.old ++ spec.epoch_text word.now epoch) }
+    ensures kept { take (length out.old) out.new ≡ out.old }
+{
+    out.extend(word)?;
+    labelled(b" ", &epoch, out)?;
+    out.extend(b"\n")
+}

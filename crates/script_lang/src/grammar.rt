@@ -37,8 +37,11 @@ fn line_of_words(alloc: Global, words: &[&[u8]]) -> Result<Option<ScriptLine>, M
 {
     match words {
         [word, words @ ..] if is_word(word, b"commit") => commit_line(alloc, words),
+        [word, words @ ..] if is_word(word, b"follower") => follower_line(alloc, words),
+        [word, words @ ..] if is_word(word, b"deliver") => deliver_line(alloc, words),
+        [word, words @ ..] if is_word(word, b"snapshot") => snapshot_line(alloc, words),
         [word, words @ ..] if is_word(word, b"place") => place_line(alloc, words),
-        [word, words @ ..] if is_word(word, b"nodes") => Ok(nodes_line(words)),
+        [word, words @ ..] if is_word(word, b"nodes") => nodes_line(alloc, words),
         [word, words @ ..] if is_word(word, b"quorum") => quorum_line(alloc, words),
         [word, words @ ..] if is_word(word, b"local") => local_line(alloc, words),
         _ => Ok(None),
@@ -60,6 +63,50 @@ fn commit_line(alloc: Global, words: &[&[u8]]) -> Result<Option<ScriptLine>, Mem
     Ok(command.map(|command| ScriptLine::Commit(id, command)))
 }
 
+// F
+#[tactic(auto, unfolding(crate::specs::Grammar::follower_line))]
+fn follower_line(alloc: Global, words: &[&[u8]]) -> Result<Option<ScriptLine>, Memory>
+    ensures { IfOk result (λ found. found ≡ spec.follower_line (map (λ word. word.now) words.now)) }
+{
+    let [name] = words else {
+        return Ok(None);
+    };
+    let Some(name) = Name::from_bytes(alloc, name)? else {
+        return Ok(None);
+    };
+    Ok(Some(ScriptLine::Follower(name)))
+}
+
+// F E
+#[tactic(auto, unfolding(crate::specs::Grammar::deliver_line))]
+fn deliver_line(alloc: Global, words: &[&[u8]]) -> Result<Option<ScriptLine>, Memory>
+    ensures { IfOk result (λ found. found ≡ spec.deliver_line (map (λ word. word.now) words.now)) }
+{
+    let [name, epoch] = words else {
+        return Ok(None);
+    };
+    let Some(epoch) = number_of(epoch) else {
+        return Ok(None);
+    };
+    let name = Name::from_bytes(alloc, name)?;
+    Ok(name.map(|name| ScriptLine::Deliver(name, epoch)))
+}
+
+// F E
+#[tactic(auto, unfolding(crate::specs::Grammar::snapshot_line))]
+fn snapshot_line(alloc: Global, words: &[&[u8]]) -> Result<Option<ScriptLine>, Memory>
+    ensures { IfOk result (λ found. found ≡ spec.snapshot_line (map (λ word. word.now) words.now)) }
+{
+    let [name, epoch] = words else {
+        return Ok(None);
+    };
+    let Some(epoch) = number_of(epoch) else {
+        return Ok(None);
+    };
+    let name = Name::from_bytes(alloc, name)?;
+    Ok(name.map(|name| ScriptLine::Snapshot(name, epoch)))
+}
+
 // TARGET KS
 #[tactic(auto, unfolding(crate::specs::Grammar::place_line))]
 fn place_line(alloc: Global, words: &[&[u8]]) -> Result<Option<ScriptLine>, Memory>
@@ -68,7 +115,7 @@ fn place_line(alloc: Global, words: &[&[u8]]) -> Result<Option<ScriptLine>, Memo
     let [target, keyspace] = words else {
         return Ok(None);
     };
-    let Some(target) = target_of(target) else {
+    let Some(target) = target_of(alloc, target)? else {
         return Ok(None);
     };
     let keyspace = Name::from_bytes(alloc, keyspace)?;
@@ -77,13 +124,14 @@ fn place_line(alloc: Global, words: &[&[u8]]) -> Result<Option<ScriptLine>, Memo
 
 // TARGET
 #[tactic(auto, unfolding(crate::specs::Grammar::nodes_line))]
-fn nodes_line(words: &[&[u8]]) -> Option<ScriptLine>
-    ensures { result ≡ spec.nodes_line (map (λ word. word.now) words.now) }
+fn nodes_line(alloc: Global, words: &[&[u8]]) -> Result<Option<ScriptLine>, Memory>
+    ensures { IfOk result (λ found. found ≡ spec.nodes_line (map (λ word. word.now) words.now)) }
 {
-    match words {
-        [target] => target_of(target).map(ScriptLine::Nodes),
-        _ => None,
-    }
+    let [target] = words else {
+        return Ok(None);
+    };
+    let target = target_of(alloc, target)?;
+    Ok(target.map(ScriptLine::Nodes))
 }
 
 // TARGET KS TOKEN
@@ -94,7 +142,7 @@ fn quorum_line(alloc: Global, words: &[&[u8]]) -> Result<Option<ScriptLine>, Mem
     let [target, keyspace, token] = words else {
         return Ok(None);
     };
-    let Some(target) = target_of(target) else {
+    let Some(target) = target_of(alloc, target)? else {
         return Ok(None);
     };
     let Some(token) = token_of(token) else {
@@ -112,7 +160,7 @@ fn local_line(alloc: Global, words: &[&[u8]]) -> Result<Option<ScriptLine>, Memo
     let [target, keyspace, dc, token] = words else {
         return Ok(None);
     };
-    let Some(target) = target_of(target) else {
+    let Some(target) = target_of(alloc, target)? else {
         return Ok(None);
     };
     let Some(token) = token_of(token) else {
@@ -125,13 +173,16 @@ fn local_line(alloc: Global, words: &[&[u8]]) -> Result<Option<ScriptLine>, Memo
     Ok(dc.map(|dc| ScriptLine::Local(target, keyspace, dc, token)))
 }
 
-// `@` and an epoch
+// `@` and an epoch, or the name of a follower
 #[tactic(auto, unfolding(crate::specs::Grammar::target_of))]
-fn target_of(text: &[u8]) -> Option<Target>
-    ensures { result ≡ spec.target_of text.now }
+fn target_of(alloc: Global, text: &[u8]) -> Result<Option<Target>, Memory>
+    ensures { IfOk result (λ found. found ≡ spec.target_of text.now) }
 {
     match text {
-        [b'@', epoch @ ..] => number_of(epoch).map(Target::Epoch),
-        _ => None,
+        [b'@', epoch @ ..] => Ok(number_of(epoch).map(Target::Epoch)),
+        _ => {
+            let name = Name::from_bytes(alloc, text)?;
+            Ok(name.map(Target::Named))
+        }
     }
 }

@@ -15,7 +15,7 @@ mod shown;
 mod tokens;
 mod words;
 
-pub use answers::{no_epoch_text, no_text, ok_text, refused_text};
+pub use answers::{epoch_text, no_epoch_text, no_text, ok_text, refused_text};
 pub use grammar::parse_line;
 pub use nodes::nodes_text;
 pub use number::one_spelling;

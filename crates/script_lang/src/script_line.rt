@@ -6,6 +6,8 @@ use transformations::Command;
 pub enum Target {
     /// `@E`: the state at epoch E, after the first E entries of the log.
     Epoch(u64),
+    /// The name of a follower: its present state.
+    Named(Name),
 }
 
 /// A line of a script.
@@ -13,6 +15,12 @@ pub enum Target {
 pub enum ScriptLine {
     /// `commit ID COMMAND`
     Commit(u64, Command),
+    /// `follower F`
+    Follower(Name),
+    /// `deliver F E`
+    Deliver(Name, u64),
+    /// `snapshot F E`
+    Snapshot(Name, u64),
     /// `place TARGET KS`
     Place(Target, Name),
     /// `nodes TARGET`

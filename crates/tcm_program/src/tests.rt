@@ -3,6 +3,7 @@
 mod calls;
 mod cancels;
 mod faults;
+mod followers;
 mod ids;
 mod joins;
 mod limits;
@@ -13,6 +14,7 @@ mod openings;
 mod quorums;
 mod racks;
 mod refusals;
+mod replays;
 mod running;
 mod scripts;
 mod steps;
@@ -23,7 +25,7 @@ use running::{Script, go_on};
 use std::test::Fail;
 
 /// Tables of scripts, each with the opening that its scripts go on from.
-const TABLES: [(&str, &[Script]); 21] = [
+const TABLES: [(&str, &[Script]); 24] = [
     (NOTHING, &lines::FORMS),
     (NOTHING, &ids::FROM_NOTHING),
     (FOUR, &ids::ON_FOUR),
@@ -45,6 +47,9 @@ const TABLES: [(&str, &[Script]); 21] = [
     (RACKS, &quorums::ON_RACKS),
     (NOTHING, &quorums::FROM_NOTHING),
     (NOTHING, &scripts::PLACES),
+    (FOUR, &followers::ON_FOUR),
+    (RACKS, &followers::ON_RACKS),
+    (NOTHING, &followers::FROM_NOTHING),
 ];
 
 #[test]

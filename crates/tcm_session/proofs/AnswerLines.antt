@@ -1,10 +1,10 @@
 -- The lines of answers: those of an answer without quorums begin with neither of their words.
-use Rattle.std.proofs.Common.{◌≡◌, ◌≢◌, ℕ, ◌≤◌, ℤ, Bool, true, false, if◌then◌else◌, List, ◌++◌, flat_map, get_or, length, Option, Some, None, Result, Ok, Err, IfErr, option_map, option_and_then, nat_le, codes, decimal, refl, sym, append_assoc, arith}
+use Rattle.std.proofs.Common.{◌≡◌, ◌≢◌, ℕ, ◌≤◌, ℤ, Bool, true, false, if◌then◌else◌, List, ◌++◌, flat_map, get_or, length, Option, Some, None, Result, Ok, Err, IfErr, option_map, option_and_then, nat_le, codes, decimal, refl, sym, subst, append_assoc, arith}
 use Rattle.std.specs.List.{AllByRecursion}
 use Rattle.std.specs.Option.{IfSome}
 use Rattle.std.specs.Str.{bytes_eq}
 use Rattle.std.proofs.lemmas.Option.{none-some}
-use Rattle.cluster_terms.specs.Quorum.{Sets, datacenter_of, read_need, write_need}
+use Rattle.cluster_terms.specs.Quorum.{datacenter_of, read_need, write_need}
 use Rattle.cluster_terms.specs.Row.{last_token, rows_between}
 use Rattle.cluster_terms.specs.declared.node.NodeRow.{NodeRow}
 use Rattle.cluster_terms.specs.declared.row.TokenRange.{TokenRange}
@@ -25,16 +25,26 @@ use Rattle.transformations.specs.declared.sequence.SeqRow.{SeqRow}
 use Rattle.cluster_metadata.specs.Served.{keyspace_of}
 use Rattle.script_lang.proofs.SaidLemmas.{IsFormed}
 use Rattle.script_lang.specs.Grammar.{line_of}
-use Rattle.script_lang.specs.Texts.{kind_text, left_text, line, list_text, named_text, no_text, node_text, nodes_head, nodes_text, ok_text, pairs_text, phase_text, place_head, place_text, placed_text, refusal_text, right_text, placed_row_text, sequence_text, sets_text, state_text, tokens_text}
+use Rattle.script_lang.specs.Texts.{epoch_text, kind_text, left_text, line, list_text, named_text, no_text, node_text, nodes_head, nodes_text, ok_text, pairs_text, phase_text, place_head, place_text, placed_text, refusal_text, right_text, placed_row_text, sequence_text, sets_text, state_text, tokens_text}
 use Rattle.script_lang.specs.declared.script_line.ScriptLine.{ScriptLine}
-use Rattle.script_lang.specs.declared.script_line.ScriptLine.TheVariants.{Commit, Place, Nodes, Quorum, Local}
-use Rattle.script_lang.specs.declared.script_line.Target.TheVariants.{Epoch}
-use Rattle.tcm_session.specs.Machine.{commit_text, local_quorums, local_quorums_in, placements, quorums, reply, reply_to}
-use Rattle.tcm_session.specs.Shown.{IsOfNoQuorum, Shown, sets_in, shown_by, shown_text, word_of}
+use Rattle.script_lang.specs.declared.script_line.ScriptLine.TheVariants.{Commit, Follower, Deliver, Snapshot, Place, Nodes, Quorum, Local}
+use Rattle.script_lang.specs.declared.script_line.Target.{Target}
+use Rattle.script_lang.specs.declared.script_line.Target.TheVariants.{Epoch, Named}
+use Rattle.epoch_log.specs.Epochs.{entry_at}
+use Rattle.follower_log.specs.Follower.{FollowerState, hand_entry, hand_image}
+use Rattle.follower_log.specs.declared.fault.FollowerFault.{FollowerFault}
+use Rattle.follower_log.specs.declared.took.Took.{Took}
+use Rattle.follower_log.specs.declared.took.Took.TheVariants.{At, Old, Held, Full}
+use Rattle.tcm_session.specs.Machine.{Reply, SessionState, commit_text, deliver_to, follower_named, follower_reply, handed_text, image_at, image_named, image_of, local_quorums, local_quorums_in, no_epoch, placements, query_text, quorums, reply, reply_of, reply_to, snapshot_to}
+use Rattle.tcm_session.specs.declared.followers.NamedFollower.{NamedFollower}
+use Rattle.tcm_session.specs.declared.query.Query.TheVariants as query
+use Rattle.tcm_session.specs.Shown.{IsOfNoQuorum, Shown, sets_in, shown_by, shown_from, shown_text, word_of}
 use Rattle.tcm_session.proofs.PlainImages.{IsPlainImage, IsPlainRow, commit_plain, plain_at}
 use Rattle.tcm_session.proofs.PlainTexts.{HasPlainNames, decimal_all, first_digit, is_plain, plain_decimal, plain_joined, plain_kind, plain_left, plain_list, plain_pairs, plain_phase, plain_refusal, plain_right, plain_state, plain_tokens}
-use Rattle.tcm_session.proofs.ShownAnswers.{by_first}
-use Rattle.tcm_session.proofs.WholeLines.{AreLines, AreLines-append, AreLines-flat_map, AreLines-line}
+use Rattle.tcm_session.proofs.SessionLemmas.{IsSession, image_of_target}
+use Rattle.tcm_session.proofs.TakenLemmas.{follower_cases}
+use Rattle.tcm_session.proofs.ShownAnswers.{by_first, shown_as}
+use Rattle.tcm_session.proofs.WholeLines.{AreLines, AreLines-append, AreLines-flat_map, AreLines-line, AreLines-nil}
 
 -- a line that begins with neither a Q nor an L
 pub other_line : (text : List ℕ) → is_plain text ≡ true → get_or text 0 0 ≢ 81 → get_or text 0 0 ≢ 76 → AreLines IsOfNoQuorum (line text)
@@ -65,7 +75,7 @@ head_lines epoch name rows plain =
     (plain_joined (decimal epoch ++ codes " " ++ name) (codes " ") (decimal rows) (plain_joined (decimal epoch) (codes " ") name (plain_decimal epoch) refl plain) refl (plain_decimal rows))
     (λ e. omega arith) (λ e. omega arith)
 
-place_lines : (image : Image) (k : KeyspaceRow) → is_plain k.name ≡ true → AreLines IsOfNoQuorum (place_text image k)
+pub place_lines : (image : Image) (k : KeyspaceRow) → is_plain k.name ≡ true → AreLines IsOfNoQuorum (place_text image k)
 unfolding place_text
 place_lines image k plain =
     let rows = rows_between (cuts image) in
@@ -104,7 +114,7 @@ sequence_lines s =
     (plain_joined (decimal s.node ++ codes " " ++ kind_text s.kind ++ codes " " ++ phase_text s.phase ++ codes " out " ++ pairs_text s.out_pairs) (codes " in ") (pairs_text s.in_pairs) out refl (plain_pairs s.in_pairs))
     (λ e. omega arith) (λ e. omega arith)
 
-nodes_lines : (image : Image) → IsPlainImage image → AreLines IsOfNoQuorum (nodes_text image)
+pub nodes_lines : (image : Image) → IsPlainImage image → AreLines IsOfNoQuorum (nodes_text image)
 unfolding nodes_text
 nodes_lines image is =
     let nodes = decimal (length image.nodes) in
@@ -140,10 +150,63 @@ committed_plain log id c formed = by (entry_with_id log id)
     by (Some e) = again e (same_command e.cmd c)
     by None = decide (commit_refusal (commands_of log) c) (commit_plain (commands_of log) c formed)
 
--- an answer at an epoch that may not have come
-either : (h : List Command) (b : Bool) (text : List ℕ) → AreLines IsOfNoQuorum text → AreLines IsOfNoQuorum (if b then text else no_text (codes "EPOCH " ++ decimal (length h)))
-either h true text lines = lines
-either h false text lines = no_lines (codes "EPOCH " ++ decimal (length h)) (plain_decimal (length h))
+-- the reason that there is no image
+epoch_plain : (h : List Command) → is_plain (no_epoch h) ≡ true
+epoch_plain h = plain_decimal (length h)
+
+-- a line on a follower
+told_lines : (word : List ℕ) (epoch : ℕ) → is_plain word ≡ true → get_or (word ++ codes " " ++ decimal epoch) 0 0 ≢ 81 → get_or (word ++ codes " " ++ decimal epoch) 0 0 ≢ 76 → AreLines IsOfNoQuorum (epoch_text word epoch)
+told_lines word epoch plain q l = other_line (word ++ codes " " ++ decimal epoch) (plain_joined word (codes " ") (decimal epoch) plain refl (plain_decimal epoch)) q l
+
+handed_lines : (answer : Result Took FollowerFault) → AreLines IsOfNoQuorum (handed_text answer)
+handed_lines (Ok (At e)) = told_lines (codes "AT") e refl (λ e. omega arith) (λ e. omega arith)
+handed_lines (Ok (Old e)) = told_lines (codes "OLD") e refl (λ e. omega arith) (λ e. omega arith)
+handed_lines (Ok (Held e)) = told_lines (codes "HELD") e refl (λ e. omega arith) (λ e. omega arith)
+handed_lines (Ok (Full e)) = told_lines (codes "FULL") e refl (λ e. omega arith) (λ e. omega arith)
+handed_lines (Err fault) = AreLines-nil IsOfNoQuorum
+
+follower_lines : (session : SessionState) (name : List ℕ) → AreLines IsOfNoQuorum (follower_reply session name).text
+follower_lines session name =
+    follower_cases session name (λ r. AreLines IsOfNoQuorum r.text) (no_lines (codes "FOLLOWER-TAKEN") refl) (no_lines (codes "FOLLOWERS-FULL") refl) (told_lines (codes "AT") 0 refl (λ e. omega arith) (λ e. omega arith))
+
+named_lines : (session : SessionState) (o : Option NamedFollower) (hand : FollowerState → Reply) → ((f : FollowerState) → AreLines IsOfNoQuorum (hand f).text) → AreLines IsOfNoQuorum (reply_of session o hand).text
+named_lines session None hand each = no_lines (codes "FOLLOWER") refl
+named_lines session (Some f) hand each = each f.follower
+
+deliver_lines : (session : SessionState) (name : List ℕ) (f : FollowerState) (o : Option Entry) → AreLines IsOfNoQuorum (deliver_to session name f o).text
+deliver_lines session name f None = no_lines (no_epoch (commands_of session.log)) (epoch_plain (commands_of session.log))
+deliver_lines session name f (Some entry) = handed_lines (hand_entry f entry).answer
+
+snapshot_lines : (session : SessionState) (name : List ℕ) (f : FollowerState) (e : ℕ) → AreLines IsOfNoQuorum (snapshot_to session name f (image_at (commands_of session.log) e)).text
+snapshot_lines session name f e = by (nat_le e (length (commands_of session.log)))
+  where
+    by : (b : Bool) → AreLines IsOfNoQuorum (snapshot_to session name f (if b then Ok (state_after (commands_of session.log) e) else Err (no_epoch (commands_of session.log)))).text
+    by true = handed_lines (hand_image f (state_after (commands_of session.log) e)).answer
+    by false = no_lines (no_epoch (commands_of session.log)) (epoch_plain (commands_of session.log))
+
+-- an image of a target has plain names, and a reason that there is none is plain
+abbrev IsPlainTarget : Result Image (List ℕ) → Type 0
+IsPlainTarget (Ok image) = IsPlainImage image
+IsPlainTarget (Err reason) = is_plain reason ≡ true
+
+target_plain : (session : SessionState) (target : Target) → IsSession session → IsPlainTarget (image_of session target)
+target_plain session target is = by (image_of session target) refl
+  where
+    reason_plain : (target : Target) (reason : List ℕ) → image_of session target ≡ Err reason → is_plain reason ≡ true
+    reason_plain (Epoch e) reason none = at (nat_le e (length (commands_of session.log))) none
+      where
+        at : (b : Bool) → (if b then Ok (state_after (commands_of session.log) e) else Err (no_epoch (commands_of session.log))) ≡ Err reason → is_plain reason ≡ true
+        at true none = absurd (cc)
+        at false none = (let same : no_epoch (commands_of session.log) ≡ reason = cc in subst (λ text. is_plain text ≡ true) same (epoch_plain (commands_of session.log)))
+    reason_plain (Named name) reason none = of (follower_named session.followers name) none
+      where
+        of : (o : Option NamedFollower) → image_named o ≡ Err reason → is_plain reason ≡ true
+        of None none = (let same : codes "FOLLOWER" ≡ reason = cc in subst (λ text. is_plain text ≡ true) same refl)
+        of (Some f) none = absurd (cc)
+
+    by : (r : Result Image (List ℕ)) → image_of session target ≡ r → IsPlainTarget r
+    by (Ok image) there = subst IsPlainImage (sym (image_of_target session target image is there).state) (plain_at (commands_of session.log) image.epoch is.history.formed)
+    by (Err reason) there = reason_plain target reason there
 
 placements_lines : (image : Image) → IsPlainImage image → (name : List ℕ) → AreLines IsOfNoQuorum (placements image (keyspace_of image name))
 placements_lines image is name = by (keyspace_of image name) refl
@@ -152,42 +215,53 @@ placements_lines image is name = by (keyspace_of image name) refl
     by None e = no_lines (codes "KEYSPACE") refl
     by (Some k) e = place_lines image k (all_found (λ (k : KeyspaceRow). is_plain k.name ≡ true) (λ row. bytes_eq row.name name) image.keyspaces k e is.keyspaces)
 
+-- a query from an image, or refused
+placed_query : (r : Result Image (List ℕ)) (name : List ℕ) → IsPlainTarget r → AreLines IsOfNoQuorum (query_text r (query.Place name))
+placed_query (Err reason) name plain = no_lines reason plain
+placed_query (Ok image) name plain = placements_lines image plain name
+
+nodes_query : (r : Result Image (List ℕ)) → IsPlainTarget r → AreLines IsOfNoQuorum (query_text r query.Nodes)
+nodes_query (Err reason) plain = no_lines reason plain
+nodes_query (Ok image) plain = nodes_lines image plain
+
 -- a query of quorums that is refused
-module _ (h : List Command) (e : ℕ) (t : ℤ) (show : Sets → Shown) where
-  quorum_lines : (b : Bool) (o : Option KeyspaceRow) → (if b then option_map show (option_and_then (sets_in (state_after h e) t None) o) else None) ≡ None
-      → AreLines IsOfNoQuorum (if b then quorums (state_after h e) t o else no_text (codes "EPOCH " ++ decimal (length h)))
-  quorum_lines false o none = no_lines (codes "EPOCH " ++ decimal (length h)) (plain_decimal (length h))
-  quorum_lines true None none = no_lines (codes "KEYSPACE") refl
-  quorum_lines true (Some k) none = absurd (none-some _ (sym none))
+quorum_query : (r : Result Image (List ℕ)) (name : List ℕ) (t : ℤ) → IsPlainTarget r → shown_from r name None t ≡ None → AreLines IsOfNoQuorum (query_text r (query.Quorum name t))
+quorum_query (Err reason) name t plain none = no_lines reason plain
+quorum_query (Ok image) name t plain none = by (keyspace_of image name) none
+  where
+    by : (o : Option KeyspaceRow) → option_map (shown_as image name None t) (option_and_then (sets_in image t None) o) ≡ None → AreLines IsOfNoQuorum (quorums image t o)
+    by None none = no_lines (codes "KEYSPACE") refl
+    by (Some k) none = absurd (none-some _ (sym none))
 
-  local_lines : (dc : List ℕ) (b : Bool) (o : Option KeyspaceRow) → (if b then option_map show (option_and_then (sets_in (state_after h e) t (Some dc)) o) else None) ≡ None
-      → AreLines IsOfNoQuorum (if b then local_quorums (state_after h e) dc t o else no_text (codes "EPOCH " ++ decimal (length h)))
-  local_lines dc false o none = no_lines (codes "EPOCH " ++ decimal (length h)) (plain_decimal (length h))
-  local_lines dc true None none = no_lines (codes "KEYSPACE") refl
-  local_lines dc true (Some k) none = by (datacenter_of (datacenters_of k.replication) dc) none
-    where
-      by : (f : Option (List ℕ × ℕ)) → option_map show (option_map (λ f. local_sets_at (state_after h e) k.replication f t) f) ≡ None
-          → AreLines IsOfNoQuorum (local_quorums_in (state_after h e) t k.replication f)
-      by None none = no_lines (codes "DC") refl
-      by (Some f) none = absurd (none-some _ (sym none))
+local_query : (r : Result Image (List ℕ)) (name dc : List ℕ) (t : ℤ) → IsPlainTarget r → shown_from r name (Some dc) t ≡ None → AreLines IsOfNoQuorum (query_text r (query.Local name dc t))
+local_query (Err reason) name dc t plain none = no_lines reason plain
+local_query (Ok image) name dc t plain none = by (keyspace_of image name) none
+  where
+    within : (k : KeyspaceRow) (f : Option (List ℕ × ℕ)) → option_map (shown_as image name (Some dc) t) (option_map (λ f. local_sets_at image k.replication f t) f) ≡ None
+        → AreLines IsOfNoQuorum (local_quorums_in image t k.replication f)
+    within k None none = no_lines (codes "DC") refl
+    within k (Some f) none = absurd (none-some _ (sym none))
 
-other_said : (log : List Entry) → AllByRecursion IsFormed (commands_of log) → (said : Option ScriptLine) → shown_by (commands_of log) said ≡ None → AreLines IsOfNoQuorum (reply_to log said).text
-other_said log formed None none = no_lines (codes "BAD-LINE") refl
-other_said log formed (Some (Commit id c)) none = commit_lines (commit_of log id c).answer (committed_plain log id c formed)
-other_said log formed (Some (Place (Epoch e) name)) none =
-    let h = commands_of log in either h (nat_le e (length h)) _ (placements_lines (state_after h e) (plain_at h e formed) name)
-other_said log formed (Some (Nodes (Epoch e))) none =
-    let h = commands_of log in either h (nat_le e (length h)) _ (nodes_lines (state_after h e) (plain_at h e formed))
-other_said log formed (Some (Quorum (Epoch e) name t)) none =
-    let h = commands_of log in
-    quorum_lines h e t (λ (s : Sets). record { datacenter = None; keyspace = name; token = t; epoch = e; sets = s }) (nat_le e (length h)) (keyspace_of (state_after h e) name) none
-other_said log formed (Some (Local (Epoch e) name dc t)) none =
-    let h = commands_of log in
-    local_lines h e t (λ (s : Sets). record { datacenter = Some dc; keyspace = name; token = t; epoch = e; sets = s }) dc (nat_le e (length h)) (keyspace_of (state_after h e) name) none
+    by : (o : Option KeyspaceRow) → option_map (shown_as image name (Some dc) t) (option_and_then (sets_in image t (Some dc)) o) ≡ None → AreLines IsOfNoQuorum (local_quorums image dc t o)
+    by None none = no_lines (codes "KEYSPACE") refl
+    by (Some k) none = within k (datacenter_of (datacenters_of k.replication) dc) none
 
-pub other_lines : (log : List Entry) (bytes : List ℕ) → AllByRecursion IsFormed (commands_of log) → shown_by (commands_of log) (line_of bytes) ≡ None → AreLines IsOfNoQuorum (reply log bytes).text
+other_said : (session : SessionState) → IsSession session → (said : Option ScriptLine) → shown_by session said ≡ None → AreLines IsOfNoQuorum (reply_to session said).text
+other_said session is None none = no_lines (codes "BAD-LINE") refl
+other_said session is (Some (Commit id c)) none = commit_lines (commit_of session.log id c).answer (committed_plain session.log id c is.history.formed)
+other_said session is (Some (Follower name)) none = follower_lines session name
+other_said session is (Some (Deliver name e)) none =
+    named_lines session (follower_named session.followers name) (λ f. deliver_to session name f (entry_at session.log e)) (λ f. deliver_lines session name f (entry_at session.log e))
+other_said session is (Some (Snapshot name e)) none =
+    named_lines session (follower_named session.followers name) (λ f. snapshot_to session name f (image_at (commands_of session.log) e)) (λ f. snapshot_lines session name f e)
+other_said session is (Some (Place target name)) none = placed_query (image_of session target) name (target_plain session target is)
+other_said session is (Some (Nodes target)) none = nodes_query (image_of session target) (target_plain session target is)
+other_said session is (Some (Quorum target name t)) none = quorum_query (image_of session target) name t (target_plain session target is) none
+other_said session is (Some (Local target name dc t)) none = local_query (image_of session target) name dc t (target_plain session target is) none
+
+pub other_lines : (session : SessionState) (bytes : List ℕ) → IsSession session → shown_by session (line_of bytes) ≡ None → AreLines IsOfNoQuorum (reply session bytes).text
 unfolding reply
-other_lines log bytes formed none = other_said log formed (line_of bytes) none
+other_lines session bytes is none = other_said session is (line_of bytes) none
 
 -- ---- answers that show quorums
 

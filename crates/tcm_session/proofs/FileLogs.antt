@@ -2,6 +2,7 @@
 use Rattle.std.proofs.Common.{◌≡◌, ℕ, Bool, true, false, if◌then◌else◌, List, [], ◌∷◌, ◌++◌, ◌+◌, ◌==◌, length, Option, Some, None, option_map, Result, Ok, Err, codes, decimal, refl, sym, subst, arith}
 use Rattle.std.specs.List.{AllByRecursion}
 use Rattle.std.specs.Option.{IfSome}
+use Rattle.std.proofs.lemmas.Bool.{eqb-true}
 use Rattle.std.proofs.lemmas.Option.{none-some}
 use Rattle.cluster_terms.specs.Name.{is_name}
 use Rattle.cluster_terms.specs.Replication.{IsReplication}
@@ -24,16 +25,20 @@ use Rattle.script_lang.proofs.ReplicationWords.{of_replication}
 use Rattle.script_lang.proofs.SaidLemmas.{IsFormed}
 use Rattle.script_lang.specs.Texts.{refusal_text}
 use Rattle.tcm_session.specs.Lines.{whole_lines}
-use Rattle.tcm_session.specs.LogFiles.{cause_text, command_refused, entry_cause, entry_read, first_cause, goes_on, id_again, log_from, log_of, next_entry, refused_line_text, unless_refused, wrong_epoch}
+use Rattle.tcm_session.specs.LogFiles.{cause_text, command_refused, entry_cause, entry_read, first_cause, fork_lines, goes_on, id_again, log_from, log_of, next_entry, refused_head, refused_line_text, unless_refused, wrong_epoch}
+use Rattle.tcm_session.specs.Machine.{session_over}
 use Rattle.tcm_session.specs.Shown.{IsOfNoQuorum}
+use Rattle.tcm_session.specs.Steps.{IsNextEntry}
 use Rattle.tcm_session.specs.declared.refused_line.Cause.{Cause}
 use Rattle.tcm_session.specs.declared.refused_line.Cause.TheVariants as cause
 use Rattle.tcm_session.specs.declared.refused_line.RefusedLine.{RefusedLine}
 use Rattle.tcm_session.proofs.AnswerLines.{other_line}
+use Rattle.wire_json.specs.Texts.{entry_line}
+use Rattle.tcm_session.proofs.PlainEntries.{entry_is_line}
 use Rattle.tcm_session.proofs.PlainImages.{commit_plain}
 use Rattle.tcm_session.proofs.PlainTexts.{HasPlainNames, is_plain, plain_decimal, plain_joined, plain_refusal}
-use Rattle.tcm_session.proofs.ShownLemmas.{IsFormedHistory, added_entry, formed_empty}
-use Rattle.tcm_session.proofs.WholeLines.{AreLines}
+use Rattle.tcm_session.proofs.SessionLemmas.{IsSession, added_entry, session_empty}
+use Rattle.tcm_session.proofs.WholeLines.{AreLines, AreLines-append, AreLines-nil}
 
 -- ---- the commands of lines
 
@@ -90,7 +95,7 @@ unfolding kinds.prepare_replace_of
 formed_prepare_replace value =
     IfSome-option_and_then _ IsFormed (λ node. IfSome-option_and_then _ IsFormed (λ gone. tt) (node_at (codes "gone") value)) (node_at (codes "node") value)
 
-formed_kinds : HoldsOfKinds IsFormed
+pub formed_kinds : HoldsOfKinds IsFormed
 formed_kinds =
     record {
       register = formed_register;
@@ -107,19 +112,27 @@ formed_kinds =
 
 -- an entry that follows a log
 record Follows (log : List Entry) (entry : Entry) : Type 0 where
-  right : is_command entry.cmd ≡ true
+  next : IsNextEntry log entry
   formed : IsFormed entry.cmd
-  accepted : commit_refusal (commands_of log) entry.cmd ≡ None
 
--- no cause means that the command isn't refused
-unrefused : (log : List Entry) (entry : Entry) → entry_cause log entry ≡ None → commit_refusal (commands_of log) entry.cmd ≡ None
-unrefused log entry none = by (wrong_epoch log entry) (id_again log entry) (commit_refusal (commands_of log) entry.cmd) none
+-- no cause means that the epoch is the next, the id is new, and the command isn't refused
+unrefused : (log : List Entry) (entry : Entry) → is_command entry.cmd ≡ true → entry_cause log entry ≡ None → IsNextEntry log entry
+unrefused log entry right none = epoch (entry.epoch == length log + 1) refl none
   where
-    by : (a b : Option Cause) (o : Option Refusal) → first_cause (a ∷ b ∷ option_map (cause.Command entry.epoch) o ∷ []) ≡ None → o ≡ None
-    by (Some c) b o e = absurd (none-some c (sym e))
-    by None (Some c) o e = absurd (none-some c (sym e))
-    by None None (Some r) e = absurd (none-some (cause.Command entry.epoch r) (sym e))
-    by None None None e = refl
+    command : entry.epoch ≡ length log + 1 → entry_with_id log entry.id ≡ None → (o : Option Refusal) → commit_refusal (commands_of log) entry.cmd ≡ o
+        → first_cause (option_map (cause.Command entry.epoch) o ∷ []) ≡ None → IsNextEntry log entry
+    command at fresh None accepted none = record { epoch = at; fresh = fresh; formed = right; accepted = accepted }
+    command at fresh (Some r) refused none = absurd (none-some (cause.Command entry.epoch r) (sym none))
+
+    id : entry.epoch ≡ length log + 1 → (o : Option Entry) → entry_with_id log entry.id ≡ o
+        → first_cause (option_map (λ (earlier : Entry). cause.Id entry.id earlier.epoch) o ∷ command_refused log entry ∷ []) ≡ None → IsNextEntry log entry
+    id at None fresh none = command at fresh (commit_refusal (commands_of log) entry.cmd) refl none
+    id at (Some earlier) found none = absurd (none-some (cause.Id entry.id earlier.epoch) (sym none))
+
+    epoch : (b : Bool) → (entry.epoch == length log + 1) ≡ b
+        → first_cause ((if b then None else Some (cause.Epoch (length log + 1) entry.epoch)) ∷ id_again log entry ∷ command_refused log entry ∷ []) ≡ None → IsNextEntry log entry
+    epoch true same none = id (eqb-true entry.epoch (length log + 1) same) (entry_with_id log entry.id) refl none
+    epoch false other none = absurd (none-some (cause.Epoch (length log + 1) entry.epoch) (sym none))
 
 follows : (log : List Entry) (bytes : List ℕ) (entry : Entry) → next_entry log bytes ≡ Ok entry → Follows log entry
 unfolding next_entry
@@ -130,9 +143,8 @@ follows log bytes entry is = by (reading bytes) refl is
         let same : e ≡ entry = cc in
         subst (Follows log) same
         (record {
-          right = reading_commands _ tokens_of_kinds bytes e there;
+          next = unrefused log e (reading_commands _ tokens_of_kinds bytes e there) none;
           formed = reading_commands IsFormed formed_kinds bytes e there;
-          accepted = unrefused log e none;
         })
     of_cause e there (Some c) some is = absurd (cc)
 
@@ -143,11 +155,12 @@ follows log bytes entry is = by (reading bytes) refl is
 
 -- ---- the log
 
+-- a log that a session may begin with
 abbrev IsFormedLog : List Entry → Type 0
-IsFormedLog log = IsFormedHistory (commands_of log)
+IsFormedLog log = IsSession (session_over log)
 
 formed_next : (log : List Entry) (entry : Entry) → IsFormedLog log → Follows log entry → IsFormedLog (log ++ entry ∷ [])
-formed_next log entry is f = (added_entry log entry is f.right f.formed f.accepted).formed
+formed_next log entry is f = (added_entry (session_over log) entry is f.next f.formed).is
 
 formed_from : (lines : List (List ℕ)) (log log' : List Entry) → IsFormedLog log → log_from log lines ≡ Ok log' → IsFormedLog log'
 formed_from [] log log' is e = (let same : log ≡ log' = cc in subst IsFormedLog same is)
@@ -158,13 +171,13 @@ formed_from (bytes ∷ lines) log log' is e = by (next_entry log bytes) refl (λ
     by (Ok entry) next later e = later entry (formed_next log entry is (follows log bytes entry next)) e
     by (Err c) next later e = absurd (cc)
 
-pub formed_file : (file : List ℕ) (log : List Entry) → log_of file ≡ Ok log → IsFormedHistory (commands_of log)
-formed_file file log e = formed_from (whole_lines file) [] log formed_empty e
+pub session_file : (file : List ℕ) (log : List Entry) → log_of file ≡ Ok log → IsSession (session_over log)
+session_file file log e = formed_from (whole_lines file) [] log session_empty e
 
 -- ---- a line that is refused
 
 -- the names that a cause shows
-abbrev HasPlainCause : Cause → Type 0
+abbrev pub HasPlainCause : Cause → Type 0
 HasPlainCause (cause.Command epoch refusal) = HasPlainNames refusal
 HasPlainCause _ = Unit {0}
 
@@ -191,7 +204,7 @@ plain_id log entry = by (entry_with_id log entry.id)
     by (Some earlier) = tt
 
 plain_command : (log : List Entry) (entry : Entry) → IsFormedLog log → IfPlain (command_refused log entry)
-plain_command log entry is = by (commit_refusal (commands_of log) entry.cmd) (commit_plain (commands_of log) entry.cmd is.formed)
+plain_command log entry is = by (commit_refusal (commands_of log) entry.cmd) (commit_plain (commands_of log) entry.cmd is.history.formed)
   where
     by : (o : Option Refusal) → IfSome o HasPlainNames → IfPlain (option_map (cause.Command entry.epoch) o)
     by None names = tt
@@ -230,7 +243,7 @@ refused_from (bytes ∷ lines) log refused is e = by (next_entry log bytes) refl
         → goes_on log r (λ entry. log_from (log ++ entry ∷ []) lines) ≡ Err refused → HasPlainCause refused.cause
     by (Ok entry) next later e = later entry (formed_next log entry is (follows log bytes entry next)) e
     by (Err c) next later e =
-        let here : RefusedLine = record { line = length log + 1; cause = c } in
+        let here : RefusedLine = record { file = 1; line = length log + 1; cause = c } in
         let same : here ≡ refused = cc in
         subst (λ (x : RefusedLine). HasPlainCause x.cause) same (refused_next log bytes c is next)
 
@@ -238,14 +251,26 @@ cause_plain : (c : Cause) → HasPlainCause c → is_plain (cause_text c) ≡ tr
 cause_plain (cause.Line rule) names = plain_decimal rule
 cause_plain (cause.Epoch want came) names = plain_joined (codes "EPOCH " ++ decimal want) (codes " ") (decimal came) (plain_decimal want) refl (plain_decimal came)
 cause_plain (cause.Id id epoch) names = plain_joined (codes "ID " ++ decimal id) (codes " ") (decimal epoch) (plain_decimal id) refl (plain_decimal epoch)
+cause_plain (cause.Fork epoch held came) names = plain_decimal epoch
 cause_plain (cause.Command epoch r) names = plain_joined (codes "COMMAND " ++ decimal epoch) (codes " ") (refusal_text r) (plain_decimal epoch) refl (plain_refusal r names)
 
-refused_text_lines : (refused : RefusedLine) → HasPlainCause refused.cause → AreLines IsOfNoQuorum (refused_line_text refused)
+fork_plain : (c : Cause) → AreLines IsOfNoQuorum (fork_lines c)
+fork_plain (cause.Line rule) = AreLines-nil IsOfNoQuorum
+fork_plain (cause.Epoch want came) = AreLines-nil IsOfNoQuorum
+fork_plain (cause.Id id epoch) = AreLines-nil IsOfNoQuorum
+fork_plain (cause.Command epoch r) = AreLines-nil IsOfNoQuorum
+fork_plain (cause.Fork epoch held came) = AreLines-append IsOfNoQuorum (entry_line held) (entry_line came) (entry_is_line held) (entry_is_line came)
+
+pub refused_text_lines : (refused : RefusedLine) → HasPlainCause refused.cause → AreLines IsOfNoQuorum (refused_line_text refused)
 unfolding refused_line_text
 refused_text_lines refused names =
-    other_line (codes "REFUSED 1 " ++ decimal refused.line ++ codes " " ++ cause_text refused.cause)
-    (plain_joined (codes "REFUSED 1 " ++ decimal refused.line) (codes " ") (cause_text refused.cause) (plain_decimal refused.line) refl (cause_plain refused.cause names))
-    (λ e. omega arith) (λ e. omega arith)
+    let place : is_plain (codes "REFUSED " ++ decimal refused.file ++ codes " " ++ decimal refused.line) ≡ true =
+    plain_joined (codes "REFUSED " ++ decimal refused.file) (codes " ") (decimal refused.line) (plain_decimal refused.file) refl (plain_decimal refused.line) in
+    let head : AreLines IsOfNoQuorum (refused_head refused) =
+    other_line (codes "REFUSED " ++ decimal refused.file ++ codes " " ++ decimal refused.line ++ codes " " ++ cause_text refused.cause)
+    (plain_joined (codes "REFUSED " ++ decimal refused.file ++ codes " " ++ decimal refused.line) (codes " ") (cause_text refused.cause) place refl (cause_plain refused.cause names))
+    (λ e. omega arith) (λ e. omega arith) in
+    AreLines-append IsOfNoQuorum (refused_head refused) (fork_lines refused.cause) head (fork_plain refused.cause)
 
 pub refused_lines : (file : List ℕ) (refused : RefusedLine) → log_of file ≡ Err refused → AreLines IsOfNoQuorum (refused_line_text refused)
-refused_lines file refused e = refused_text_lines refused (refused_from (whole_lines file) [] refused formed_empty e)
+refused_lines file refused e = refused_text_lines refused (refused_from (whole_lines file) [] refused session_empty e)

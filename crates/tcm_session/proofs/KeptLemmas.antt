@@ -4,14 +4,13 @@ use Rattle.std.proofs.Math.Seq.{take-append-add}
 use Rattle.std.proofs.lemmas.Bool.{eqb-true}
 use Rattle.std.proofs.lemmas.Bool.Decides.{nat_tests}
 use Rattle.std.proofs.lemmas.List.{take-append-le, take_all, take_at, length-take-le}
-use Rattle.transformations.specs.declared.entry.Entry.{Entry}
 use Rattle.cluster_terms.specs.ReplicationText.{words_of}
 use Rattle.script_lang.specs.Grammar.{line_of, line_of_words}
 use Rattle.script_lang.specs.declared.script_line.ScriptLine.{ScriptLine}
 use Rattle.tcm_session.specs.Lines.{HasNoFeed, if_any, open_line, whole_lines}
-use Rattle.tcm_session.specs.Machine.{answers, entries_added, log_after, reply, reply_to}
+use Rattle.tcm_session.specs.Machine.{SessionState, answers, entries_added, reply, reply_to, session_after}
 use Rattle.tcm_session.specs.Runs.{IsBegun, kept_of, most_kept}
-use Rattle.tcm_session.proofs.AnswersLemmas.{answers-same, entries_added-same, log_after-same}
+use Rattle.tcm_session.proofs.AnswersLemmas.{answers-same, entries_added-same, session_after-same}
 use Rattle.tcm_session.proofs.LinesLemmas.{HasNoFeed-append, open_line-line, open_line-none, whole_lines-line, whole_lines-none}
 
 -- ---- what is kept
@@ -81,12 +80,12 @@ line_of-kept bytes = by (nat_le (length bytes) 16384) refl
         let too_long : nat_le (length (kept_of bytes)) 16384 ≡ false = grind (arith, nat_tests, full) in
         ap (λ t. if t then line_of_words (words_of (kept_of bytes)) else None) too_long ∙ sym (ap (λ t. if t then line_of_words (words_of bytes) else None) e)
 
-pub reply-kept : (log : List Entry) (bytes : List ℕ) → reply log (kept_of bytes) ≡ reply log bytes
+pub reply-kept : (session : SessionState) (bytes : List ℕ) → reply session (kept_of bytes) ≡ reply session bytes
 unfolding reply
-reply-kept log bytes = ap (reply_to log) (line_of-kept bytes)
+reply-kept session bytes = ap (reply_to session) (line_of-kept bytes)
 
-reply-kept_append : (log : List Entry) (o b : List ℕ) → reply log (kept_of o ++ b) ≡ reply log (o ++ b)
-reply-kept_append log o b = sym (reply-kept log (kept_of o ++ b)) ∙ ap (reply log) (kept_of-append o b) ∙ reply-kept log (o ++ b)
+reply-kept_append : (session : SessionState) (o b : List ℕ) → reply session (kept_of o ++ b) ≡ reply session (o ++ b)
+reply-kept_append session o b = sym (reply-kept session (kept_of o ++ b)) ∙ ap (reply session) (kept_of-append o b) ∙ reply-kept session (o ++ b)
 
 -- ---- the lines of what is kept, and of what follows
 
@@ -114,11 +113,11 @@ pub one_begun : (o l more : List ℕ) → HasNoFeed o → HasNoFeed l → open_l
 one_begun o l more p q = ap open_line (sym (append_assoc o l (10 ∷ more))) ∙ open_line-line (o ++ l) more (HasNoFeed-append o l p q)
 
 -- what depends on the replies to lines alone
-record DependsOnReplies {T : Type 0} (f : List (List ℕ) → T) (log : List Entry) : Type 0 where
-  same : (a b : List ℕ) (lines : List (List ℕ)) → reply log a ≡ reply log b → f (a ∷ lines) ≡ f (b ∷ lines)
+record DependsOnReplies {T : Type 0} (f : List (List ℕ) → T) (session : SessionState) : Type 0 where
+  same : (a b : List ℕ) (lines : List (List ℕ)) → reply session a ≡ reply session b → f (a ∷ lines) ≡ f (b ∷ lines)
 
-lines-kept : {T : Type 0} (f : List (List ℕ) → T) (log : List Entry) → DependsOnReplies f log → (o b : List ℕ) → HasNoFeed o → f (whole_lines (kept_of o ++ b)) ≡ f (whole_lines (o ++ b))
-lines-kept f log depends o b plain = by (ends b)
+lines-kept : {T : Type 0} (f : List (List ℕ) → T) (session : SessionState) → DependsOnReplies f session → (o b : List ℕ) → HasNoFeed o → f (whole_lines (kept_of o ++ b)) ≡ f (whole_lines (o ++ b))
+lines-kept f session depends o b plain = by (ends b)
   where
     kept_plain : HasNoFeed (kept_of o)
     kept_plain = HasNoFeed-kept o plain
@@ -127,17 +126,17 @@ lines-kept f log depends o b plain = by (ends b)
     by (inl none) = ap f (whole_lines-none (kept_of o ++ b) (HasNoFeed-append (kept_of o) b kept_plain none) ∙ sym (whole_lines-none (o ++ b) (HasNoFeed-append o b plain none)))
     by (inr it) =
         ap (λ x. f (whole_lines (kept_of o ++ x))) it.is ∙ ap f (one_line (kept_of o) it.line it.more kept_plain it.plain)
-        ∙ depends.same (kept_of o ++ it.line) (o ++ it.line) (whole_lines it.more) (reply-kept_append log o it.line)
+        ∙ depends.same (kept_of o ++ it.line) (o ++ it.line) (whole_lines it.more) (reply-kept_append session o it.line)
         ∙ sym (ap (λ x. f (whole_lines (o ++ x))) it.is ∙ ap f (one_line o it.line it.more plain it.plain))
 
-pub answers-kept : (log : List Entry) (o b : List ℕ) → HasNoFeed o → answers log (whole_lines (kept_of o ++ b)) ≡ answers log (whole_lines (o ++ b))
-answers-kept log o b plain = lines-kept (answers log) log (record { same = answers-same log }) o b plain
+pub answers-kept : (session : SessionState) (o b : List ℕ) → HasNoFeed o → answers session (whole_lines (kept_of o ++ b)) ≡ answers session (whole_lines (o ++ b))
+answers-kept session o b plain = lines-kept (answers session) session (record { same = answers-same session }) o b plain
 
-pub log_after-kept : (log : List Entry) (o b : List ℕ) → HasNoFeed o → log_after log (whole_lines (kept_of o ++ b)) ≡ log_after log (whole_lines (o ++ b))
-log_after-kept log o b plain = lines-kept (log_after log) log (record { same = log_after-same log }) o b plain
+pub session_after-kept : (session : SessionState) (o b : List ℕ) → HasNoFeed o → session_after session (whole_lines (kept_of o ++ b)) ≡ session_after session (whole_lines (o ++ b))
+session_after-kept session o b plain = lines-kept (session_after session) session (record { same = session_after-same session }) o b plain
 
-pub entries_added-kept : (log : List Entry) (o b : List ℕ) → HasNoFeed o → entries_added log (whole_lines (kept_of o ++ b)) ≡ entries_added log (whole_lines (o ++ b))
-entries_added-kept log o b plain = lines-kept (entries_added log) log (record { same = entries_added-same log }) o b plain
+pub entries_added-kept : (session : SessionState) (o b : List ℕ) → HasNoFeed o → entries_added session (whole_lines (kept_of o ++ b)) ≡ entries_added session (whole_lines (o ++ b))
+entries_added-kept session o b plain = lines-kept (entries_added session) session (record { same = entries_added-same session }) o b plain
 
 pub open_line-kept : (o b : List ℕ) → HasNoFeed o → kept_of (open_line (kept_of o ++ b)) ≡ kept_of (open_line (o ++ b))
 open_line-kept o b plain = by (ends b)
@@ -155,12 +154,12 @@ open_line-kept o b plain = by (ends b)
 
 -- ---- an open line at the end of an input
 
-if_any-kept : {T : Type 0} (f : List (List ℕ) → T) (log : List Entry) → DependsOnReplies f log → (o : List ℕ) → f (if_any (kept_of o)) ≡ f (if_any o)
-if_any-kept f log depends [] = refl
-if_any-kept f log depends (c ∷ o) = depends.same (kept_of (c ∷ o)) (c ∷ o) [] (reply-kept log (c ∷ o))
+if_any-kept : {T : Type 0} (f : List (List ℕ) → T) (session : SessionState) → DependsOnReplies f session → (o : List ℕ) → f (if_any (kept_of o)) ≡ f (if_any o)
+if_any-kept f session depends [] = refl
+if_any-kept f session depends (c ∷ o) = depends.same (kept_of (c ∷ o)) (c ∷ o) [] (reply-kept session (c ∷ o))
 
-pub answers-any_kept : (log : List Entry) (o : List ℕ) → answers log (if_any (kept_of o)) ≡ answers log (if_any o)
-answers-any_kept log o = if_any-kept (answers log) log (record { same = answers-same log }) o
+pub answers-any_kept : (session : SessionState) (o : List ℕ) → answers session (if_any (kept_of o)) ≡ answers session (if_any o)
+answers-any_kept session o = if_any-kept (answers session) session (record { same = answers-same session }) o
 
-pub entries_added-any_kept : (log : List Entry) (o : List ℕ) → entries_added log (if_any (kept_of o)) ≡ entries_added log (if_any o)
-entries_added-any_kept log o = if_any-kept (entries_added log) log (record { same = entries_added-same log }) o
+pub entries_added-any_kept : (session : SessionState) (o : List ℕ) → entries_added session (if_any (kept_of o)) ≡ entries_added session (if_any o)
+entries_added-any_kept session o = if_any-kept (entries_added session) session (record { same = entries_added-same session }) o

@@ -6,7 +6,8 @@ use Rattle.transformations.specs.declared.entry.Entry.{Entry}
 use Rattle.tcm_session.specs.Lines.{HasNoFeed, open_line, whole_lines}
 use Rattle.tcm_session.specs.LogFiles.{goes_on, lines_part, log_from, log_of, next_entry}
 use Rattle.tcm_session.specs.Loading.{TakesLog}
-use Rattle.tcm_session.specs.Steps.{TakesLine}
+use Rattle.tcm_session.specs.Machine.{SessionState, session_over}
+use Rattle.tcm_session.specs.Steps.{TakesLine, with_next}
 use Rattle.tcm_session.specs.declared.loading.Loading.TheVariants.{Taken}
 use Rattle.tcm_session.specs.declared.refused_line.Cause.{Cause}
 use Rattle.tcm_session.specs.declared.refused_line.RefusedLine.{RefusedLine}
@@ -37,7 +38,7 @@ module _ (file : List ℕ) (log : List Entry) (rest l more : List ℕ) (so_far :
       by (Err cause) taken = absurd taken
 
   -- the next line is refused
-  pub loads_refused : (cause : Cause) → next_entry log l ≡ Err cause → log_of file ≡ Err (record { line = length log + 1; cause = cause })
+  pub loads_refused : (cause : Cause) → next_entry log l ≡ Err cause → log_of file ≡ Err (record { file = 1; line = length log + 1; cause = cause })
   loads_refused cause refused = next_line ∙ ap (λ r. goes_on log r (λ entry. log_from (log ++ entry ∷ []) (whole_lines more))) refused
 
 -- no line is left
@@ -56,15 +57,25 @@ loads_end file log rest so_far plain =
 
 -- the line after these entries is refused
 abbrev refused_at : ℕ → Cause → Result (List Entry) RefusedLine
-refused_at n cause = Err (record { line = n + 1; cause = cause })
+refused_at n cause = Err (record { file = 1; line = n + 1; cause = cause })
 
 -- what taking the next line came to
-module _ (file : List ℕ) (log log' : List Entry) (rest l more : List ℕ) (so_far : Loads file log rest) (e : rest ≡ l ++ 10 ∷ more) (plain : HasNoFeed l) (o : Option Cause) where
-  pub loads_taken : o ≡ None → TakesLine o (next_entry log l) log log' → Loads file log' more
-  loads_taken none takes = loads_line file log rest l more so_far e plain log' (subst (λ x. TakesLine x (next_entry log l) log log') none takes)
+module _ (file : List ℕ) (session session' : SessionState) (rest l more : List ℕ) (so_far : Loads file session.log rest) (e : rest ≡ l ++ 10 ∷ more) (plain : HasNoFeed l) (o : Option Cause) where
+  pub loads_taken : o ≡ None → TakesLine o (next_entry session.log l) session session' → Loads file session'.log more
+  loads_taken none takes = loads_line file session.log rest l more so_far e plain session'.log (by (next_entry session.log l) (subst (λ x. TakesLine x (next_entry session.log l) session session') none takes))
+    where
+      by : (r : Result Entry Cause) → IsOkAnd r (λ entry. session' ≡ with_next session entry) → IsOkAnd r (λ entry. session'.log ≡ session.log ++ entry ∷ [])
+      by (Ok entry) is = ap (λ (s : SessionState). s.log) is
+      by (Err cause) is = absurd is
 
-  pub loads_refused_by : (cause : Cause) → o ≡ Some cause → TakesLine o (next_entry log l) log log' → (epoch : ℕ) → epoch ≡ length log' → log_of file ≡ Err (record { line = epoch + 1; cause = cause })
+  pub loads_refused_by : (cause : Cause) → o ≡ Some cause → TakesLine o (next_entry session.log l) session session' → (epoch : ℕ) → epoch ≡ length session'.log → log_of file ≡ Err (record { file = 1; line = epoch + 1; cause = cause })
   loads_refused_by cause some takes epoch is =
-      let refused = subst (λ x. TakesLine x (next_entry log l) log log') some takes in
-      loads_refused file log rest l more so_far e plain cause refused.0
-      ∙ ap (λ n. refused_at n cause) (sym (is ∙ ap length refused.1))
+      let refused = subst (λ x. TakesLine x (next_entry session.log l) session session') some takes in
+      loads_refused file session.log rest l more so_far e plain cause refused.0
+      ∙ ap (λ n. refused_at n cause) (sym (is ∙ ap (λ (s : SessionState). length s.log) refused.1))
+
+-- a session without followers stays one
+pub over_taken : (session session' : SessionState) (o : Option Cause) (given : Result Entry Cause) → session ≡ session_over session.log → TakesLine o given session session' → session' ≡ session_over session'.log
+over_taken session session' None (Ok entry) over takes = takes ∙ ap (λ (s : SessionState). record { log = session.log ++ entry ∷ []; followers = s.followers }) over ∙ ap (λ (s : SessionState). session_over s.log) (sym takes)
+over_taken session session' None (Err cause) over takes = absurd takes
+over_taken session session' (Some cause) given over takes = takes.1 ∙ over ∙ ap (λ (s : SessionState). session_over s.log) (sym takes.1)

@@ -40,7 +40,7 @@ pub record IsPlainImage (image : Image) : Type 0 where
   pub nodes : AllByRecursion IsPlainRow image.nodes
   pub keyspaces : AllByRecursion (λ k. is_plain k.name ≡ true) image.keyspaces
 
-plain_empty : IsPlainImage empty_image
+pub plain_empty : IsPlainImage empty_image
 plain_empty = record { nodes = tt; keyspaces = tt }
 
 -- a node that has left keeps its names
@@ -59,7 +59,7 @@ plain_finished : (image : Image) (o : Option SeqRow) → IsPlainImage image → 
 plain_finished image None is = is
 plain_finished image (Some s) is = record { nodes = plain_left image.nodes (leaver s) is.nodes; keyspaces = is.keyspaces }
 
-next_plain : (image : Image) (c : Command) → IsFormed c → IsPlainImage image → IsPlainImage (next_image image c)
+pub next_plain : (image : Image) (c : Command) → IsFormed c → IsPlainImage image → IsPlainImage (next_image image c)
 unfolding next_image
 next_plain image (Register name dc rack) formed is =
     let row : IsPlainRow (record { id = image.next; name = name; dc = dc; rack = rack; left = false }) =

@@ -10,16 +10,16 @@ use Rattle.wire_json.specs.Texts.{entry_line}
 use Rattle.tcm_session.specs.Faults.{Shows}
 use Rattle.tcm_session.specs.Lines.{HasNoFeed, whole_lines, open_line}
 use Rattle.tcm_session.specs.LogFiles.{Gains, entry_lines}
-use Rattle.tcm_session.specs.Machine.{answers, entries_added, log_after}
+use Rattle.tcm_session.specs.Machine.{answers, entries_added, session_after}
 use Rattle.tcm_session.specs.Outcome.{input_limit}
 use Rattle.tcm_session.specs.Counts.{Counts}
 use Rattle.tcm_session.specs.Runs.{IsBegun, PastBy, ReadsOnce, ReadsTo, Standing, StopsAt, Takes, kept_of, lines_ended}
 use Rattle.tcm_session.specs.declared.fault.RunFault.{RunFault}
 use Rattle.tcm_session.specs.declared.reading.ReadEnd.{ReadEnd}
 use Rattle.tcm_session.specs.declared.reading.ReadEnd.TheVariants as end
-use Rattle.tcm_session.proofs.AnswersLemmas.{answers-append, entries_added-append, log_after-append}
+use Rattle.tcm_session.proofs.AnswersLemmas.{answers-append, entries_added-append, session_after-append}
 use Rattle.tcm_session.proofs.GainLemmas.{Gains-append, Gains-nil}
-use Rattle.tcm_session.proofs.KeptLemmas.{IsBegun-kept, answers-kept, entries_added-kept, kept_of-short, log_after-kept, open_line-kept}
+use Rattle.tcm_session.proofs.KeptLemmas.{IsBegun-kept, answers-kept, entries_added-kept, kept_of-short, session_after-kept, open_line-kept}
 use Rattle.tcm_session.proofs.RunCauses.{not_source}
 use Rattle.tcm_session.proofs.LinesLemmas.{HasNoFeed-open, whole_lines-append, open_line-append, whole_lines-none, open_line-none}
 
@@ -38,10 +38,10 @@ pub Takes-nil : (file : Option (List ℕ)) (at : Standing) → IsBegun at.begun 
 Takes-nil file at begun =
     let none : lines_ended at [] ≡ [] = ap whole_lines (append-nil at.begun) ∙ whole_lines-none at.begun begun.plain in
     record {
-      log = ap (log_after at.log) (sym none);
+      session = ap (session_after at.session) (sym none);
       begun = sym (ap (λ o. kept_of (open_line o)) (append-nil at.begun) ∙ ap kept_of (open_line-none at.begun begun.plain) ∙ kept_of-short at.begun begun.few);
-      answered = subst (Appends at.written at.written) (ap (answers at.log) (sym none)) (Appends-nil at.written);
-      files = subst (λ ls. Gains file (entry_lines (entries_added at.log ls)) at.files at.files) (sym none) (Gains-nil file at.files);
+      answered = subst (Appends at.written at.written) (ap (answers at.session) (sym none)) (Appends-nil at.written);
+      files = subst (λ ls. Gains file (entry_lines (entries_added at.session ls)) at.files at.files) (sym none) (Gains-nil file at.files);
     }
 
 module _ (file : Option (List ℕ)) (a : List ℕ) (at at₁ : Standing) (first : Takes file a at at₁) where
@@ -55,41 +55,41 @@ module _ (file : Option (List ℕ)) (a : List ℕ) (at at₁ : Standing) (first 
   later_lines : (b : List ℕ) → lines_ended at (a ++ b) ≡ lines_ended at a ++ whole_lines (open_line (at.begun ++ a) ++ b)
   later_lines b = lines_of_two at.begun a b
 
-  later_answers : (b : List ℕ) → answers at.log (lines_ended at (a ++ b)) ≡ answers at.log (lines_ended at a) ++ answers at₁.log (lines_ended at₁ b)
+  later_answers : (b : List ℕ) → answers at.session (lines_ended at (a ++ b)) ≡ answers at.session (lines_ended at a) ++ answers at₁.session (lines_ended at₁ b)
   later_answers b =
-      let same : answers (log_after at.log (lines_ended at a)) (whole_lines (open_line (at.begun ++ a) ++ b)) ≡ answers at₁.log (lines_ended at₁ b) =
-      ap (λ l. answers l (whole_lines (open_line (at.begun ++ a) ++ b))) (sym first.log)
-      ∙ sym (answers-kept at₁.log (open_line (at.begun ++ a)) b opened_plain)
-      ∙ ap (λ x. answers at₁.log (whole_lines (x ++ b))) (sym first.begun) in
-      ap (answers at.log) (later_lines b) ∙ answers-append at.log (lines_ended at a) (whole_lines (open_line (at.begun ++ a) ++ b))
-      ∙ ap (λ t. answers at.log (lines_ended at a) ++ t) same
+      let same : answers (session_after at.session (lines_ended at a)) (whole_lines (open_line (at.begun ++ a) ++ b)) ≡ answers at₁.session (lines_ended at₁ b) =
+      ap (λ l. answers l (whole_lines (open_line (at.begun ++ a) ++ b))) (sym first.session)
+      ∙ sym (answers-kept at₁.session (open_line (at.begun ++ a)) b opened_plain)
+      ∙ ap (λ x. answers at₁.session (whole_lines (x ++ b))) (sym first.begun) in
+      ap (answers at.session) (later_lines b) ∙ answers-append at.session (lines_ended at a) (whole_lines (open_line (at.begun ++ a) ++ b))
+      ∙ ap (λ t. answers at.session (lines_ended at a) ++ t) same
 
-  later_added : (b : List ℕ) → entries_added at.log (lines_ended at (a ++ b)) ≡ entries_added at.log (lines_ended at a) ++ entries_added at₁.log (lines_ended at₁ b)
+  later_added : (b : List ℕ) → entries_added at.session (lines_ended at (a ++ b)) ≡ entries_added at.session (lines_ended at a) ++ entries_added at₁.session (lines_ended at₁ b)
   later_added b =
-      let same : entries_added (log_after at.log (lines_ended at a)) (whole_lines (open_line (at.begun ++ a) ++ b)) ≡ entries_added at₁.log (lines_ended at₁ b) =
-      ap (λ l. entries_added l (whole_lines (open_line (at.begun ++ a) ++ b))) (sym first.log)
-      ∙ sym (entries_added-kept at₁.log (open_line (at.begun ++ a)) b opened_plain)
-      ∙ ap (λ x. entries_added at₁.log (whole_lines (x ++ b))) (sym first.begun) in
-      ap (entries_added at.log) (later_lines b) ∙ entries_added-append at.log (lines_ended at a) (whole_lines (open_line (at.begun ++ a) ++ b))
-      ∙ ap (λ t. entries_added at.log (lines_ended at a) ++ t) same
+      let same : entries_added (session_after at.session (lines_ended at a)) (whole_lines (open_line (at.begun ++ a) ++ b)) ≡ entries_added at₁.session (lines_ended at₁ b) =
+      ap (λ l. entries_added l (whole_lines (open_line (at.begun ++ a) ++ b))) (sym first.session)
+      ∙ sym (entries_added-kept at₁.session (open_line (at.begun ++ a)) b opened_plain)
+      ∙ ap (λ x. entries_added at₁.session (whole_lines (x ++ b))) (sym first.begun) in
+      ap (entries_added at.session) (later_lines b) ∙ entries_added-append at.session (lines_ended at a) (whole_lines (open_line (at.begun ++ a) ++ b))
+      ∙ ap (λ t. entries_added at.session (lines_ended at a) ++ t) same
 
-  later_log : (b : List ℕ) → log_after at.log (lines_ended at (a ++ b)) ≡ log_after at₁.log (lines_ended at₁ b)
-  later_log b =
-      ap (log_after at.log) (later_lines b) ∙ log_after-append at.log (lines_ended at a) (whole_lines (open_line (at.begun ++ a) ++ b))
-      ∙ ap (λ l. log_after l (whole_lines (open_line (at.begun ++ a) ++ b))) (sym first.log)
-      ∙ sym (log_after-kept at₁.log (open_line (at.begun ++ a)) b opened_plain)
-      ∙ ap (λ x. log_after at₁.log (whole_lines (x ++ b))) (sym first.begun)
+  later_session : (b : List ℕ) → session_after at.session (lines_ended at (a ++ b)) ≡ session_after at₁.session (lines_ended at₁ b)
+  later_session b =
+      ap (session_after at.session) (later_lines b) ∙ session_after-append at.session (lines_ended at a) (whole_lines (open_line (at.begun ++ a) ++ b))
+      ∙ ap (λ l. session_after l (whole_lines (open_line (at.begun ++ a) ++ b))) (sym first.session)
+      ∙ sym (session_after-kept at₁.session (open_line (at.begun ++ a)) b opened_plain)
+      ∙ ap (λ x. session_after at₁.session (whole_lines (x ++ b))) (sym first.begun)
 
   -- two pieces, one after the other
   pub Takes-then : (b : List ℕ) (at₂ : Standing) → Takes file b at₁ at₂ → Takes file (a ++ b) at at₂
   Takes-then b at₂ second =
       record {
-        log = second.log ∙ sym (later_log b);
+        session = second.session ∙ sym (later_session b);
         begun = second.begun ∙ ap (λ x. kept_of (open_line (x ++ b))) first.begun
             ∙ open_line-kept (open_line (at.begun ++ a)) b opened_plain ∙ sym (ap kept_of (begun_of_two at.begun a b));
         answered = subst (Appends at.written at₂.written) (sym (later_answers b)) (Appends-trans at.written at₁.written at₂.written _ _ first.answered second.answered);
         files = subst (λ t. Gains file t at.files at₂.files)
-            (sym (ap entry_lines (later_added b) ∙ entry_lines-append (entries_added at.log (lines_ended at a)) (entries_added at₁.log (lines_ended at₁ b))))
+            (sym (ap entry_lines (later_added b) ∙ entry_lines-append (entries_added at.session (lines_ended at a)) (entries_added at₁.session (lines_ended at₁ b))))
             (Gains-append file _ _ at.files at₁.files at₂.files first.files second.files);
       }
 
@@ -119,7 +119,7 @@ StopsAt-none e most l l' at kept begun =
 -- a piece of which the answers are not all written, for no fault of the source
 pub StopsAt-piece : (e : RunFault) (most : ℕ) (l l' : Option (List ℕ)) (at : Standing) (w' : Option (List ℕ)) (bytes : List ℕ) (before after : Counts)
     → before.source ≡ 0 → after.source ≡ 0
-    → Consumes l l' bytes → length bytes ≤ most → WritesPrefix at.written w' (answers at.log (lines_ended at bytes)) → Shows e before after → StopsAt e most l l' at w'
+    → Consumes l l' bytes → length bytes ≤ most → WritesPrefix at.written w' (answers at.session (lines_ended at bytes)) → Shows e before after → StopsAt e most l l' at w'
 StopsAt-piece e most l l' at w' bytes before after none none' consumed fits part shown =
     record { bytes = bytes; consumed = consumed; bounded = fits; part = part; whole = λ is. absurd (not_source e before after none none' shown is) }
 

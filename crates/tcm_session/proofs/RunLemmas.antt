@@ -12,13 +12,13 @@ use Rattle.tcm_session.specs.Counts.{Counts}
 use Rattle.tcm_session.specs.Endings.{IsCommitOf, ending_lines, ending_status, ending_text, fault_status, status_by}
 use Rattle.tcm_edges.specs.declared.fault.LoadFault.{LoadFault}
 use Rattle.tcm_edges.specs.declared.fault.LoadFault.TheVariants as load
-use Rattle.tcm_session.specs.Faults.{HasRunCause, of_load}
+use Rattle.tcm_session.specs.Faults.{HasRunCause, Shows, of_load}
 use Rattle.tcm_session.specs.Lines.{whole_lines}
 use Rattle.tcm_session.specs.LogFiles.{Gains, cut_to_lines, entry_lines, log_of, refused_line_text}
-use Rattle.tcm_session.specs.Machine.{answers, entries_added}
-use Rattle.tcm_session.specs.Outcome.{Outcome, Start, commit_outcome, input_limit, is_commit, log_file, named_log, outcome, outcome_from, outcome_loaded, printed_by, script_outcome, unread_outcome, usage_text}
+use Rattle.tcm_session.specs.Machine.{answers, entries_added, session_over}
+use Rattle.tcm_session.specs.Outcome.{Outcome, Start, commit_outcome, input_limit, is_commit, log_file, named_log, outcome, outcome_from, outcome_loaded, printed_by, script_outcome, unread_outcome}
 use Rattle.tcm_session.specs.Run.{ComesSurely, ComesTo, HasStatus, IsFinal, IsRun, IsStatus, ReadsFor}
-use Rattle.tcm_session.specs.Runs.{IsEnd, MayHold, ReadsTo, RunsFor, RunsOn, Standing, StopsAt, Writes}
+use Rattle.tcm_session.specs.Runs.{IsEnd, MayHold, ReadsTo, RunsFor, RunsOn, RunsSeen, Standing, StopsAt, Writes}
 use Rattle.tcm_session.specs.declared.fault.RunFault.{RunFault}
 use Rattle.tcm_session.specs.declared.fault.RunFault.TheVariants as fault
 use Rattle.tcm_session.specs.declared.program.Status.{Status}
@@ -28,8 +28,9 @@ use Rattle.tcm_session.specs.declared.reading.ReadEnd.TheVariants as end
 use Rattle.tcm_session.proofs.CutLemmas.{behind_held, behind_loaded, files_behind}
 use Rattle.tcm_session.proofs.KeptLemmas.{IsBegun-nil}
 use Rattle.tcm_session.proofs.ReadLemmas.{StopsAt-none}
+use Rattle.tcm_session.proofs.ReplayLemmas.{seen_held}
 use Rattle.tcm_session.proofs.RunCauses.{not_source}
-use Rattle.tcm_session.proofs.RunOutcomes.{at_start, begins_stopped, ended, held_gained, of_commit, of_others, rest_of, script_log, script_reads, told_rest}
+use Rattle.tcm_session.proofs.RunOutcomes.{at_start, begins_stopped, ended, held_gained, of_commit, rest_of, script_log, script_reads, told_rest}
 
 -- ---- what a run comes to
 
@@ -93,7 +94,7 @@ fault_6 fault.Store is = refl
 module _ {S : Type 0} (start : Start) (left : S → Option (List ℕ)) (input input' : S) (w w' : Option (List ℕ)) (f' : Option Files) where
   -- it stopped at a fault, after these bytes were read
   script_stopped : (e : RunFault) (given read : List ℕ) → IfSome (left input) (λ bytes. bytes ≡ given) → WritesPrefix w w' (printed_by (script_outcome start given))
-      → Consumes (left input) (left input') read → length read ≤ input_limit + 1 → (e ≡ fault.Source → Appends w w' (answers start.log (whole_lines read)))
+      → Consumes (left input) (left input') read → length read ≤ input_limit + 1 → (e ≡ fault.Source → Appends w w' (answers (session_over start.log) (whole_lines read)))
       → RunsFor (script_outcome start) left input input' w w' f' (fault_status e)
   script_stopped e given read told part consumed most whole =
       record {
@@ -105,9 +106,9 @@ module _ {S : Type 0} (start : Start) (left : S → Option (List ℕ)) (input in
             read = read;
             consumed = consumed;
             most = most;
-            at_end = λ is. absurd (fault_not_0 e is);
-            read_fault = λ is. subst (λ log. Appends w w' (answers log (whole_lines read))) (sym (script_log start given)) (whole (fault_4 e is));
+            read_fault = λ is. subst (λ log. Appends w w' (answers (session_over log) (whole_lines read))) (sym (script_log start given)) (whole (fault_4 e is));
           };
+          at_end = λ is _. absurd (fault_not_0 e is);
           past_limit = λ is _. absurd (fault_not_8 e is);
           unread = λ no. absurd (true≢false (sym (script_reads start given) ∙ no));
         };
@@ -138,7 +139,7 @@ module _ {S : Type 0} (start : Start) (left : S → Option (List ℕ)) (input in
   most_read end.PastLimit reads = omega (arith, length-append reads.bytes reads.past, reads.ends.0, reads.ends.1)
 
   -- of what is due last a prefix is written
-  pub runs_part : {X : Type 0} (e : RunFault) → Writes {T = X} (ending_text ending at'.log at'.begun) at'.written w' before after (Err e) → RunsFor (script_outcome start) left input input' w w' f' (fault_status e)
+  pub runs_part : {X : Type 0} (e : RunFault) → Writes {T = X} (ending_text ending at'.session at'.begun) at'.written w' before after (Err e) → RunsFor (script_outcome start) left input input' w w' f' (fault_status e)
   runs_part e writes =
       let is = ended start (left input) (left input') w f at' ending reads in
       script_stopped start left input input' w w' f' e is.input (reads.bytes ++ reads.past) is.told
@@ -153,9 +154,9 @@ module _ {S : Type 0} (start : Start) (left : S → Option (List ℕ)) (input in
           read = reads.bytes ++ reads.past;
           consumed = reads.consumed;
           most = most_read end.AtEnd reads;
-          at_end = λ is. reads.ends.0;
           read_fault = λ is. absurd (omega arith);
         };
+        at_end = λ is _. reads.ends.0;
         past_limit = λ is _. absurd (omega arith);
         unread = λ no. absurd (true≢false (sym is_read ∙ no));
       }
@@ -165,15 +166,15 @@ module _ {S : Type 0} (start : Start) (left : S → Option (List ℕ)) (input in
           read = reads.bytes ++ reads.past;
           consumed = reads.consumed;
           most = most_read end.PastLimit reads;
-          at_end = λ is. absurd (omega arith);
           read_fault = λ is. absurd (omega arith);
         };
+        at_end = λ is _. absurd (omega arith);
         past_limit = λ is _. omega (arith, length-append reads.bytes reads.past, reads.ends.0, reads.ends.1);
         unread = λ no. absurd (true≢false (sym is_read ∙ no));
       }
 
-  pub runs_whole : {X : Type 0} (x : X) → MayHold f start.files → Writes (ending_text ending at'.log at'.begun) at'.written w' before after (Ok x)
-      → Gains start.file (entry_lines (entries_added at'.log (ending_lines ending at'.begun))) at'.files f' → RunsFor (script_outcome start) left input input' w w' f' (ending_status ending)
+  pub runs_whole : {X : Type 0} (x : X) → MayHold f start.files → Writes (ending_text ending at'.session at'.begun) at'.written w' before after (Ok x)
+      → Gains start.file (entry_lines (entries_added at'.session (ending_lines ending at'.begun))) at'.files f' → RunsFor (script_outcome start) left input input' w w' f' (ending_status ending)
   runs_whole x held writes gained =
       let is = ended start (left input) (left input') w f at' ending reads in
       record {
@@ -188,54 +189,57 @@ module _ {S : Type 0} (start : Start) (left : S → Option (List ℕ)) (input in
 -- ---- an outcome that reads nothing
 
 module _ {S : Type 0} (status : ℕ) (last : List ℕ) (all : Files) (left : S → Option (List ℕ)) (input : S) (w w' : Option (List ℕ)) (f' : Option Files) (before after : Counts) (none : before.source ≡ 0) (none' : after.source ≡ 0) where
-  reads_nothing : (ended : ℕ) → ended ≢ 0 → ended ≢ 4 → ReadsFor (unread_outcome status last all) left input input w w' ended
-  reads_nothing ended not_0 not_4 =
+  reads_nothing : (ended : ℕ) → ended ≢ 4 → ReadsFor (unread_outcome status last all) left input input w w' ended
+  reads_nothing ended not_4 =
       record {
         reads = record {
           read = [];
           consumed = Consumes-nil (left input);
           most = omega arith;
-          at_end = λ is. absurd (not_0 is);
           read_fault = λ is. absurd (not_4 is);
         };
+        at_end = λ is no. absurd (true≢false (sym no));
         past_limit = λ is no. absurd (true≢false (sym no));
         unread = λ _. (refl, not_4);
       }
 
-  pub runs_unread : (r : Result Status RunFault) → status ≢ 0 → status ≢ 4 → MayHold f' all → Writes last w w' before after r → IfOk r (λ s. s.0 ≡ status)
+  pub runs_unread_err : (e : RunFault) → WritesPrefix w w' last → Shows e before after → RunsFor (λ _. unread_outcome status last all) left input input w w' f' (fault_status e)
+  runs_unread_err e part shown =
+      record {
+        given = rest_of (left input);
+        told = told_rest (left input);
+        comes = comes_part (unread_outcome status last all) w w' f' (fault_status e) (fault_not_final e) part;
+        reads = reads_nothing (fault_status e) (λ four. not_source e before after none none' shown (fault_4 e four));
+      }
+
+  pub runs_unread : (r : Result Status RunFault) → status ≢ 4 → MayHold f' all → Writes last w w' before after r → IfOk r (λ s. s.0 ≡ status)
       → RunsFor (λ _. unread_outcome status last all) left input input w w' f' (status_by r)
-  runs_unread (Ok s) not_0 not_4 held writes is =
+  runs_unread (Ok s) not_4 held writes is =
       subst (RunsFor (λ _. unread_outcome status last all) left input input w w' f') (sym is)
       (record {
         given = rest_of (left input);
         told = told_rest (left input);
         comes = comes_whole (unread_outcome status last all) w w' f' status refl writes.whole held;
-        reads = reads_nothing status not_0 not_4;
+        reads = reads_nothing status not_4;
       })
-  runs_unread (Err e) not_0 not_4 held writes is =
-      record {
-        given = rest_of (left input);
-        told = told_rest (left input);
-        comes = comes_part (unread_outcome status last all) w w' f' (fault_status e) (fault_not_final e) writes.part;
-        reads = reads_nothing (fault_status e) (fault_not_0 e) (λ four. not_source e before after none none' writes.cause.shown (fault_4 e four));
-      }
+  runs_unread (Err e) not_4 held writes is = runs_unread_err e writes.part writes.cause.shown
 
 -- ---- what a status shows
 
--- four of eight tests
-of_eight : (a b c d e f g h : Bool) → (a || c || d || h) ≡ true → (a || b || c || d || e || f || g || h) ≡ true
-of_eight true b c d e f g h is = refl
-of_eight false true c d e f g h is = refl
-of_eight false false true d e f g h is = refl
-of_eight false false false true e f g h is = refl
-of_eight false false false false true f g h is = refl
-of_eight false false false false false true g h is = refl
-of_eight false false false false false false true h is = refl
-of_eight false false false false false false false h is = is
+-- five of nine tests
+of_nine : (a b c d e f g h i : Bool) → (a || c || d || h || i) ≡ true → (a || b || c || d || e || f || g || h || i) ≡ true
+of_nine true b c d e f g h i is = refl
+of_nine false true c d e f g h i is = refl
+of_nine false false true d e f g h i is = refl
+of_nine false false false true e f g h i is = refl
+of_nine false false false false true f g h i is = refl
+of_nine false false false false false true g h i is = refl
+of_nine false false false false false false true h i is = refl
+of_nine false false false false false false false h i is = is
 
-final_end : (status : ℕ) → IsEnd status → IsStatus status × IsFinal status
+pub final_end : (status : ℕ) → IsEnd status → IsStatus status × IsFinal status
 final_end status is = (
-  of_eight (status == 0) (status == 1) (status == 2) (status == 3) (status == 4) (status == 5) (status == 6) (status == 8) is,
+  of_nine (status == 0) (status == 1) (status == 2) (status == 3) (status == 4) (status == 5) (status == 6) (status == 7) (status == 8) is,
   record {
     memory = λ e. true≢false (sym (subst IsEnd e is));
     source = λ e. true≢false (sym (subst IsEnd e is));
@@ -316,9 +320,9 @@ runs_early left input w outcome_of f' e other =
           read = [];
           consumed = Consumes-nil (left input);
           most = omega arith;
-          at_end = λ is. absurd (fault_not_0 e is);
           read_fault = λ is. absurd (not_4 is);
         };
+        at_end = λ is _. absurd (fault_not_0 e is);
         past_limit = λ is _. absurd (fault_not_8 e is);
         unread = λ _. (refl, not_4);
       };
@@ -355,17 +359,11 @@ module _ {S : Type 0} (left : S → Option (List ℕ)) (input input' : S) (w w' 
 
   -- the words
   pub runs_commit : (words : List (List ℕ)) (file : Option (List ℕ)) (files f' : Option Files) (status : ℕ) → is_commit words ≡ true → log_file words ≡ file
-      → RunsOn (commit_outcome file) left input input' w w' files f' status → RunsOn (outcome words) left input input' w w' files f' status
+      → RunsOn (commit_outcome file) left input input' w w' files f' status → RunsSeen (outcome words) left input input' w w' files f' status
   runs_commit words file files f' status e named on =
-      let same : commit_outcome file ≡ outcome words = (λ i all given. sym (of_commit words e all given ∙ ap (λ f. commit_outcome f all given) named) i) in
-      subst (λ o. RunsOn o left input input' w w' files f' status) same on
-
-  pub runs_usage : (words : List (List ℕ)) (files f' : Option Files) (status : ℕ) → is_commit words ≡ false
-      → RunsOn (λ all _. unread_outcome 2 usage_text all) left input input' w w' files f' status → RunsOn (outcome words) left input input' w w' files f' status
-  runs_usage words files f' status e on =
-      let usage : Files → List ℕ → Outcome = λ all _. unread_outcome 2 usage_text all in
-      let same : usage ≡ outcome words = (λ i all given. sym (of_others words e all given) i) in
-      subst (λ o. RunsOn o left input input' w w' files f' status) same on
+      let seen : ℕ → Files = λ _. on.all in
+      let same : commit_outcome file on.all ≡ outcome words seen = (λ i given. sym (of_commit words e seen given ∙ ap (λ f. commit_outcome f on.all given) named) i) in
+      record { seen = seen; held = seen_held files on.all on.held; runs = subst (λ o. RunsFor o left input input' w w' f' status) same on.runs }
 
 -- the fault of a load is none of the source
 pub load_not_source : (e : LoadFault) → of_load e ≢ fault.Source
@@ -393,11 +391,11 @@ named_file words file e is = ap (λ b. if b then log_file words else None) e ∙
 -- ---- over objects that never fail
 
 pub comes_surely : {S : Type 0} (words : List (List ℕ)) (left : S → Option (List ℕ)) (input input' : S) (bytes w w' : List ℕ) (all all' : Files) (status : ℕ) → left input ≡ Some bytes
-    → IsRun words left input input' (Some w) (Some w') (Some all) (Some all') status → (status ≡ 1) ⊎ IsFinal status → (status ≡ 1) ⊎ ComesSurely (outcome words all bytes) w w' all' status
+    → IsRun words left input input' (Some w) (Some w') (Some all) (Some all') status → (status ≡ 1) ⊎ IsFinal status → (status ≡ 1) ⊎ ComesSurely (outcome words (λ _. all) bytes) w w' all' status
 comes_surely words left input input' bytes w w' all all' status is run (inl one) = inl one
 comes_surely words left input input' bytes w w' all all' status is run (inr final) =
     let given : bytes ≡ run.given.input = subst (λ l. IfSome l (λ b. b ≡ run.given.input)) is run.given.told_input in
-    let same : outcome words run.given.all run.given.input ≡ outcome words all bytes = (λ i. outcome words (sym run.given.told_files i) (sym given i)) in
+    let same : outcome words run.given.seen run.given.input ≡ outcome words (λ _. all) bytes = (λ i. outcome words (λ n. run.given.told_files n i) (sym given i)) in
     inr (record {
       status = run.comes.status final ∙ ap (λ (o : Outcome). o.status) same;
       printed = subst (λ t. Appends (Some w) (Some w') t) (run.comes.whole final ∙ ap printed_by same) run.comes.wrote;

@@ -11,8 +11,8 @@ use Rattle.transformations.specs.declared.entry.Entry.{Entry}
 use Rattle.tcm_session.specs.Endings.{ending_lines, ending_status, ending_text}
 use Rattle.tcm_session.specs.Lines.{whole_lines, open_line, if_any, script_lines}
 use Rattle.tcm_session.specs.LogFiles.{Gains, entry_lines, with_added}
-use Rattle.tcm_session.specs.Machine.{answers, entries_added, log_after}
-use Rattle.tcm_session.specs.Outcome.{Outcome, Start, commit_outcome, files_with, input_limit, is_commit, large_outcome, log_file, outcome, printed_by, script_outcome, too_large_text, unread_outcome, usage_text, whole_outcome}
+use Rattle.tcm_session.specs.Machine.{SessionState, answers, entries_added, session_after, session_over}
+use Rattle.tcm_session.specs.Outcome.{Outcome, Start, commit_outcome, files_with, input_limit, is_commit, is_replay, large_outcome, log_file, other_outcome, outcome, printed_by, replay_outcome, replayed_files, script_outcome, too_large_text, unread_outcome, usage_text, whole_outcome}
 use Rattle.tcm_session.specs.Runs.{MayHold, ReadsTo, Standing, StopsAt, standing}
 use Rattle.tcm_session.specs.declared.fault.RunFault.{RunFault}
 use Rattle.tcm_session.specs.declared.reading.ReadEnd.{ReadEnd}
@@ -82,40 +82,40 @@ record Begins (text front : List ℕ) : Type 0 where
   more : List ℕ
   is : text ≡ front ++ more
 
-answers_begin : (log : List Entry) (a b : List (List ℕ)) (text : List ℕ) → Begins (answers log (a ++ b) ++ text) (answers log a)
-answers_begin log a b text =
+answers_begin : (session : SessionState) (a b : List (List ℕ)) (text : List ℕ) → Begins (answers session (a ++ b) ++ text) (answers session a)
+answers_begin session a b text =
     record {
-      more = answers (log_after log a) b ++ text;
-      is = ap (λ t. t ++ text) (answers-append log a b) ∙ append_assoc (answers log a) (answers (log_after log a) b) text;
+      more = answers (session_after session a) b ++ text;
+      is = ap (λ t. t ++ text) (answers-append session a b) ∙ append_assoc (answers session a) (answers (session_after session a) b) text;
     }
 
-lines_begin : (log : List Entry) (a b : List ℕ) (others : List (List ℕ)) (text : List ℕ) → Begins (answers log (whole_lines (a ++ b) ++ others) ++ text) (answers log (whole_lines a))
-lines_begin log a b others text =
+lines_begin : (session : SessionState) (a b : List ℕ) (others : List (List ℕ)) (text : List ℕ) → Begins (answers session (whole_lines (a ++ b) ++ others) ++ text) (answers session (whole_lines a))
+lines_begin session a b others text =
     let split : whole_lines (a ++ b) ++ others ≡ whole_lines a ++ (whole_lines (open_line a ++ b) ++ others) =
     ap (λ x. x ++ others) (whole_lines-append a b) ∙ append_assoc (whole_lines a) (whole_lines (open_line a ++ b)) others in
-    let begun = answers_begin log (whole_lines a) (whole_lines (open_line a ++ b) ++ others) text in
-    record { more = begun.more; is = ap (λ x. answers log x ++ text) split ∙ begun.is }
+    let begun = answers_begin session (whole_lines a) (whole_lines (open_line a ++ b) ++ others) text in
+    record { more = begun.more; is = ap (λ x. answers session x ++ text) split ∙ begun.is }
 
 -- of a front that is within the limit, the answers are a front of what the outcome prints
-printed_begins : (start : Start) (front rest : List ℕ) → length front ≤ input_limit → Begins (printed_by (script_outcome start (front ++ rest))) (answers start.log (whole_lines front))
+printed_begins : (start : Start) (front rest : List ℕ) → length front ≤ input_limit → Begins (printed_by (script_outcome start (front ++ rest))) (answers (session_over start.log) (whole_lines front))
 printed_begins start front rest fits = by (leb (length (front ++ rest)) input_limit) refl
   where
-    by : (b : Bool) → leb (length (front ++ rest)) input_limit ≡ b → Begins (printed_by (script_outcome start (front ++ rest))) (answers start.log (whole_lines front))
+    by : (b : Bool) → leb (length (front ++ rest)) input_limit ≡ b → Begins (printed_by (script_outcome start (front ++ rest))) (answers (session_over start.log) (whole_lines front))
     by true e =
         let within : length (front ++ rest) ≤ input_limit = grind (arith, nat_tests) in
-        let begun = lines_begin start.log front rest (if_any (open_line (front ++ rest))) [] in
+        let begun = lines_begin (session_over start.log) front rest (if_any (open_line (front ++ rest))) [] in
         record { more = begun.more; is = ap printed_by (short start (front ++ rest) within) ∙ begun.is }
     by false e =
         let beyond : input_limit < length (front ++ rest) = grind (arith, nat_tests) in
         let full : length front + (input_limit - length front) ≡ input_limit = omega arith in
         let cut : take input_limit (front ++ rest) ≡ front ++ take (input_limit - length front) rest =
         ap (λ n. take n (front ++ rest)) (sym full) ∙ take-append-add front rest (input_limit - length front) in
-        let begun = lines_begin start.log front (take (input_limit - length front) rest) [] too_large_text in
+        let begun = lines_begin (session_over start.log) front (take (input_limit - length front) rest) [] too_large_text in
         record {
           more = begun.more;
           is = ap printed_by (long start (front ++ rest) beyond)
-              ∙ ap (λ x. answers start.log (whole_lines x) ++ too_large_text) cut
-              ∙ ap (λ x. answers start.log x ++ too_large_text) (sym (append-nil (whole_lines (front ++ take (input_limit - length front) rest))))
+              ∙ ap (λ x. answers (session_over start.log) (whole_lines x) ++ too_large_text) cut
+              ∙ ap (λ x. answers (session_over start.log) x ++ too_large_text) (sym (append-nil (whole_lines (front ++ take (input_limit - length front) rest))))
               ∙ begun.is;
         }
 
@@ -129,7 +129,7 @@ pub record Begins_outcome (start : Start) (l w w' : Option (List ℕ)) : Type 0 
 
 -- a script stands at its beginning
 abbrev pub at_start : Start → Option (List ℕ) → Option Files → Standing
-at_start start w f = standing start.log [] w f
+at_start start w f = standing (session_over start.log) [] w f
 
 -- reading stopped at a fault
 pub begins_stopped : (start : Start) (e : RunFault) (l l' w w' : Option (List ℕ)) (f : Option Files) → StopsAt e input_limit l l' (at_start start w f) w' → Begins_outcome start l w w'
@@ -146,10 +146,10 @@ pub record Ended (start : Start) (ending : ReadEnd) (l : Option (List ℕ)) (byt
   pub input : List ℕ
   pub told : IfSome l (λ xs. xs ≡ input)
   pub status : (script_outcome start input).status ≡ ending_status ending
-  pub printed : printed_by (script_outcome start input) ≡ answers start.log (whole_lines bytes) ++ ending_text ending at'.log at'.begun
+  pub printed : printed_by (script_outcome start input) ≡ answers (session_over start.log) (whole_lines bytes) ++ ending_text ending at'.session at'.begun
   pub files : (script_outcome start input).files
-      ≡ with_added start.file (entry_lines (entries_added at'.log (ending_lines ending at'.begun)))
-      (with_added start.file (entry_lines (entries_added start.log (whole_lines bytes))) start.files)
+      ≡ with_added start.file (entry_lines (entries_added at'.session (ending_lines ending at'.begun)))
+      (with_added start.file (entry_lines (entries_added (session_over start.log) (whole_lines bytes))) start.files)
 
 module _ (start : Start) (l l' w : Option (List ℕ)) (f : Option Files) (at' : Standing) where
   ended_at_end : (reads : ReadsTo start.file end.AtEnd l l' (at_start start w f) at') → Ended start end.AtEnd l reads.bytes at'
@@ -160,20 +160,20 @@ module _ (start : Start) (l l' w : Option (List ℕ)) (f : Option Files) (at' : 
       let bare : (reads.bytes ++ reads.past) ++ rest_of l' ≡ reads.bytes =
       ap (λ x. (reads.bytes ++ x) ++ rest_of l') reads.ends.2 ∙ ap (λ x. (reads.bytes ++ []) ++ x) nothing ∙ append-nil _ ∙ append-nil reads.bytes in
       let is : script_outcome start ((reads.bytes ++ reads.past) ++ rest_of l') ≡ whole_outcome start reads.bytes = ap (script_outcome start) bare ∙ short start reads.bytes reads.ends.1 in
-      let last_text : answers (log_after start.log lines) opened ≡ answers at'.log (if_any at'.begun) =
-      ap (λ x. answers x opened) (sym reads.takes.log) ∙ sym (answers-any_kept at'.log (open_line reads.bytes)) ∙ ap (λ x. answers at'.log (if_any x)) (sym reads.takes.begun) in
-      let last_added : entries_added (log_after start.log lines) opened ≡ entries_added at'.log (if_any at'.begun) =
-      ap (λ x. entries_added x opened) (sym reads.takes.log) ∙ sym (entries_added-any_kept at'.log (open_line reads.bytes)) ∙ ap (λ x. entries_added at'.log (if_any x)) (sym reads.takes.begun) in
-      let added : entry_lines (entries_added start.log (script_lines reads.bytes)) ≡ entry_lines (entries_added start.log lines) ++ entry_lines (entries_added at'.log (if_any at'.begun)) =
-      ap entry_lines (entries_added-append start.log lines opened) ∙ entry_lines-append (entries_added start.log lines) (entries_added (log_after start.log lines) opened)
-      ∙ ap (λ es. entry_lines (entries_added start.log lines) ++ entry_lines es) last_added in
+      let last_text : answers (session_after (session_over start.log) lines) opened ≡ answers at'.session (if_any at'.begun) =
+      ap (λ x. answers x opened) (sym reads.takes.session) ∙ sym (answers-any_kept at'.session (open_line reads.bytes)) ∙ ap (λ x. answers at'.session (if_any x)) (sym reads.takes.begun) in
+      let last_added : entries_added (session_after (session_over start.log) lines) opened ≡ entries_added at'.session (if_any at'.begun) =
+      ap (λ x. entries_added x opened) (sym reads.takes.session) ∙ sym (entries_added-any_kept at'.session (open_line reads.bytes)) ∙ ap (λ x. entries_added at'.session (if_any x)) (sym reads.takes.begun) in
+      let added : entry_lines (entries_added (session_over start.log) (script_lines reads.bytes)) ≡ entry_lines (entries_added (session_over start.log) lines) ++ entry_lines (entries_added at'.session (if_any at'.begun)) =
+      ap entry_lines (entries_added-append (session_over start.log) lines opened) ∙ entry_lines-append (entries_added (session_over start.log) lines) (entries_added (session_after (session_over start.log) lines) opened)
+      ∙ ap (λ es. entry_lines (entries_added (session_over start.log) lines) ++ entry_lines es) last_added in
       record {
         input = (reads.bytes ++ reads.past) ++ rest_of l';
         told = told_input l l' (reads.bytes ++ reads.past) reads.consumed;
         status = ap (λ (o : Outcome). o.status) is;
-        printed = ap printed_by is ∙ append-nil _ ∙ answers-append start.log lines opened ∙ ap (λ x. answers start.log lines ++ x) last_text;
+        printed = ap printed_by is ∙ append-nil _ ∙ answers-append (session_over start.log) lines opened ∙ ap (λ x. answers (session_over start.log) lines ++ x) last_text;
         files = ap (λ (o : Outcome). o.files) is ∙ ap (λ t. with_added start.file t start.files) added
-            ∙ with_added-append start.file (entry_lines (entries_added start.log lines)) (entry_lines (entries_added at'.log (if_any at'.begun))) start.files;
+            ∙ with_added-append start.file (entry_lines (entries_added (session_over start.log) lines)) (entry_lines (entries_added at'.session (if_any at'.begun))) start.files;
       }
 
   ended_past : (reads : ReadsTo start.file end.PastLimit l l' (at_start start w f) at') → Ended start end.PastLimit l reads.bytes at'
@@ -190,9 +190,9 @@ module _ (start : Start) (l l' w : Option (List ℕ)) (f : Option Files) (at' : 
         input = (reads.bytes ++ reads.past) ++ rest_of l';
         told = told_input l l' (reads.bytes ++ reads.past) reads.consumed;
         status = ap (λ (o : Outcome). o.status) is;
-        printed = ap printed_by is ∙ ap (λ x. answers start.log (whole_lines x) ++ too_large_text) cut;
+        printed = ap printed_by is ∙ ap (λ x. answers (session_over start.log) (whole_lines x) ++ too_large_text) cut;
         files = ap (λ (o : Outcome). o.files) is ∙ ap (λ x. files_with start (whole_lines x)) cut
-            ∙ sym (with_added-nil start.file (with_added start.file (entry_lines (entries_added start.log (whole_lines reads.bytes))) start.files));
+            ∙ sym (with_added-nil start.file (with_added start.file (entry_lines (entries_added (session_over start.log) (whole_lines reads.bytes))) start.files));
       }
 
   pub ended : (ending : ReadEnd) (reads : ReadsTo start.file ending l l' (at_start start w f) at') → Ended start ending l reads.bytes at'
@@ -208,10 +208,16 @@ held_gained name text (Some these) new all held gained = subst (λ f. MayHold f 
 -- ---- the outcome by the words
 
 module _ (words : List (List ℕ)) where
-  pub of_commit : is_commit words ≡ true → (all : Files) (input : List ℕ) → outcome words all input ≡ commit_outcome (log_file words) all input
+  pub of_commit : is_commit words ≡ true → (seen : ℕ → Files) (input : List ℕ) → outcome words seen input ≡ commit_outcome (log_file words) (seen 0) input
   unfolding outcome
-  of_commit e all input = ap (λ b. cond b (commit_outcome (log_file words) all input) (unread_outcome 2 usage_text all)) e
+  of_commit e seen input = ap (λ b. cond b (commit_outcome (log_file words) (seen 0) input) (other_outcome words seen)) e
 
-  pub of_others : is_commit words ≡ false → (all : Files) (input : List ℕ) → outcome words all input ≡ unread_outcome 2 usage_text all
+  pub of_others : is_commit words ≡ false → (seen : ℕ → Files) (input : List ℕ) → outcome words seen input ≡ other_outcome words seen
   unfolding outcome
-  of_others e all input = ap (λ b. cond b (commit_outcome (log_file words) all input) (unread_outcome 2 usage_text all)) e
+  of_others e seen input = ap (λ b. cond b (commit_outcome (log_file words) (seen 0) input) (other_outcome words seen)) e
+
+  pub of_replay : is_replay words ≡ true → (seen : ℕ → Files) → other_outcome words seen ≡ replay_outcome (replayed_files words) seen
+  of_replay e seen = ap (λ b. cond b (replay_outcome (replayed_files words) seen) (unread_outcome 2 usage_text (seen 0))) e
+
+  pub of_usage : is_replay words ≡ false → (seen : ℕ → Files) → other_outcome words seen ≡ unread_outcome 2 usage_text (seen 0)
+  of_usage e seen = ap (λ b. cond b (replay_outcome (replayed_files words) seen) (unread_outcome 2 usage_text (seen 0))) e

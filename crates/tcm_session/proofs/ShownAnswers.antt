@@ -1,11 +1,10 @@
 -- What an answer shows: its text, and where its sets come from.
-use Rattle.std.proofs.Common.{◌≡◌, ◌≢◌, ℕ, suc, ◌≤◌, inl, inr, Bool, true, false, if◌then◌else◌, ℤ, List, [], ◌∷◌, ◌++◌, get_or, take, length, Option, Some, None, Result, Ok, Err, option_map, option_and_then, nat_le, codes, decimal, refl, sym, ap, ◌∙◌, subst, arith, length-take-le}
+use Rattle.std.proofs.Common.{◌≡◌, ◌≢◌, ℕ, suc, ◌≤◌, inl, inr, ℤ, List, [], ◌∷◌, get_or, take, length, Option, Some, None, Result, Ok, Err, option_map, option_and_then, codes, refl, sym, ap, ◌∙◌, subst, arith}
 use Rattle.std.specs.Option.{IfSome}
-use Rattle.std.proofs.lemmas.Bool.Decides.{nat_tests}
 use Rattle.std.proofs.lemmas.Option.{none-some}
 use Rattle.cluster_terms.specs.Arc.{IsToken}
 use Rattle.cluster_terms.specs.Quorum.{Sets, datacenter_of}
-use Rattle.transformations.proofs.histories.HistoryLemmas.{epoch_after}
+use Rattle.transformations.proofs.histories.LogLemmas.{length-commands_of}
 use Rattle.transformations.specs.History.{state_after}
 use Rattle.transformations.specs.Log.{commands_of, commit_of}
 use Rattle.transformations.specs.Meeting.{datacenters_of, local_sets_at, sets_at}
@@ -17,13 +16,26 @@ use Rattle.transformations.specs.declared.refusal.Refusal.{Refusal}
 use Rattle.cluster_metadata.specs.Served.{keyspace_of}
 use Rattle.script_lang.proofs.SaidLemmas.{IsSaid}
 use Rattle.script_lang.specs.Grammar.{line_of}
-use Rattle.tcm_session.specs.Machine.{commit_text, local_quorums, local_quorums_in, placements, query_answer, quorums, reply, reply_to}
+use Rattle.epoch_log.specs.Epochs.{entry_at}
+use Rattle.follower_log.specs.Follower.{FollowerState, hand_entry, hand_image}
+use Rattle.follower_log.specs.Prefix.{IsImageOf}
+use Rattle.follower_log.specs.declared.fault.FollowerFault.{FollowerFault}
+use Rattle.follower_log.specs.declared.took.Took.{Took}
+use Rattle.follower_log.specs.declared.took.Took.TheVariants.{At, Old, Held, Full}
+use Rattle.tcm_session.specs.Machine.{Reply, SessionState, commit_text, deliver_to, follower_named, follower_reply, handed_text, image_at, image_of, local_quorums, local_quorums_in, no_epoch, placements, query_text, quorums, reply, reply_of, reply_to, snapshot_to}
+use Rattle.tcm_session.specs.declared.followers.NamedFollower.{NamedFollower}
 use Rattle.tcm_session.specs.declared.query.Query.TheVariants as query
-use Rattle.tcm_session.specs.Shown.{IsOfNoQuorum, Shown, sets_in, shown_at, shown_by, shown_text}
-use Rattle.script_lang.specs.Texts.{no_text, nodes_text, ok_text, place_text, quorum_text, refusal_text}
+use Rattle.tcm_session.specs.Shown.{IsOfNoQuorum, Shown, sets_in, shown_by, shown_from, shown_text}
+use Rattle.script_lang.specs.Texts.{epoch_text, no_text, nodes_text, ok_text, place_text, quorum_text, refusal_text}
 use Rattle.script_lang.specs.declared.script_line.ScriptLine.{ScriptLine}
-use Rattle.script_lang.specs.declared.script_line.ScriptLine.TheVariants.{Commit, Place, Nodes, Quorum, Local}
-use Rattle.script_lang.specs.declared.script_line.Target.TheVariants.{Epoch}
+use Rattle.script_lang.specs.declared.script_line.Target.{Target}
+use Rattle.script_lang.specs.declared.script_line.ScriptLine.TheVariants.{Commit, Follower, Deliver, Snapshot, Place, Nodes, Quorum, Local}
+use Rattle.tcm_session.proofs.SessionLemmas.{IsSession, image_of_target}
+use Rattle.tcm_session.proofs.TakenLemmas.{follower_cases}
+
+-- what an image shows of some sets
+abbrev pub shown_as : Image → List ℕ → Option (List ℕ) → ℤ → Sets → Shown
+shown_as image name dc t sets = record { datacenter = dc; keyspace = name; token = t; epoch = image.epoch; sets = sets }
 
 -- the sets that are shown to a query: those of the keyspace that is found
 abbrev pub found_sets : Image → List ℕ → ℤ → Option (List ℕ) → Option Sets
@@ -35,40 +47,54 @@ pub record IsShownIn (h : List Command) (s : Shown) : Type 0 where
   pub token : IsToken s.token
   pub sets : found_sets (state_after h s.epoch) s.keyspace s.token s.datacenter ≡ Some s.sets
 
--- the parts of what is shown
-record AreParts (h : List Command) (e : ℕ) (name : List ℕ) (dc : Option (List ℕ)) (t : ℤ) (s : Shown) : Type 0 where
-  within : e ≤ length h
+-- the parts of what an image shows
+record AreParts (image : Image) (name : List ℕ) (dc : Option (List ℕ)) (t : ℤ) (s : Shown) : Type 0 where
   sets : Sets
-  found : found_sets (state_after h e) name t dc ≡ Some sets
-  is : s ≡ record { datacenter = dc; keyspace = name; token = t; epoch = e; sets = sets }
+  found : found_sets image name t dc ≡ Some sets
+  is : s ≡ shown_as image name dc t sets
 
-parts : (h : List Command) (e : ℕ) (name : List ℕ) (dc : Option (List ℕ)) (t : ℤ) (s : Shown) → shown_at h e name dc t ≡ Some s → AreParts h e name dc t s
-parts h e name dc t s shows = by (nat_le e (length h)) refl (found_sets (state_after h e) name t dc) refl shows
+parts : (image : Image) (name : List ℕ) (dc : Option (List ℕ)) (t : ℤ) (s : Shown) → shown_from (Ok image) name dc t ≡ Some s → AreParts image name dc t s
+parts image name dc t s shows = by (found_sets image name t dc) refl shows
   where
-    by : (b : Bool) → nat_le e (length h) ≡ b → (o : Option Sets) → found_sets (state_after h e) name t dc ≡ o
-        → (if b then option_map (λ (sets : Sets). record { datacenter = dc; keyspace = name; token = t; epoch = e; sets = sets }) o else None) ≡ Some s → AreParts h e name dc t s
-    by false short o found is = absurd (none-some s is)
-    by true short None found is = absurd (none-some s is)
-    by true short (Some sets) found is = record { within = grind (arith, nat_tests, short); sets = sets; found = found; is = cc }
+    by : (o : Option Sets) → found_sets image name t dc ≡ o
+        → option_map (shown_as image name dc t) o ≡ Some s → AreParts image name dc t s
+    by None found is = absurd (none-some s is)
+    by (Some sets) found is = record { sets = sets; found = found; is = cc }
 
-shown_in : (h : List Command) (e : ℕ) (name : List ℕ) (dc : Option (List ℕ)) (t : ℤ) (s : Shown) → IsToken t → shown_at h e name dc t ≡ Some s → IsShownIn h s
-shown_in h e name dc t s token shows =
-    let p = parts h e name dc t s shows in
-    subst (IsShownIn h) (sym p.is) (record { within = p.within; token = token; sets = p.found })
+-- a reason shows nothing
+from_image : (r : Result Image (List ℕ)) (name : List ℕ) (dc : Option (List ℕ)) (t : ℤ) (s : Shown) (P : Type 0) → shown_from r name dc t ≡ Some s
+    → ((image : Image) → r ≡ Ok image → shown_from (Ok image) name dc t ≡ Some s → P) → P
+from_image (Err reason) name dc t s P shows of_image = absurd (none-some s shows)
+from_image (Ok image) name dc t s P shows of_image = of_image image refl shows
 
-pub is_shown : (h : List Command) (said : Option ScriptLine) → IfSome said IsSaid → (s : Shown) → shown_by h said ≡ Some s → IsShownIn h s
-is_shown h None is s shows = absurd (none-some s shows)
-is_shown h (Some (Commit id c)) is s shows = absurd (none-some s shows)
-is_shown h (Some (Place target name)) is s shows = absurd (none-some s shows)
-is_shown h (Some (Nodes target)) is s shows = absurd (none-some s shows)
-is_shown h (Some (Quorum (Epoch e) name t)) is s shows = shown_in h e name None t s is shows
-is_shown h (Some (Local (Epoch e) name dc t)) is s shows = shown_in h e name (Some dc) t s is shows
+shown_of : (log : List Entry) (image : Image) (name : List ℕ) (dc : Option (List ℕ)) (t : ℤ) (s : Shown) → IsToken t → IsImageOf log image → shown_from (Ok image) name dc t ≡ Some s → IsShownIn (commands_of log) s
+shown_of log image name dc t s token of shows =
+    let p = parts image name dc t s shows in
+    subst (IsShownIn (commands_of log)) (sym p.is)
+    (record {
+      within = omega (arith, of.within, length-commands_of log);
+      token = token;
+      sets = ap (λ i. found_sets i name t dc) (sym of.state) ∙ p.found;
+    })
+
+shown_in : (session : SessionState) (target : Target) (name : List ℕ) (dc : Option (List ℕ)) (t : ℤ) (s : Shown) → IsSession session → IsToken t → shown_from (image_of session target) name dc t ≡ Some s
+    → IsShownIn (commands_of session.log) s
+shown_in session target name dc t s is token shows =
+    from_image (image_of session target) name dc t s (IsShownIn (commands_of session.log) s) shows
+    (λ image found shows. shown_of session.log image name dc t s token (image_of_target session target image is found) shows)
+
+pub is_shown : (session : SessionState) (said : Option ScriptLine) → IsSession session → IfSome said IsSaid → (s : Shown) → shown_by session said ≡ Some s → IsShownIn (commands_of session.log) s
+is_shown session None is said s shows = absurd (none-some s shows)
+is_shown session (Some (Commit id c)) is said s shows = absurd (none-some s shows)
+is_shown session (Some (Follower name)) is said s shows = absurd (none-some s shows)
+is_shown session (Some (Deliver name e)) is said s shows = absurd (none-some s shows)
+is_shown session (Some (Snapshot name e)) is said s shows = absurd (none-some s shows)
+is_shown session (Some (Place target name)) is said s shows = absurd (none-some s shows)
+is_shown session (Some (Nodes target)) is said s shows = absurd (none-some s shows)
+is_shown session (Some (Quorum target name t)) is said s shows = shown_in session target name None t s is said shows
+is_shown session (Some (Local target name dc t)) is said s shows = shown_in session target name (Some dc) t s is said shows
 
 -- ---- texts
-
--- the image of an epoch has the epoch
-epoch_at : (h : List Command) (e : ℕ) → e ≤ length h → (state_after h e).epoch ≡ e
-epoch_at h e within = epoch_after (take e h) ∙ length-take-le e h within
 
 -- the text at an image
 quorum_shown : (image : Image) (name : List ℕ) (t : ℤ) (sets : Sets) → found_sets image name t None ≡ Some sets
@@ -92,37 +118,32 @@ local_shown image name dc t sets found = by (keyspace_of image name) found
     by None e = absurd (none-some sets e)
     by (Some k) e = within k (datacenter_of (datacenters_of k.replication) dc) e
 
--- an answer at an epoch that has come
-answered : (h : List Command) (e : ℕ) (text none : List ℕ) → e ≤ length h → (if nat_le e (length h) then text else none) ≡ text
-answered h e text none within = let short : nat_le e (length h) ≡ true = grind (arith, nat_tests) in ap (λ b. if b then text else none) short
+quorum_texts : (r : Result Image (List ℕ)) (name : List ℕ) (t : ℤ) (s : Shown) → shown_from r name None t ≡ Some s → query_text r (query.Quorum name t) ≡ shown_text s
+quorum_texts (Err reason) name t s shows = absurd (none-some s shows)
+quorum_texts (Ok image) name t s shows =
+    let p = parts image name None t s shows in
+    quorum_shown image name t p.sets p.found ∙ ap shown_text (sym p.is)
 
-quorum_texts : (h : List Command) (e : ℕ) (name : List ℕ) (t : ℤ) (s : Shown) → shown_at h e name None t ≡ Some s → query_answer h e (query.Quorum name t) ≡ shown_text s
-quorum_texts h e name t s shows =
-    let p = parts h e name None t s shows in
-    answered h e (quorums (state_after h e) t (keyspace_of (state_after h e) name)) _ p.within
-    ∙ quorum_shown (state_after h e) name t p.sets p.found
-    ∙ ap (λ n. quorum_text (codes "QUORUM") n p.sets) (epoch_at h e p.within)
-    ∙ ap shown_text (sym p.is)
+local_texts : (r : Result Image (List ℕ)) (name dc : List ℕ) (t : ℤ) (s : Shown) → shown_from r name (Some dc) t ≡ Some s → query_text r (query.Local name dc t) ≡ shown_text s
+local_texts (Err reason) name dc t s shows = absurd (none-some s shows)
+local_texts (Ok image) name dc t s shows =
+    let p = parts image name (Some dc) t s shows in
+    local_shown image name dc t p.sets p.found ∙ ap shown_text (sym p.is)
 
-local_texts : (h : List Command) (e : ℕ) (name dc : List ℕ) (t : ℤ) (s : Shown) → shown_at h e name (Some dc) t ≡ Some s → query_answer h e (query.Local name dc t) ≡ shown_text s
-local_texts h e name dc t s shows =
-    let p = parts h e name (Some dc) t s shows in
-    answered h e (local_quorums (state_after h e) dc t (keyspace_of (state_after h e) name)) _ p.within
-    ∙ local_shown (state_after h e) name dc t p.sets p.found
-    ∙ ap (λ n. quorum_text (codes "LOCAL") n p.sets) (epoch_at h e p.within)
-    ∙ ap shown_text (sym p.is)
+texts_said : (session : SessionState) (said : Option ScriptLine) (s : Shown) → shown_by session said ≡ Some s → (reply_to session said).text ≡ shown_text s
+texts_said session None s shows = absurd (none-some s shows)
+texts_said session (Some (Commit id c)) s shows = absurd (none-some s shows)
+texts_said session (Some (Follower name)) s shows = absurd (none-some s shows)
+texts_said session (Some (Deliver name e)) s shows = absurd (none-some s shows)
+texts_said session (Some (Snapshot name e)) s shows = absurd (none-some s shows)
+texts_said session (Some (Place target name)) s shows = absurd (none-some s shows)
+texts_said session (Some (Nodes target)) s shows = absurd (none-some s shows)
+texts_said session (Some (Quorum target name t)) s shows = quorum_texts (image_of session target) name t s shows
+texts_said session (Some (Local target name dc t)) s shows = local_texts (image_of session target) name dc t s shows
 
-texts_said : (log : List Entry) (said : Option ScriptLine) (s : Shown) → shown_by (commands_of log) said ≡ Some s → (reply_to log said).text ≡ shown_text s
-texts_said log None s shows = absurd (none-some s shows)
-texts_said log (Some (Commit id c)) s shows = absurd (none-some s shows)
-texts_said log (Some (Place target name)) s shows = absurd (none-some s shows)
-texts_said log (Some (Nodes target)) s shows = absurd (none-some s shows)
-texts_said log (Some (Quorum (Epoch e) name t)) s shows = quorum_texts (commands_of log) e name t s shows
-texts_said log (Some (Local (Epoch e) name dc t)) s shows = local_texts (commands_of log) e name dc t s shows
-
-pub texts : (log : List Entry) (bytes : List ℕ) (s : Shown) → shown_by (commands_of log) (line_of bytes) ≡ Some s → (reply log bytes).text ≡ shown_text s
+pub texts : (session : SessionState) (bytes : List ℕ) (s : Shown) → shown_by session (line_of bytes) ≡ Some s → (reply session bytes).text ≡ shown_text s
 unfolding reply
-texts log bytes s shows = texts_said log (line_of bytes) s shows
+texts session bytes s shows = texts_said session (line_of bytes) s shows
 
 -- ---- answers that show nothing
 
@@ -138,11 +159,6 @@ by_first text q l (inr e) = l (sym (first_taken 4 text) ∙ ap (λ x. get_or x 0
 no_answer : (reason : List ℕ) → IsOfNoQuorum (no_text reason)
 no_answer reason = by_first (no_text reason) (λ e. omega arith) (λ e. omega arith)
 
--- an answer at an epoch that may not have come
-either : (b : Bool) (text reason : List ℕ) → IsOfNoQuorum text → IsOfNoQuorum (if b then text else no_text reason)
-either true text reason is = is
-either false text reason is = no_answer reason
-
 place_others : (image : Image) (o : Option KeyspaceRow) → IsOfNoQuorum (placements image o)
 unfolding place_text
 place_others image None = no_answer (codes "KEYSPACE")
@@ -156,39 +172,77 @@ commit_others : (answer : Result ℕ Refusal) → IsOfNoQuorum (commit_text answ
 commit_others (Ok epoch) = by_first (ok_text epoch) (λ e. omega arith) (λ e. omega arith)
 commit_others (Err r) = no_answer (refusal_text r)
 
+-- a line on a follower
+nothing_shown : IsOfNoQuorum []
+nothing_shown = by_first [] (λ e. omega arith) (λ e. omega arith)
+
+handed_others : (answer : Result Took FollowerFault) → IsOfNoQuorum (handed_text answer)
+handed_others (Ok (At e)) = by_first (epoch_text (codes "AT") e) (λ e. omega arith) (λ e. omega arith)
+handed_others (Ok (Old e)) = by_first (epoch_text (codes "OLD") e) (λ e. omega arith) (λ e. omega arith)
+handed_others (Ok (Held e)) = by_first (epoch_text (codes "HELD") e) (λ e. omega arith) (λ e. omega arith)
+handed_others (Ok (Full e)) = by_first (epoch_text (codes "FULL") e) (λ e. omega arith) (λ e. omega arith)
+handed_others (Err fault) = nothing_shown
+
+follower_others : (session : SessionState) (name : List ℕ) → IsOfNoQuorum (follower_reply session name).text
+follower_others session name =
+    follower_cases session name (λ r. IsOfNoQuorum r.text) (no_answer (codes "FOLLOWER-TAKEN")) (no_answer (codes "FOLLOWERS-FULL")) (by_first (epoch_text (codes "AT") 0) (λ e. omega arith) (λ e. omega arith))
+
+named_others : (session : SessionState) (o : Option NamedFollower) (hand : FollowerState → Reply) → ((f : FollowerState) → IsOfNoQuorum (hand f).text) → IsOfNoQuorum (reply_of session o hand).text
+named_others session None hand each = no_answer (codes "FOLLOWER")
+named_others session (Some f) hand each = each f.follower
+
+deliver_others : (session : SessionState) (name : List ℕ) (f : FollowerState) (o : Option Entry) → IsOfNoQuorum (deliver_to session name f o).text
+deliver_others session name f None = no_answer (no_epoch (commands_of session.log))
+deliver_others session name f (Some entry) = handed_others (hand_entry f entry).answer
+
+snapshot_others : (session : SessionState) (name : List ℕ) (f : FollowerState) (r : Result Image (List ℕ)) → IsOfNoQuorum (snapshot_to session name f r).text
+snapshot_others session name f (Err reason) = no_answer reason
+snapshot_others session name f (Ok image) = handed_others (hand_image f image).answer
+
+-- a query from an image, or refused
+placed_others : (r : Result Image (List ℕ)) (name : List ℕ) → IsOfNoQuorum (query_text r (query.Place name))
+placed_others (Err reason) name = no_answer reason
+placed_others (Ok image) name = place_others image (keyspace_of image name)
+
+of_nodes_others : (r : Result Image (List ℕ)) → IsOfNoQuorum (query_text r query.Nodes)
+of_nodes_others (Err reason) = no_answer reason
+of_nodes_others (Ok image) = nodes_others image
+
 -- a query of quorums that is refused
-module _ (h : List Command) (e : ℕ) (name : List ℕ) (t : ℤ) (show : Sets → Shown) where
-  quorum_others : (b : Bool) (o : Option KeyspaceRow) (reason : List ℕ)
-      → (if b then option_map show (option_and_then (sets_in (state_after h e) t None) o) else None) ≡ None → IsOfNoQuorum (if b then quorums (state_after h e) t o else no_text reason)
-  quorum_others false o reason none = no_answer reason
-  quorum_others true None reason none = no_answer (codes "KEYSPACE")
-  quorum_others true (Some k) reason none = absurd (none-some _ (sym none))
+quorum_others : (r : Result Image (List ℕ)) (name : List ℕ) (t : ℤ) → shown_from r name None t ≡ None → IsOfNoQuorum (query_text r (query.Quorum name t))
+quorum_others (Err reason) name t none = no_answer reason
+quorum_others (Ok image) name t none = by (keyspace_of image name) none
+  where
+    by : (o : Option KeyspaceRow) → option_map (shown_as image name None t) (option_and_then (sets_in image t None) o) ≡ None → IsOfNoQuorum (quorums image t o)
+    by None none = no_answer (codes "KEYSPACE")
+    by (Some k) none = absurd (none-some _ (sym none))
 
-  local_others : (dc : List ℕ) (b : Bool) (o : Option KeyspaceRow) (reason : List ℕ)
-      → (if b then option_map show (option_and_then (sets_in (state_after h e) t (Some dc)) o) else None) ≡ None → IsOfNoQuorum (if b then local_quorums (state_after h e) dc t o else no_text reason)
-  local_others dc false o reason none = no_answer reason
-  local_others dc true None reason none = no_answer (codes "KEYSPACE")
-  local_others dc true (Some k) reason none = by (datacenter_of (datacenters_of k.replication) dc) none
-    where
-      by : (f : Option (List ℕ × ℕ)) → option_map show (option_map (λ f. local_sets_at (state_after h e) k.replication f t) f) ≡ None
-          → IsOfNoQuorum (local_quorums_in (state_after h e) t k.replication f)
-      by None none = no_answer (codes "DC")
-      by (Some f) none = absurd (none-some _ (sym none))
+local_others : (r : Result Image (List ℕ)) (name dc : List ℕ) (t : ℤ) → shown_from r name (Some dc) t ≡ None → IsOfNoQuorum (query_text r (query.Local name dc t))
+local_others (Err reason) name dc t none = no_answer reason
+local_others (Ok image) name dc t none = by (keyspace_of image name) none
+  where
+    within : (k : KeyspaceRow) (f : Option (List ℕ × ℕ)) → option_map (shown_as image name (Some dc) t) (option_map (λ f. local_sets_at image k.replication f t) f) ≡ None
+        → IsOfNoQuorum (local_quorums_in image t k.replication f)
+    within k None none = no_answer (codes "DC")
+    within k (Some f) none = absurd (none-some _ (sym none))
 
-others_said : (log : List Entry) (said : Option ScriptLine) → shown_by (commands_of log) said ≡ None → IsOfNoQuorum (reply_to log said).text
-others_said log None none = no_answer (codes "BAD-LINE")
-others_said log (Some (Commit id c)) none = commit_others (commit_of log id c).answer
-others_said log (Some (Place (Epoch e) name)) none =
-    let h = commands_of log in either (nat_le e (length h)) _ (codes "EPOCH " ++ decimal (length h)) (place_others (state_after h e) (keyspace_of (state_after h e) name))
-others_said log (Some (Nodes (Epoch e))) none =
-    let h = commands_of log in either (nat_le e (length h)) _ (codes "EPOCH " ++ decimal (length h)) (nodes_others (state_after h e))
-others_said log (Some (Quorum (Epoch e) name t)) none =
-    let h = commands_of log in
-    quorum_others h e name t (λ (s : Sets). record { datacenter = None; keyspace = name; token = t; epoch = e; sets = s }) (nat_le e (length h)) (keyspace_of (state_after h e) name) (codes "EPOCH " ++ decimal (length h)) none
-others_said log (Some (Local (Epoch e) name dc t)) none =
-    let h = commands_of log in
-    local_others h e name t (λ (s : Sets). record { datacenter = Some dc; keyspace = name; token = t; epoch = e; sets = s }) dc (nat_le e (length h)) (keyspace_of (state_after h e) name) (codes "EPOCH " ++ decimal (length h)) none
+    by : (o : Option KeyspaceRow) → option_map (shown_as image name (Some dc) t) (option_and_then (sets_in image t (Some dc)) o) ≡ None → IsOfNoQuorum (local_quorums image dc t o)
+    by None none = no_answer (codes "KEYSPACE")
+    by (Some k) none = within k (datacenter_of (datacenters_of k.replication) dc) none
 
-pub others : (log : List Entry) (bytes : List ℕ) → shown_by (commands_of log) (line_of bytes) ≡ None → IsOfNoQuorum (reply log bytes).text
+others_said : (session : SessionState) (said : Option ScriptLine) → shown_by session said ≡ None → IsOfNoQuorum (reply_to session said).text
+others_said session None none = no_answer (codes "BAD-LINE")
+others_said session (Some (Commit id c)) none = commit_others (commit_of session.log id c).answer
+others_said session (Some (Follower name)) none = follower_others session name
+others_said session (Some (Deliver name e)) none =
+    named_others session (follower_named session.followers name) (λ f. deliver_to session name f (entry_at session.log e)) (λ f. deliver_others session name f (entry_at session.log e))
+others_said session (Some (Snapshot name e)) none =
+    named_others session (follower_named session.followers name) (λ f. snapshot_to session name f (image_at (commands_of session.log) e)) (λ f. snapshot_others session name f (image_at (commands_of session.log) e))
+others_said session (Some (Place target name)) none = placed_others (image_of session target) name
+others_said session (Some (Nodes target)) none = of_nodes_others (image_of session target)
+others_said session (Some (Quorum target name t)) none = quorum_others (image_of session target) name t none
+others_said session (Some (Local target name dc t)) none = local_others (image_of session target) name dc t none
+
+pub others : (session : SessionState) (bytes : List ℕ) → shown_by session (line_of bytes) ≡ None → IsOfNoQuorum (reply session bytes).text
 unfolding reply
-others log bytes none = others_said log (line_of bytes) none
+others session bytes none = others_said session (line_of bytes) none

@@ -1,5 +1,5 @@
 -- The ends of a step.
-use Rattle.std.proofs.Common.{◌≡◌, ◌≢◌, ℕ, ◌≤◌, Bool, true, false, if◌then◌else◌, List, [], ◌∷◌, ◌++◌, length, take, Option, Result, Ok, Err, Some, OnOk, IfErr, MatchResult, refl, sym, ap, ◌∙◌, subst, append-nil, length-append, arith}
+use Rattle.std.proofs.Common.{◌≡◌, ◌≢◌, ℕ, ◌≤◌, Bool, true, false, if◌then◌else◌, List, [], ◌∷◌, ◌++◌, length, take, Option, None, Result, Ok, Err, Some, OnOk, IfErr, MatchResult, refl, sym, ap, ◌∙◌, subst, append-nil, length-append, arith}
 use Rattle.std.proofs.Math.Seq.{take-append_seam}
 use Rattle.tcm_edges.specs.Causes.{OnFailed, OnMemory, Rose}
 use Rattle.tcm_edges.specs.Files.{ChangesFile, Files, GainsAll, GainsPart, OthersKept}
@@ -25,33 +25,67 @@ use Rattle.wire_json.specs.declared.line.ReadLineFault.TheVariants as read
 use Rattle.script_lang.specs.Texts.{no_text, ok_text, refusal_text}
 use Rattle.tcm_session.specs.Faults.{of_append}
 use Rattle.tcm_session.specs.LogFiles.{Gains, entry_lines, entry_read, next_entry}
-use Rattle.tcm_session.specs.Machine.{Reply, commit_text}
-use Rattle.tcm_session.specs.Steps.{IsNextEntry, Leaves, OnlyAnswers, Steps}
+use Rattle.tcm_session.specs.Machine.{Reply, SessionState, accepted_reply, commit_text, replied}
+use Rattle.tcm_session.specs.Steps.{Alone, AllFollow, IsNextEntry, Leaves, LeavesSession, Notes, OnlyAnswers, Steps}
 use Rattle.tcm_session.specs.declared.fault.StepFault.{StepFault}
+use Rattle.tcm_session.specs.declared.fault.StepFault.TheVariants as step
+use Rattle.tcm_session.specs.declared.followers.NamedFollower.{NamedFollower}
 use Rattle.tcm_session.specs.declared.refused_line.Cause.TheVariants as cause
+use Rattle.tcm_session.proofs.FollowerLemmas.{all_follow_on}
 use Rattle.tcm_session.proofs.GainLemmas.{Gains-nil, Gains-of_append}
 
--- a step that adds nothing only answers
-pub steps_only : {T : Type 0} (reply : Reply) (name : Option (List ℕ)) (log : List Entry) (out out' : List ℕ) (files : Option Files) (count : ℕ) (r : Result T StepFault)
-    → reply.added ≡ [] → OnlyAnswers reply.text out out' r → Steps reply name log log out out' files files count count r
-steps_only reply name log out out' files count (Ok x) none only =
+-- ---- steps that add nothing
+
+-- nothing is added, and the followers stay
+pub replied_nothing : (session : SessionState) (reply : Reply) → reply.added ≡ [] → reply.followers ≡ session.followers → session ≡ replied session reply
+replied_nothing session reply none stay =
+    let log : session.log ≡ session.log ++ reply.added = sym (ap (λ es. session.log ++ es) none ∙ append-nil session.log) in
+    (λ i. record { log = log i; followers = sym stay i })
+
+pub steps_only : {T : Type 0} (reply : Reply) (name : Option (List ℕ)) (session : SessionState) (out out' : List ℕ) (files : Option Files) (count : ℕ) (r : Result T StepFault)
+    → reply.added ≡ [] → reply.followers ≡ session.followers → OnlyAnswers reply.text out out' r → Steps None reply name session session out out' files files count count r
+steps_only reply name session out out' files count (Ok x) none stay only =
     record {
       text = only.answered;
       kept = only.kept;
-      grown = sym (ap (λ es. log ++ es) none ∙ append-nil log);
+      next = replied_nothing session reply none stay;
       file = subst (λ es. Gains name (entry_lines es) files files) (sym none) (Gains-nil name files);
-      err = tt;
+      left = tt;
       fault = tt;
       later = omega arith;
     }
-steps_only reply name log out out' files count (Err e) none only =
+steps_only reply name session out out' files count (Err e) none stay only =
     record {
       text = tt;
       kept = only.kept;
-      grown = tt;
+      next = tt;
       file = tt;
-      err = refl;
+      left = subst (λ f. LeavesSession f None session reply.followers session) (sym only.memory) refl;
       fault = subst (λ f. Leaves f name reply.added files files count count) (sym only.memory) refl;
+      later = omega arith;
+    }
+
+-- a step that uses no file
+pub steps_alone : {T : Type 0} (handed : Option NamedFollower) (reply : Reply) (name : Option (List ℕ)) (session session' : SessionState) (out out' : List ℕ) (files : Option Files) (count : ℕ) (r : Result T StepFault)
+    → Alone handed reply session session' out out' r → Steps handed reply name session session' out out' files files count count r
+steps_alone handed reply name session session' out out' files count (Ok x) alone =
+    record {
+      text = alone.text;
+      kept = alone.kept;
+      next = alone.next;
+      file = subst (λ es. Gains name (entry_lines es) files files) (sym alone.added) (Gains-nil name files);
+      left = tt;
+      fault = tt;
+      later = omega arith;
+    }
+steps_alone handed reply name session session' out out' files count (Err e) alone =
+    record {
+      text = tt;
+      kept = alone.kept;
+      next = tt;
+      file = tt;
+      left = subst (λ f. LeavesSession f handed session reply.followers session') (sym alone.memory) alone.left;
+      fault = subst (λ f. Leaves f name reply.added files files count count) (sym alone.memory) refl;
       later = omega arith;
     }
 
@@ -91,25 +125,25 @@ leaves_append write.Failed name entry line files files' before after is part oth
     cons_some none = cc
 leaves_append write.Memory name entry line files files' before after is part others memory rose = memory.0
 
--- the ends of a step whose text is added and whose entry is noted, or not
-pub steps_noted : {T : Type 0} (text : List ℕ) (entry : Entry) (name : Option (List ℕ)) (log log' : List Entry) (out out' : List ℕ) (files files' : Option Files) (before after : ℕ) (r : Result T StepFault)
-    → out' ≡ out ++ text → MatchResult r (λ _. log' ≡ log ++ entry ∷ []) (λ _. log' ≡ log) → OnOk r (Gains name (entry_line entry) files files')
+-- the ends of a step whose answer is added and whose entry is noted, or not
+pub notes_of : {T : Type 0} (entry : Entry) (name : Option (List ℕ)) (log log' : List Entry) (out out' : List ℕ) (files files' : Option Files) (before after : ℕ) (r : Result T StepFault)
+    → out' ≡ out ++ ok_text entry.epoch → MatchResult r (λ _. log' ≡ log ++ entry ∷ []) (λ _. log' ≡ log) → OnOk r (Gains name (entry_line entry) files files')
     → IfErr r (λ e. Leaves e name (entry ∷ []) files files' before after) → before ≤ after
-    → Steps (record { text = text; added = entry ∷ [] }) name log log' out out' files files' before after r
-steps_noted text entry name log log' out out' files files' before after (Ok x) added noted gained fault later =
+    → Notes entry name log log' out out' files files' before after r
+notes_of entry name log log' out out' files files' before after (Ok x) added noted gained fault later =
     record {
       text = added;
-      kept = kept_before out text out' added;
+      kept = kept_before out (ok_text entry.epoch) out' added;
       grown = noted;
       file = subst (λ t. Gains name t files files') (sym (one_line_of entry)) gained;
       err = tt;
       fault = tt;
       later = later;
     }
-steps_noted text entry name log log' out out' files files' before after (Err e) added noted gained fault later =
+notes_of entry name log log' out out' files files' before after (Err e) added noted gained fault later =
     record {
       text = tt;
-      kept = kept_before out text out' added;
+      kept = kept_before out (ok_text entry.epoch) out' added;
       grown = tt;
       file = tt;
       err = noted;
@@ -117,15 +151,46 @@ steps_noted text entry name log log' out out' files files' before after (Err e) 
       later = later;
     }
 
+-- a step that notes an entry
+pub steps_noted : {T : Type 0} (session : SessionState) (entry : Entry) (name : Option (List ℕ)) (log' : List Entry) (out out' : List ℕ) (files files' : Option Files) (before after : ℕ) (r : Result T StepFault)
+    → Notes entry name session.log log' out out' files files' before after r
+    → Steps None (accepted_reply session entry) name session (record session { log = log' }) out out' files files' before after r
+steps_noted session entry name log' out out' files files' before after (Ok x) notes =
+    record {
+      text = notes.text;
+      kept = notes.kept;
+      next = ap (λ log. record { log = log; followers = session.followers }) notes.grown;
+      file = notes.file;
+      left = tt;
+      fault = tt;
+      later = notes.later;
+    }
+steps_noted session entry name log' out out' files files' before after (Err e) notes =
+    let same : record { log = log'; followers = session.followers } ≡ session = ap (λ log. record { log = log; followers = session.followers }) notes.err in
+    record {
+      text = tt;
+      kept = notes.kept;
+      next = tt;
+      file = tt;
+      left = by e same;
+      fault = notes.fault;
+      later = notes.later;
+    }
+  where
+    by : (e : StepFault) → record { log = log'; followers = session.followers } ≡ session → LeavesSession e None session session.followers (record { log = log'; followers = session.followers })
+    by step.Memory same = same
+    by step.Store same = same
+
 -- ---- a step in a log
 
 -- an entry whose command is the permit's
-pub session_kept : (before after : List Entry) (entry : Entry) (image image' : Image) (permit : Permission) → image ≡ image_after empty_image (commands_of before) → IsLog before → IsNextEntry before entry
-    → permit.command ≡ entry.cmd → image' ≡ next_image image permit.command → after ≡ before ++ entry ∷ [] → (image' ≡ image_after empty_image (commands_of after)) × IsLog after
-session_kept before after entry image image' permit is log next permitted enacted pushed = (
+pub session_kept : (before after : List Entry) (fs : List NamedFollower) (entry : Entry) (image image' : Image) (permit : Permission) → image ≡ image_after empty_image (commands_of before) → IsLog before × AllFollow before fs → IsNextEntry before entry
+    → permit.command ≡ entry.cmd → image' ≡ next_image image permit.command → after ≡ before ++ entry ∷ [] → (image' ≡ image_after empty_image (commands_of after)) × IsLog after × AllFollow after fs
+session_kept before after fs entry image image' permit is (log, follow) next permitted enacted pushed = (
   enacted ∙ (λ i. next_image (is i) (permitted i)) ∙ sym (image_after-push empty_image (commands_of before) entry.cmd)
       ∙ ap (image_after empty_image) (sym (ap commands_of pushed ∙ commands_of-push before entry)),
   subst IsLog (sym pushed) (log_push before entry log next.epoch next.fresh next.formed next.accepted),
+  subst (λ l. AllFollow l fs) (sym pushed) (all_follow_on before entry fs next.epoch follow),
 )
 
 -- ---- a line of a log file
@@ -134,24 +199,29 @@ session_kept before after entry image image' permit is log next permitted enacte
 abbrev read_line : Line → Result Line ReadLineFault
 read_line l = Ok l
 
-abbrev unread : ReadLineFault → Result Line ReadLineFault
+abbrev pub unread : ReadLineFault → Result Line ReadLineFault
 unread fault = Err fault
 
-next_entry-of : (log : List Entry) (bytes : List ℕ) (r : Result Line ReadLineFault) → r ≡ reading bytes → next_entry log bytes ≡ entry_read log r
-unfolding next_entry
-next_entry-of log bytes r is = ap (entry_read log) (sym is)
-
-pub next_entry-read : (log : List Entry) (bytes : List ℕ) (l : Line) → (read_line l ≢ Err read.Memory → read_line l ≡ reading bytes) → next_entry log bytes ≡ entry_read log (Ok l)
-next_entry-read log bytes l meaning = next_entry-of log bytes (read_line l) (meaning (λ e. not_memory e))
+-- the reading of a line, as far as it isn't without memory
+pub read_there : (bytes : List ℕ) (l : Line) → (read_line l ≢ Err read.Memory → read_line l ≡ reading bytes) → reading bytes ≡ Ok l
+read_there bytes l meaning = sym (meaning (λ e. not_memory e))
   where
     not_memory : read_line l ≡ Err read.Memory → ⊥
     not_memory e = cc
 
-pub next_entry-bad : (log : List Entry) (bytes : List ℕ) (fault : ReadLineFault) (rule : ℕ) → fault ≡ read.Bad rule → (unread fault ≢ Err read.Memory → unread fault ≡ reading bytes) → next_entry log bytes ≡ Err (cause.Line rule)
-next_entry-bad log bytes fault rule is meaning = next_entry-of log bytes (unread fault) (meaning (λ e. not_memory e)) ∙ ap (λ x. entry_read log (Err x)) is
+pub read_bad : (bytes : List ℕ) (fault : ReadLineFault) (rule : ℕ) → fault ≡ read.Bad rule → (unread fault ≢ Err read.Memory → unread fault ≡ reading bytes) → reading bytes ≡ unread (read.Bad rule)
+read_bad bytes fault rule is meaning = sym (meaning (λ e. not_memory e)) ∙ ap unread is
   where
     not_memory : unread fault ≡ Err read.Memory → ⊥
     not_memory e = cc
+
+pub next_entry-read : (log : List Entry) (bytes : List ℕ) (l : Line) → (read_line l ≢ Err read.Memory → read_line l ≡ reading bytes) → next_entry log bytes ≡ entry_read log (Ok l)
+unfolding next_entry
+next_entry-read log bytes l meaning = ap (entry_read log) (read_there bytes l meaning)
+
+pub next_entry-bad : (log : List Entry) (bytes : List ℕ) (fault : ReadLineFault) (rule : ℕ) → fault ≡ read.Bad rule → (unread fault ≢ Err read.Memory → unread fault ≡ reading bytes) → next_entry log bytes ≡ Err (cause.Line rule)
+unfolding next_entry
+next_entry-bad log bytes fault rule is meaning = ap (entry_read log) (read_bad bytes fault rule is meaning)
 
 -- ---- a commit whose id is in the log
 

@@ -1,9 +1,8 @@
--- The words of `commit`, the text that is written after a script was read, and the statuses (of the code: no promise rests on these).
+-- The words of `commit` and `replay`, the text that is written after a script was read, and the statuses (of the code: no promise rests on these).
 use Rattle.std.specs.Prelude.{◌≡◌, ℕ, true, false, List, [], Option, None, Some, Result, Ok, Err}
-use Rattle.transformations.specs.declared.entry.Entry.{Entry}
 use Rattle.tcm_session.specs.Lines.{if_any}
-use Rattle.tcm_session.specs.Machine.{answers}
-use Rattle.tcm_session.specs.Outcome.{is_commit, log_file, too_large_text}
+use Rattle.tcm_session.specs.Machine.{SessionState, answers}
+use Rattle.tcm_session.specs.Outcome.{is_commit, is_replay, log_file, replayed_files, too_large_text}
 use Rattle.tcm_session.specs.declared.program.Status.{Status}
 use Rattle.tcm_session.specs.declared.reading.ReadEnd.{ReadEnd}
 use Rattle.tcm_session.specs.declared.reading.ReadEnd.TheVariants as end
@@ -16,9 +15,9 @@ abbrev pub ending_lines : ReadEnd → List ℕ → List (List ℕ)
 ending_lines end.AtEnd begun = if_any begun
 ending_lines end.PastLimit begun = []
 
-abbrev pub ending_text : ReadEnd → List Entry → List ℕ → List ℕ
-ending_text end.AtEnd log begun = answers log (if_any begun)
-ending_text end.PastLimit log begun = too_large_text
+abbrev pub ending_text : ReadEnd → SessionState → List ℕ → List ℕ
+ending_text end.AtEnd session begun = answers session (if_any begun)
+ending_text end.PastLimit session begun = too_large_text
 
 abbrev pub ending_status : ReadEnd → ℕ
 ending_status end.AtEnd = 0
@@ -40,3 +39,8 @@ status_by (Err fault) = fault_status fault
 abbrev pub IsCommitOf : List (List ℕ) → Option (Option (List ℕ)) → Type 0
 IsCommitOf words None = is_commit words ≡ false
 IsCommitOf words (Some file) = (is_commit words ≡ true) × (log_file words ≡ file)
+
+-- words that are `replay` with the files that they name; or other words
+abbrev pub IsReplayOf : List (List ℕ) → Option (List (List ℕ)) → Type 0
+IsReplayOf words None = is_replay words ≡ false
+IsReplayOf words (Some names) = (is_replay words ≡ true) × (replayed_files words ≡ names)

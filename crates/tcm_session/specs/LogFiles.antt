@@ -57,7 +57,7 @@ next_entry log bytes = entry_read log (reading bytes)
 -- goes on with the entry of a line, or refuses the line: line l of a log file holds its entry l
 abbrev pub goes_on : List Entry → Result Entry Cause → (Entry → Result (List Entry) RefusedLine) → Result (List Entry) RefusedLine
 goes_on log (Ok entry) next = next entry
-goes_on log (Err cause) next = Err (record { line = length log + 1; cause = cause })
+goes_on log (Err cause) next = Err (record { file = 1; line = length log + 1; cause = cause })
 
 -- the log that lines make after a log, or the first line that is refused
 abbrev pub log_from : List Entry → List (List ℕ) → Result (List Entry) RefusedLine
@@ -75,10 +75,20 @@ cause_text (cause.Line rule) = codes "LINE " ++ decimal rule
 cause_text (cause.Epoch want came) = codes "EPOCH " ++ decimal want ++ codes " " ++ decimal came
 cause_text (cause.Id id epoch) = codes "ID " ++ decimal id ++ codes " " ++ decimal epoch
 cause_text (cause.Command epoch refusal) = codes "COMMAND " ++ decimal epoch ++ codes " " ++ refusal_text refusal
+cause_text (cause.Fork epoch held came) = codes "FORK " ++ decimal epoch
+
+-- the lines of the entries of a fork: the one that waits, and the one that came
+abbrev pub fork_lines : Cause → List ℕ
+fork_lines (cause.Fork epoch held came) = entry_line held ++ entry_line came
+fork_lines _ = []
 
 -- the number of the file, the number of the line, and the cause
+abbrev pub refused_head : RefusedLine → List ℕ
+refused_head refused =
+    with_feed (codes "REFUSED " ++ decimal refused.file ++ codes " " ++ decimal refused.line ++ codes " " ++ cause_text refused.cause)
+
 unfoldable pub refused_line_text : RefusedLine → List ℕ
-refused_line_text refused = with_feed (codes "REFUSED 1 " ++ decimal refused.line ++ codes " " ++ cause_text refused.cause)
+refused_line_text refused = refused_head refused ++ fork_lines refused.cause
 
 -- ---- the file after a run
 

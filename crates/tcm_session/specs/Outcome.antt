@@ -1,5 +1,6 @@
 -- The outcome of a run: the lines that it answers, what it prints, its status, and the files after it.
-use Rattle.std.specs.Prelude.{ℕ, Bool, true, false, ◌&&◌, not, if◌then◌else◌, List, [], ◌∷◌, ◌++◌, length, take, nat_le, codes, Option, Some, None, Result, Ok, Err}
+use Rattle.std.specs.Prelude.{ℕ, Bool, true, false, ◌&&◌, ◌||◌, not, is_some, if◌then◌else◌, List, [], ◌∷◌, ◌++◌, length, take, nat_le, codes, Option, Some, None, Result, Ok, Err}
+use Rattle.std.specs.List.{list_all}
 use Rattle.std.specs.Str.{bytes_eq}
 use Rattle.tcm_edges.specs.Files.{Files, file_of, loaded_of}
 use Rattle.tcm_edges.specs.declared.store.Loaded.{Loaded}
@@ -7,8 +8,10 @@ use Rattle.tcm_edges.specs.declared.store.Loaded.TheVariants as loaded
 use Rattle.transformations.specs.declared.entry.Entry.{Entry}
 use Rattle.script_lang.specs.Texts.{line}
 use Rattle.tcm_session.specs.Lines.{whole_lines, script_lines}
+pub use Rattle.tcm_session.specs.Limits.{input_limit, too_large_text}
 use Rattle.tcm_session.specs.LogFiles.{cut_to_lines, entry_lines, log_of, refused_line_text, with_added}
-use Rattle.tcm_session.specs.Machine.{answers, entries_added}
+use Rattle.tcm_session.specs.Machine.{answers, entries_added, session_over}
+use Rattle.tcm_session.specs.Replay.{replay_ending}
 use Rattle.tcm_session.specs.declared.refused_line.RefusedLine.{RefusedLine}
 
 -- the log from which lines are answered, these lines, the text that is printed after their answers, and the status
@@ -23,15 +26,7 @@ pub record Outcome : Type 0 where
 
 -- the bytes that an outcome prints
 abbrev pub printed_by : Outcome → List ℕ
-printed_by o = answers o.log o.lines ++ o.last
-
--- the most bytes of an input, and of a file; of an input one more byte is read, to see whether it is larger
-abbrev pub input_limit : ℕ
-input_limit = 536870912
-
--- the text that is printed for an input or a file that is too large, with the limit in bytes
-abbrev pub too_large_text : List ℕ
-too_large_text = line (codes "TOO-LARGE 536870912")
+printed_by o = answers (session_over o.log) o.lines ++ o.last
 
 -- the text that is printed for words that name no command
 abbrev pub usage_text : List ℕ
@@ -51,7 +46,7 @@ pub record Start : Type 0 where
 
 -- the files once the entries that these lines add are added to the file
 abbrev pub files_with : Start → List (List ℕ) → Files
-files_with start lines = with_added start.file (entry_lines (entries_added start.log lines)) start.files
+files_with start lines = with_added start.file (entry_lines (entries_added (session_over start.log) lines)) start.files
 
 -- all lines are answered; if the script is too large, only the lines that end within the limit are
 abbrev pub whole_outcome : Start → List ℕ → Outcome
@@ -84,6 +79,23 @@ log_file _ = None
 abbrev pub named_log : List (List ℕ) → Option (List ℕ)
 named_log words = if is_commit words then log_file words else None
 
+-- whether the words are `replay` and the names of 1 to 64 files, and these names
+abbrev pub are_files : List (List ℕ) → Bool
+are_files names =
+    nat_le 1 (length names) && (nat_le (length names) 64 && list_all (λ name. not (bytes_eq name [])) names)
+
+abbrev pub is_replay : List (List ℕ) → Bool
+is_replay [] = false
+is_replay (word ∷ names) = bytes_eq word (codes "replay") && are_files names
+
+abbrev pub replayed_files : List (List ℕ) → List (List ℕ)
+replayed_files [] = []
+replayed_files (word ∷ names) = names
+
+-- whether the words name a file: a log file, or files that are replayed
+abbrev pub names_file : List (List ℕ) → Bool
+names_file words = is_some (named_log words) || is_replay words
+
 -- a script from the log in a file; if the log is refused, no line is answered
 abbrev pub outcome_from : List ℕ → Files → List ℕ → Result (List Entry) RefusedLine → List ℕ → Outcome
 outcome_from name all file (Ok log) input =
@@ -101,7 +113,16 @@ abbrev pub commit_outcome : Option (List ℕ) → Files → List ℕ → Outcome
 commit_outcome None all input = script_outcome (record { log = []; file = None; files = all }) input
 commit_outcome (Some name) all input = outcome_loaded name all (loaded_of (file_of all name) input_limit) input
 
--- the outcome of a run, by its words, the files and its input
-unfoldable pub outcome : List (List ℕ) → Files → List ℕ → Outcome
-outcome words all input =
-    if is_commit words then commit_outcome (log_file words) all input else unread_outcome 2 usage_text all
+-- the outcome of `replay`
+abbrev pub replay_outcome : List (List ℕ) → (ℕ → Files) → Outcome
+replay_outcome names seen = (let ending = replay_ending names seen in unread_outcome ending.status ending.text (seen 0))
+
+-- the outcome of words other than `commit`
+abbrev pub other_outcome : List (List ℕ) → (ℕ → Files) → Outcome
+other_outcome words seen =
+    if is_replay words then replay_outcome (replayed_files words) seen else unread_outcome 2 usage_text (seen 0)
+
+-- the outcome of a run, by its words, the files as each of its loads finds them, and its input
+unfoldable pub outcome : List (List ℕ) → (ℕ → Files) → List ℕ → Outcome
+outcome words seen input =
+    if is_commit words then commit_outcome (log_file words) (seen 0) input else other_outcome words seen

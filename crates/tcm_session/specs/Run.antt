@@ -4,18 +4,21 @@ use Rattle.std.specs.Io.{StartsWith}
 use Rattle.std.specs.Io.KnownBytes.{Appends, Consumes, IsAtEnd}
 use Rattle.tcm_edges.specs.Causes.{Rose}
 use Rattle.tcm_edges.specs.Files.{Files}
+use Rattle.transformations.specs.Log.{IsLog}
 use Rattle.transformations.specs.declared.entry.Entry.{Entry}
 use Rattle.tcm_session.specs.Counts.{Counts, NoneFell}
 use Rattle.tcm_session.specs.Lines.{whole_lines}
-use Rattle.tcm_session.specs.Machine.{answers}
-use Rattle.tcm_session.specs.Outcome.{Outcome, input_limit, outcome, printed_by}
+use Rattle.tcm_session.specs.Machine.{answers, session_over}
+use Rattle.tcm_session.specs.Outcome.{Outcome, input_limit, is_replay, outcome, printed_by, replayed_files}
+use Rattle.tcm_session.specs.ReplayPrefix.{AreFilesOf, ReportsPrefix, taken_of_files}
 use Rattle.tcm_session.specs.Shown.{PrintsMeeting}
+use Rattle.tcm_session.specs.Taken.{FollowersShow}
 
--- the statuses: the end of the input, out of memory, the usage line, a log that is refused, a fault of the source, of
--- the sink or of the store, an input or a file that is too large
+-- the statuses: the end of the input or of a replay, out of memory, the usage line, a line of a file that is refused, a
+-- fault of the source, of the sink or of the store, a file that is absent, an input or a file that is too large
 abbrev pub IsStatus : ℕ → Type 0
 IsStatus status =
-    IsTrue ((status == 0) || (status == 1) || (status == 2) || (status == 3) || (status == 4) || (status == 5) || (status == 6) || (status == 8))
+    IsTrue ((status == 0) || (status == 1) || (status == 2) || (status == 3) || (status == 4) || (status == 5) || (status == 6) || (status == 7) || (status == 8))
 
 -- the status of a run that came to its end: memory didn't run out, and neither source, sink nor store failed
 pub record IsFinal (status : ℕ) : Type 0 where
@@ -24,13 +27,17 @@ pub record IsFinal (status : ℕ) : Type 0 where
   pub sink : status ≢ 5
   pub store : status ≢ 6
 
--- the input and the files of a run: if the source tells its bytes, they are the input, and if the store tells its
--- files, they are these
+-- each load finds these files; a store that tells nothing may hold other files at each load
+abbrev pub AreSeen : Option Files → (ℕ → Files) → Type 0
+AreSeen files seen = IfSome files (λ these. (i : ℕ) → seen i ≡ these)
+
+-- the input of a run, and the files as its load i, counted from 0, finds them: if the source tells its bytes, they are
+-- the input, and if the store tells its files, each load finds these
 pub record Given (left : Option (List ℕ)) (files : Option Files) : Type 0 where
   pub input : List ℕ
-  pub all : Files
+  pub seen : ℕ → Files
   pub told_input : IfSome left (λ bytes. bytes ≡ input)
-  pub told_files : IfSome files (λ these. these ≡ all)
+  pub told_files : AreSeen files seen
 
 -- a run that comes to this outcome
 pub record ComesTo (o : Outcome) (written written' : Option (List ℕ)) (files' : Option Files) (ended : ℕ) : Type 0 where
@@ -49,25 +56,35 @@ pub record HasRead (log : List Entry) (left left' written written' : Option (Lis
   pub read : List ℕ
   pub consumed : Consumes left left' read
   pub most : length read ≤ input_limit + 1
-  -- at status 0 the source is at its end; at status 4 the printed bytes are exactly the answers to the lines that end
-  -- among the bytes read
-  pub at_end : status ≡ 0 → IsAtEnd left'
-  pub read_fault : status ≡ 4 → Appends written written' (answers log (whole_lines read))
+  -- at status 4 the printed bytes are exactly the answers to the lines that end among the bytes read
+  pub read_fault : status ≡ 4 → Appends written written' (answers (session_over log) (whole_lines read))
 
--- an outcome that reads no input leaves the source as it was, and doesn't end in 4; at its status 8, a script has read
--- the byte past the limit
+-- an outcome that reads no input leaves the source as it was, and doesn't end in 4; a script has read its input to the
+-- end at status 0, and the byte past the limit at its status 8
 pub record ReadsFor {S : Type 0} (o : Outcome) (left : S → Option (List ℕ)) (input input' : S) (written written' : Option (List ℕ)) (status : ℕ) : Type 0 where
   pub reads : HasRead o.log (left input) (left input') written written' status
+  pub at_end : status ≡ 0 → o.reads ≡ true → IsAtEnd (left input')
   pub past_limit : status ≡ 8 → o.reads ≡ true → length reads.read ≡ input_limit + 1
   pub unread : o.reads ≡ false → (input' ≡ input) × (status ≢ 4)
 
--- a run for these words: it prints the bytes of their outcome, the quorums in the printed lines meet (`ShownMeet`), and
--- it reads as its outcome says
+-- a replay of files of one log refuses no line, and prints the report of a follower at the end of the longest gapless
+-- prefix of what it took
+pub record ReplaysLog (words : List (List ℕ)) (seen : ℕ → Files) (log : List Entry) (printed : List ℕ) (status : ℕ) : Type 0 where
+  pub unrefused : status ≢ 3
+  pub reports : status ≡ 0 → ReportsPrefix log (taken_of_files (replayed_files words) seen) printed
+
+-- a run for these words: it prints the bytes of their outcome, it reads as its outcome says, and the quorums in the
+-- printed lines meet (`ShownMeet`), unless the name of an absent file is printed, which may hold any line; each follower
+-- of a script, and that of a replay of files of one log, shows the longest gapless prefix of what it took (`ShowsPrefix`)
 pub record IsRun {S : Type 0} (words : List (List ℕ)) (left : S → Option (List ℕ)) (input input' : S) (written written' : Option (List ℕ)) (files files' : Option Files) (status : ℕ) : Type 0 where
   pub given : Given (left input) files
-  pub comes : ComesTo (outcome words given.all given.input) written written' files' status
-  pub reads : ReadsFor (outcome words given.all given.input) left input input' written written' status
-  pub quorums : PrintsMeeting (outcome words given.all given.input).log (outcome words given.all given.input).lines comes.printed
+  pub comes : ComesTo (outcome words given.seen given.input) written written' files' status
+  pub reads : ReadsFor (outcome words given.seen given.input) left input input' written written' status
+  pub quorums : (outcome words given.seen given.input).status ≢ 7
+      → PrintsMeeting (outcome words given.seen given.input).log (outcome words given.seen given.input).lines comes.printed
+  pub followers : FollowersShow (outcome words given.seen given.input).log (outcome words given.seen given.input).lines
+  pub replays : is_replay words ≡ true → (log : List Entry) → IsLog log → AreFilesOf log (replayed_files words) given.seen
+      → ReplaysLog words given.seen log comes.printed status
 
 -- the meaning of a status, by the counts of faults before the run and after it
 pub record HasStatus (before after : Counts) (status : ℕ) : Type 0 where

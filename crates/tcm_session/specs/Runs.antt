@@ -3,14 +3,13 @@ use Rattle.std.specs.Prelude.{◌≡◌, ◌≢◌, ℕ, ◌≤◌, ◌==◌, �
 use Rattle.std.specs.Io.KnownBytes.{Appends, Consumes, IsAtEnd}
 use Rattle.tcm_edges.specs.Files.{Files}
 use Rattle.tcm_edges.specs.Owed.{WritesPrefix}
-use Rattle.transformations.specs.declared.entry.Entry.{Entry}
 use Rattle.tcm_session.specs.Counts.{Counts}
 use Rattle.tcm_session.specs.Faults.{HasRunCause}
 use Rattle.tcm_session.specs.Lines.{HasNoFeed, whole_lines, open_line}
 use Rattle.tcm_session.specs.LogFiles.{Gains, entry_lines}
-use Rattle.tcm_session.specs.Machine.{answers, entries_added, log_after}
+use Rattle.tcm_session.specs.Machine.{SessionState, answers, entries_added, session_after}
 use Rattle.tcm_session.specs.Outcome.{Outcome, input_limit}
-use Rattle.tcm_session.specs.Run.{ComesTo, ReadsFor}
+use Rattle.tcm_session.specs.Run.{AreSeen, ComesTo, ReadsFor}
 use Rattle.tcm_session.specs.declared.fault.RunFault.{RunFault}
 use Rattle.tcm_session.specs.declared.fault.RunFault.TheVariants as fault
 use Rattle.tcm_session.specs.declared.reading.ReadEnd.{ReadEnd}
@@ -28,15 +27,15 @@ pub record IsBegun (bytes : List ℕ) : Type 0 where
   pub plain : HasNoFeed bytes
   pub few : length bytes ≤ most_kept
 
--- where a run stands: the log, what is kept of the line that has begun, the bytes that are written, and the files
+-- where a run stands: the session, what is kept of the line that has begun, the bytes that are written, and the files
 pub record Standing : Type 0 where
-  pub log : List Entry
+  pub session : SessionState
   pub begun : List ℕ
   pub written : Option (List ℕ)
   pub files : Option Files
 
-abbrev pub standing : List Entry → List ℕ → Option (List ℕ) → Option Files → Standing
-standing log begun written files = record { log = log; begun = begun; written = written; files = files }
+abbrev pub standing : SessionState → List ℕ → Option (List ℕ) → Option Files → Standing
+standing session begun written files = record { session = session; begun = begun; written = written; files = files }
 
 -- the lines that end among bytes after the line that has begun
 abbrev pub lines_ended : Standing → List ℕ → List (List ℕ)
@@ -44,10 +43,10 @@ lines_ended at bytes = whole_lines (at.begun ++ bytes)
 
 -- bytes were taken: the lines that end among them are answered, and their entries are in the file
 pub record Takes (file : Option (List ℕ)) (bytes : List ℕ) (at at' : Standing) : Type 0 where
-  pub log : at'.log ≡ log_after at.log (lines_ended at bytes)
+  pub session : at'.session ≡ session_after at.session (lines_ended at bytes)
   pub begun : at'.begun ≡ kept_of (open_line (at.begun ++ bytes))
-  pub answered : Appends at.written at'.written (answers at.log (lines_ended at bytes))
-  pub files : Gains file (entry_lines (entries_added at.log (lines_ended at bytes))) at.files at'.files
+  pub answered : Appends at.written at'.written (answers at.session (lines_ended at bytes))
+  pub files : Gains file (entry_lines (entries_added at.session (lines_ended at bytes))) at.files at'.files
 
 -- reading stopped at a fault, after at most `most` bytes were read; a prefix of the answers to the lines that end among
 -- them is written, and at a fault of the source all these answers
@@ -55,8 +54,8 @@ pub record StopsAt (cause : RunFault) (most : ℕ) (left left' : Option (List �
   pub bytes : List ℕ
   pub consumed : Consumes left left' bytes
   pub bounded : length bytes ≤ most
-  pub part : WritesPrefix at.written written' (answers at.log (lines_ended at bytes))
-  pub whole : cause ≡ fault.Source → Appends at.written written' (answers at.log (lines_ended at bytes))
+  pub part : WritesPrefix at.written written' (answers at.session (lines_ended at bytes))
+  pub whole : cause ≡ fault.Source → Appends at.written written' (answers at.session (lines_ended at bytes))
 
 -- one read of n bytes, at most `most`, which are taken
 pub record ReadsOnce (file : Option (List ℕ)) (n most : ℕ) (left left' : Option (List ℕ)) (at at' : Standing) : Type 0 where
@@ -121,8 +120,14 @@ pub record RunsOn {S : Type 0} (outcome_of : Files → List ℕ → Outcome) (le
 
 -- the statuses of runs that no fault ends
 abbrev pub IsEnd : ℕ → Type 0
-IsEnd status = IsTrue ((status == 0) || (status == 2) || (status == 3) || (status == 8))
+IsEnd status = IsTrue ((status == 0) || (status == 2) || (status == 3) || (status == 7) || (status == 8))
 
 -- without the name of a file, the store isn't used, and so it doesn't fail
 abbrev pub LeavesStore : {D T : Type 0} → Option (List ℕ) → D → D → Result T RunFault → Type 0
 LeavesStore name store store' result = name ≡ None → (store' ≡ store) × IfErr result (λ e. e ≢ fault.Store)
+
+-- a run over a store whose loads may find some files
+pub record RunsSeen {S : Type 0} (outcome_of : (ℕ → Files) → List ℕ → Outcome) (left : S → Option (List ℕ)) (input input' : S) (written written' : Option (List ℕ)) (files files' : Option Files) (status : ℕ) : Type 0 where
+  pub seen : ℕ → Files
+  pub held : AreSeen files seen
+  pub runs : RunsFor (outcome_of seen) left input input' written written' files' status

@@ -1,8 +1,7 @@
 -- The quorums that answers show, and when the quorums of two answers meet.
-use Rattle.std.specs.Prelude.{◌≡◌, ℕ, ◌+◌, if◌then◌else◌, ℤ, List, [], ◌∷◌, length, take, Option, Some, None, option_map, option_and_then, nat_le, codes, true, ◌⊎◌}
+use Rattle.std.specs.Prelude.{◌≡◌, ℕ, ◌+◌, ℤ, List, [], ◌∷◌, take, Option, Some, None, option_map, option_and_then, Result, Ok, Err, codes, true, ◌⊎◌}
 use Rattle.std.specs.List.{Contains, slice_get}
 use Rattle.cluster_terms.specs.Quorum.{Meet, Sets, datacenter_of}
-use Rattle.transformations.specs.History.{state_after}
 use Rattle.transformations.specs.Log.{commands_of}
 use Rattle.transformations.specs.Meeting.{datacenters_of, makes_movement_epoch, local_sets_at, sets_at}
 use Rattle.transformations.specs.declared.command.Command.{Command}
@@ -14,9 +13,8 @@ use Rattle.script_lang.specs.Grammar.{line_of}
 use Rattle.script_lang.specs.Texts.{line, quorum_text}
 use Rattle.script_lang.specs.declared.script_line.ScriptLine.{ScriptLine}
 use Rattle.script_lang.specs.declared.script_line.ScriptLine.TheVariants.{Quorum, Local}
-use Rattle.script_lang.specs.declared.script_line.Target.TheVariants.{Epoch}
 use Rattle.tcm_session.specs.Lines.{whole_lines}
-use Rattle.tcm_session.specs.Machine.{log_after, log_next}
+use Rattle.tcm_session.specs.Machine.{SessionState, image_of, session_after, session_next, session_over}
 
 -- the quorums that an answer shows: the datacenter of a local query, the keyspace, the token, the epoch, and the sets
 pub record Shown : Type 0 where
@@ -47,27 +45,27 @@ BeginsWithWord text = (take 6 text ≡ codes "QUORUM") ⊎ (take 5 text ≡ code
 abbrev pub IsOfNoQuorum : List ℕ → Type 0
 IsOfNoQuorum text = BeginsWithWord text → ⊥
 
--- the quorums that a query is shown, if it isn't refused
-abbrev pub shown_at : List Command → ℕ → List ℕ → Option (List ℕ) → ℤ → Option Shown
-shown_at history e name dc t =
-    let show : Sets → Shown = λ s. record { datacenter = dc; keyspace = name; token = t; epoch = e; sets = s } in
-    if nat_le e (length history)
-    then option_map show (option_and_then (sets_in (state_after history e) t dc) (keyspace_of (state_after history e) name))
-    else None
+-- the quorums that a query is shown, if it isn't refused: those of its target's image, at the epoch of this image
+abbrev pub shown_from : Result Image (List ℕ) → List ℕ → Option (List ℕ) → ℤ → Option Shown
+shown_from (Err reason) name dc t = None
+shown_from (Ok image) name dc t =
+    let show : Sets → Shown = λ s. record { datacenter = dc; keyspace = name; token = t; epoch = image.epoch; sets = s } in
+    option_map show (option_and_then (sets_in image t dc) (keyspace_of image name))
 
-abbrev pub shown_by : List Command → Option ScriptLine → Option Shown
-shown_by history (Some (Quorum (Epoch e) name t)) = shown_at history e name None t
-shown_by history (Some (Local (Epoch e) name dc t)) = shown_at history e name (Some dc) t
-shown_by history _ = None
+abbrev pub shown_by : SessionState → Option ScriptLine → Option Shown
+shown_by session (Some (Quorum target name t)) = shown_from (image_of session target) name None t
+shown_by session (Some (Local target name dc t)) = shown_from (image_of session target) name (Some dc) t
+shown_by session _ = None
 
--- the quorums that the answers to lines show, in their order, from a log on
+-- the quorums that the answers to lines show, in their order, from a session on
 abbrev pub and_shown : Option Shown → List Shown → List Shown
 and_shown None later = later
 and_shown (Some s) later = s ∷ later
 
-abbrev pub shown : List Entry → List (List ℕ) → List Shown
-shown log [] = []
-shown log (bytes ∷ lines) = and_shown (shown_by (commands_of log) (line_of bytes)) (shown (log_next log bytes) lines)
+abbrev pub shown : SessionState → List (List ℕ) → List Shown
+shown session [] = []
+shown session (bytes ∷ lines) =
+    and_shown (shown_by session (line_of bytes)) (shown (session_next session bytes) lines)
 
 -- two answers are to the same question
 pub record AskAlike (p q : Shown) : Type 0 where
@@ -95,5 +93,5 @@ LinesAreShown bytes answers = (l : List ℕ) → Contains (whole_lines bytes) l 
 
 -- the quorums in the printed lines are the quorums that the answers to these lines show, and they meet
 pub record PrintsMeeting (log : List Entry) (lines : List (List ℕ)) (printed : List ℕ) : Type 0 where
-  pub texts : LinesAreShown printed (shown log lines)
-  pub meet : ShownMeet (commands_of (log_after log lines)) (shown log lines)
+  pub texts : LinesAreShown printed (shown (session_over log) lines)
+  pub meet : ShownMeet (commands_of (session_after (session_over log) lines).log) (shown (session_over log) lines)

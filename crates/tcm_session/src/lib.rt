@@ -1,7 +1,10 @@
 //! A session: reads script lines, keeps the log of accepted commands, and answers each line.
 #![tactic(auto)]
 
+mod ending;
 mod fault;
+mod followers;
+mod limits;
 mod lines;
 mod loading;
 mod noting;
@@ -12,6 +15,8 @@ mod query;
 mod quorum_text;
 mod reading;
 mod refused_line;
+mod replay;
+mod report;
 mod rings;
 mod script;
 mod session;
@@ -20,4 +25,4 @@ mod validity;
 pub use fault::StepFault;
 pub use program::{Status, run, run_surely};
 pub use session::Session;
-pub use validity::{lines_make_the_input, shown_quorums_meet};
+pub use validity::{lines_make_the_input, replays_show_the_longest_prefix, shown_quorums_meet};

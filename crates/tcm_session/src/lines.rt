@@ -19,8 +19,8 @@ pub fn cut_line(bytes: &[u8]) -> Option<(&[u8], &[u8])>
     Some((&bytes[..at], &bytes[at + 1..]))
 }
 
-/// Adds bytes to what is kept of a line that has begun. The bytes past the most that are kept are passed over. If memory
-/// runs out, `begun` is unchanged.
+/// Adds bytes to what is kept of a line that has begun. The bytes past the most that are kept are passed over. If
+/// memory runs out, `begun` is unchanged.
 pub fn keep_begun(begun: &mut Vec<u8>, bytes: &[u8]) -> Result<(), Memory>
     requires { IsBegun begun.old.items }
     ensures ok { OnOk result (begun.new.items ≡ kept_of (begun.old.items ++ bytes.now)) }

@@ -5,8 +5,7 @@ ghost use Rattle.std.specs.Option.{option_copied};
 ghost use Rattle.transformations.specs.Log.{entry_with_id};
 ghost use Rattle.wire_json.specs.Texts as wire;
 ghost use Rattle.tcm_session.specs.LogFiles.{Gains};
-ghost use Rattle.tcm_session.specs.Machine.{accepted_reply};
-ghost use Rattle.tcm_session.specs.Steps.{Leaves, Steps};
+ghost use Rattle.tcm_session.specs.Steps.{Leaves, Notes};
 
 use crate::fault::StepFault;
 use cluster_terms::{ByteText, Memory};
@@ -69,7 +68,7 @@ pub fn note<D: Store>(
 ) -> Result<(), StepFault>
     requires epoch { entry.epoch ≡ length log.old + 1 }
     requires id { entry_with_id log.old entry.id ≡ None }
-    ensures steps { Steps (accepted_reply entry) (option_copied file.entry) log.old log.new out.old out.new
+    ensures notes { Notes entry (option_copied file.entry) log.old log.new out.old out.new
         (D.files store.old) (D.files store.new) (D.faults store.old) (D.faults store.new) result }
     ensures unnamed { option_copied file.entry ≡ None → store.new ≡ store.old }
 {

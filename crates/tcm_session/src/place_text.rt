@@ -34,10 +34,10 @@ pub fn place_text(
     }
 }
 
-/// Adds the placements of a keyspace that has this replication: a head with the number of rows, and the rows between the
-/// cuts.
+/// Adds the placements of a keyspace that has this replication: a head with the number of rows, and the rows between
+/// the cuts. If memory runs out, `out` still begins with its old content.
 #[tactic(auto, unfolding(script_lang::specs::Texts::place_text))]
-fn placements_text(
+pub fn placements_text(
     alloc: Global,
     metadata: &Metadata,
     keyspace: &Name,

@@ -1,23 +1,29 @@
 //! Runs the program: the words after its name, a script as input, and the printed answers.
 
-ghost use Rattle.std.specs.Prelude.{◌≡◌, ◌≢◌, ◌⊎◌, [], None, Some, Ok, map, string_bytes, OnOk, IfOk};
+ghost use Rattle.std.specs.Prelude.{◌≡◌, ◌≢◌, ◌≤◌, ◌⊎◌, false, not, [], length, None, Some, Ok, map, string_bytes, OnOk, IfErr, IfOk, IfSome, IsTrue};
+ghost use Rattle.std.specs.List.{list_all};
 ghost use Rattle.std.specs.Option.{option_copied, option_map};
+ghost use Rattle.std.specs.Str.{bytes_eq};
 ghost use Rattle.tcm_session.specs.Counts.{counts};
 ghost use Rattle.tcm_session.specs.Endings as spec;
 ghost use Rattle.tcm_session.specs.Faults.{HasRunCause};
 ghost use Rattle.tcm_session.specs.LogFiles.{Gains, entry_lines, log_of};
 ghost use Rattle.tcm_session.specs.LogFiles as log_file;
-ghost use Rattle.tcm_session.specs.Machine.{entries_added};
-ghost use Rattle.tcm_session.specs.Outcome.{commit_outcome, named_log, outcome, outcome_from, script_outcome};
+ghost use Rattle.tcm_session.specs.Machine.{entries_added, session_over};
+ghost use Rattle.tcm_session.specs.Outcome.{commit_outcome, is_commit, is_replay, named_log, names_file, outcome, outcome_from, script_outcome};
+ghost use Rattle.tcm_session.specs.Outcome as outcomes;
+ghost use Rattle.tcm_session.specs.Replays.{WritesOther, WritesReplay};
 ghost use Rattle.tcm_session.specs.Run.{ComesSurely, HasStatus, IsRun};
-ghost use Rattle.tcm_session.specs.Runs.{IsEnd, LeavesStore, RunsOn, RunsOnAny, Writes};
+ghost use Rattle.tcm_session.specs.Runs.{IsEnd, LeavesStore, RunsOn, RunsOnAny, RunsSeen, Writes};
 ghost use Rattle.tcm_session.specs.Loading.{IsCut, IsLinesPart, TakesFile};
 ghost use Rattle.tcm_session.specs.declared.fault.RunFault.TheVariants as fault;
 
 use crate::fault::RunFault;
+use crate::limits::{FILE_LIMIT, TOO_LARGE};
 use crate::loading::{Loading, load_lines};
 use crate::reading::{ReadEnd, read_script};
 use crate::refused_line::{RefusedLine, refused_line_text};
+use crate::report::replay_files;
 use crate::script::answer_line;
 use crate::session::Session;
 use cluster_terms::ByteText;
@@ -29,15 +35,12 @@ use tcm_edges::{
 /// The text that is printed for words that name no command.
 const USAGE: &str = "usage: tcm commit [LOG] | replay FILE.. | snapshot LOG E | gen START N\n";
 
-/// The text that is printed for an input or a file that is too large, with the limit in bytes.
-const TOO_LARGE: &str = "TOO-LARGE 536870912\n";
+/// The most files of a replay.
+const MOST_FILES: usize = 64;
 
-/// The most bytes of a file.
-const FILE_LIMIT: u64 = 536_870_912;
-
-/// The status of a run: 0 if the input was read to its end, 1 if memory ran out, 2 for words that name no command, 3 if
-/// the log is refused, 4 if the source failed, 5 if the sink failed, 6 if the store failed, 8 if the input or the file
-/// is too large. `run` explains each status.
+/// The status of a run: 0 if the input was read to its end or all files were replayed, 1 if memory ran out, 2 for words
+/// that name no command, 3 if a line of a file is refused, 4 if the source failed, 5 if the sink failed, 6 if the store
+/// failed, 7 if a file is absent, 8 if the input or a file is too large. `run` explains each status.
 #[derive(Clone, Copy, Debug, PartialEq, Eq)]
 pub struct Status(pub u8);
 
@@ -49,6 +52,48 @@ fn commit_words(words: &[String]) -> Option<Option<&str>>
         [word] if word.as_str() == "commit" => Some(None),
         [word, file] if word.as_str() == "commit" && !file.is_empty() => Some(Some(file.as_str())),
         _ => None,
+    }
+}
+
+/// Whether a word may be the name of a file: it isn't empty.
+fn is_file_name(name: &str) -> bool
+    ensures { result ≡ not (bytes_eq name.now []) }
+{
+    !name.is_empty()
+}
+
+/// Whether each word may be the name of a file.
+fn have_names(names: &[String]) -> bool
+    ensures { result ≡ list_all (λ name. not (bytes_eq name [])) (map string_bytes names.now) }
+{
+    let mut rest = names;
+    while let Some((name, more)) = rest.split_first() {
+        if !is_file_name(name.as_str()) {
+            return false;
+        }
+        rest = more;
+    }
+    true
+}
+
+/// Whether these are the names of 1 to 64 files.
+fn are_files(names: &[String]) -> bool
+    ensures files { result ≡ outcomes.are_files (map string_bytes names.now) }
+    ensures few { IsTrue result → length names.now ≤ 64 }
+{
+    !names.is_empty() && names.len() <= MOST_FILES && have_names(names)
+}
+
+/// The files that the words name if they are `replay` and the names of 1 to 64 files. Returns `None` for other words.
+fn replay_words(words: &[String]) -> Option<&[String]>
+    ensures files { spec.IsReplayOf (map string_bytes words.now) (option_map (λ names. map string_bytes names.now) result) }
+    ensures few { IfSome result (λ names. length names.now ≤ 64) }
+{
+    let (word, names) = words.split_first()?;
+    if word.as_str() == "replay" && are_files(names) {
+        Some(names)
+    } else {
+        None
     }
 }
 
@@ -130,7 +175,8 @@ fn finish<K: Sink, D: Store>(
     }
 }
 
-/// Runs a script from the log of the session on. If a file is named, the lines of new entries are added to it.
+/// Runs a script from the log of the session on, which has no followers yet. If a file is named, the lines of new
+/// entries are added to it.
 fn run_script<S: Source, K: Sink, D: Store>(
     alloc: Global,
     session: &mut Session,
@@ -139,8 +185,10 @@ fn run_script<S: Source, K: Sink, D: Store>(
     out: &mut K,
     store: &mut D,
 ) -> Result<Status, RunFault>
+    requires { session.old ≡ session_over session.old.log }
     ensures runs { RunsOnAny
-        (λ all. script_outcome (record { log = session.old; file = option_copied log.entry; files = all }))
+        (λ all. script_outcome
+        (record { log = session.old.log; file = option_copied log.entry; files = all }))
         S.left input.old input.new (K.written out.old) (K.written out.new)
         (D.files store.old) (D.files store.new) (spec.status_by result) }
     ensures cause { HasRunCause
@@ -190,7 +238,7 @@ fn refuse_log<K: Sink>(
     ensures status { IfOk result (λ ended. ended.0 ≡ 3) }
 {
     let mut text = ByteText::empty(alloc);
-    refused_line_text(refused, &mut text)?;
+    refused_line_text(alloc, refused, &mut text)?;
     end_with(text.as_slice(), 3, out)
 }
 
@@ -218,9 +266,10 @@ fn take_log<D: Store>(
     file: ByteText,
     store: &mut D,
 ) -> Result<Option<RefusedLine>, RunFault>
-    requires { session.old ≡ [] }
+    requires { session.old ≡ session_over [] }
     ensures taken { IfOk result (λ refused.
-        TakesFile refused name.now file session.new (D.files store.old) (D.files store.new)) }
+        TakesFile refused name.now file session.new.log (D.files store.old) (D.files store.new)) }
+    ensures over { OnOk result (session.new ≡ session_over session.new.log) }
     ensures cause { HasRunCause (counts 0 0 (D.faults store.old)) (counts 0 0 (D.faults store.new)) result }
 {
     match load_lines(session, file.as_slice())? {
@@ -243,7 +292,7 @@ fn resume<S: Source, K: Sink, D: Store>(
     out: &mut K,
     store: &mut D,
 ) -> Result<Status, RunFault>
-    requires { session.old ≡ [] }
+    requires { session.old ≡ session_over [] }
     ensures runs { RunsOnAny (λ all. outcome_from name.now all file (log_of file))
         S.left input.old input.new (K.written out.old) (K.written out.new)
         (D.files store.old) (D.files store.new) (spec.status_by result) }
@@ -304,6 +353,50 @@ fn commit_to<S: Source, K: Sink, D: Store>(
     }
 }
 
+/// Replays files, and prints how the replay ends: the report of the follower, the first line that is refused, or the
+/// file that is absent or too large. No file changes.
+fn replay<K: Sink, D: Store>(
+    alloc: Global,
+    names: &[String],
+    out: &mut K,
+    store: &mut D,
+) -> Result<Status, RunFault>
+    requires { length names.now ≤ 64 }
+    ensures writes { WritesReplay (map string_bytes names.now) (D.files store.old)
+        (K.written out.old) (K.written out.new) result }
+    ensures files { D.files store.new ≡ D.files store.old }
+    ensures cause { HasRunCause
+        (counts 0 (K.faults out.old) (D.faults store.old))
+        (counts 0 (K.faults out.new) (D.faults store.new)) result }
+    ensures ended { IfOk result (λ status. IsEnd status.0) }
+{
+    let ending = replay_files(alloc, names, store)?;
+    end_with(ending.text.as_slice(), ending.status, out)
+}
+
+/// Runs the command that words other than `commit` name, or prints the usage line.
+fn answer_others<K: Sink, D: Store>(
+    alloc: Global,
+    words: &[String],
+    out: &mut K,
+    store: &mut D,
+) -> Result<Status, RunFault>
+    ensures writes { WritesOther (map string_bytes words.now) (D.files store.old)
+        (K.written out.old) (K.written out.new) result }
+    ensures files { D.files store.new ≡ D.files store.old }
+    ensures cause { HasRunCause
+        (counts 0 (K.faults out.old) (D.faults store.old))
+        (counts 0 (K.faults out.new) (D.faults store.new)) result }
+    ensures ended { IfOk result (λ status. IsEnd status.0) }
+    ensures unnamed { is_replay (map string_bytes words.now) ≡ false
+        → (store.new ≡ store.old) × IfErr result (λ e. e ≢ fault.Store) }
+{
+    match replay_words(words) {
+        Some(names) => replay(alloc, names, out, store),
+        None => end_with(USAGE.as_bytes(), 2, out),
+    }
+}
+
 /// Runs the command that the words name, or prints the usage line. Stops at the first fault.
 fn answer_words<S: Source, K: Sink, D: Store>(
     alloc: Global,
@@ -312,19 +405,21 @@ fn answer_words<S: Source, K: Sink, D: Store>(
     out: &mut K,
     store: &mut D,
 ) -> Result<Status, RunFault>
-    ensures runs { RunsOn (outcome (map string_bytes words.now))
+    ensures runs { RunsSeen (outcome (map string_bytes words.now))
         S.left input.old input.new (K.written out.old) (K.written out.new)
         (D.files store.old) (D.files store.new) (spec.status_by result) }
     ensures cause { HasRunCause
         (counts (S.faults input.old) (K.faults out.old) (D.faults store.old))
         (counts (S.faults input.new) (K.faults out.new) (D.faults store.new)) result }
     ensures ended { IfOk result (λ status. IsEnd status.0) }
-    ensures unnamed { LeavesStore (named_log (map string_bytes words.now)) store.old store.new result }
+    ensures unnamed { names_file (map string_bytes words.now) ≡ false
+        → (store.new ≡ store.old) × IfErr result (λ e. e ≢ fault.Store) }
+    ensures others { is_commit (map string_bytes words.now) ≡ false → D.files store.new ≡ D.files store.old }
 {
     match commit_words(words) {
         Some(None) => commit(alloc, None, input, out, store),
         Some(Some(name)) => commit_to(alloc, name, input, out, store),
-        None => end_with(USAGE.as_bytes(), 2, out),
+        None => answer_others(alloc, words, out, store),
     }
 }
 
@@ -334,7 +429,13 @@ fn answer_words<S: Source, K: Sink, D: Store>(
 /// - `commit LOG` runs it from the log in the file `LOG` of `store`, and adds the line of each new entry to this file
 ///   before its commit is answered. A file that is absent is an empty log; it is made when the first entry is added.
 ///   Bytes after the last line feed of the file are cut off, once all its lines were found good.
+/// - `replay FILE..`, with 1 to 64 files, hands the entries in the lines of these files to one follower, in their order,
+///   and prints a report: the counts of lines, the epoch of the follower and the number of entries that wait at it, and
+///   the nodes and the placements at this epoch. No input is read, and no file changes. Each file is loaded once the
+///   files before it are done. Bytes after the last line feed of a file are passed over.
 /// - Other words print the usage line.
+///
+/// No name of a file is empty.
 ///
 /// A line of a script ends at a line feed; bytes after the last line feed, if there are any, are the last line. Each
 /// line gets one answer, which is written before the next line is looked at. The source may give the script in pieces
@@ -342,25 +443,27 @@ fn answer_words<S: Source, K: Sink, D: Store>(
 ///
 /// Returns the status of the run:
 ///
-/// - 0: the input was read to its end, and every line was answered.
+/// - 0: the input was read to its end, and every line was answered; or all files were replayed.
 /// - 1: memory ran out.
 /// - 2: the words name no command. Nothing was read, and the usage line was printed.
-/// - 3: a line of the log file is refused. Nothing was read, no file was changed, and `REFUSED 1`, the number of the
-///   line and the first cause were printed.
+/// - 3: a line of the log file, or of a file that is replayed, is refused. Nothing was read from the input, no file was
+///   changed, and `REFUSED`, the number of the file among the words, the number of the line and the first cause were
+///   printed, and nothing else; after the cause `FORK` also the lines of the two entries.
 /// - 4: the source failed: its count of faults rose in this run. Exactly the answers to the lines that end among the
 ///   bytes read were printed. Only `commit`, with or without a file, gives this status.
 /// - 5: the sink failed: its count of faults rose in this run.
 /// - 6: the store failed: its count of faults rose in this run. Only words that name a file give this status.
-/// - 8: byte 536,870,913 of the input was read, and the lines that end before it were answered; or the file has more
-///   than 536,870,912 bytes, and nothing was read. Then `TOO-LARGE 536870912` was printed.
+/// - 7: a file that is to be replayed is absent. `NO FILE` and its name were printed.
+/// - 8: byte 536,870,913 of the input was read, and the lines that end before it were answered; or a file has more than
+///   536,870,912 bytes, and no input was read. Then `TOO-LARGE 536870912` was printed.
 ///
-/// A run ends at its first fault. If the text for status 0, 2, 3 or 8 can't be written, the status is 5, or 1 if the
+/// A run ends at its first fault. If the text for status 0, 2, 3, 7 or 8 can't be written, the status is 5, or 1 if the
 /// sink runs out of memory. With status 1, 4, 5 or 6, the printed bytes are a prefix of the output of a run without the
 /// fault.
 ///
-/// Cost: a run keeps in memory the log, the metadata at the last epoch, the file while it is loaded, and of the current
-/// line at most 16,385 bytes, with its answer. A query at an earlier epoch costs as much as committing all commands up
-/// to that epoch again.
+/// Cost: a run keeps in memory the log, the metadata at the last epoch and that of each follower, the file while it is
+/// loaded, and of the current line at most 16,385 bytes, with its answer. A query of an earlier epoch, and its image for
+/// a follower, cost as much as committing all commands up to that epoch again. A replay keeps its follower and one file.
 pub fn run<S: Source, K: Sink, D: Store>(
     alloc: Global,
     words: &[String],
@@ -370,7 +473,9 @@ pub fn run<S: Source, K: Sink, D: Store>(
 ) -> Status
     // For the same input and files, the printed bytes are a prefix of the bytes of the outcome; at a final status they
     // are all of these bytes, and the files are those of the outcome. Quorums in the printed lines meet if they answer
-    // the same question, at the same epoch or at a movement epoch and the epoch before it.
+    // the same question, at the same epoch or at a movement epoch and the epoch before it. Each follower of a script
+    // shows the longest prefix of the log without a gap that it took. A replay of files of one log refuses no line, and
+    // its follower, which is reported, shows this prefix, too.
     ensures outcome { IsRun (map string_bytes words.now) S.left input.old input.new
         (K.written out.old) (K.written out.new) (D.files store.old) (D.files store.new) result.0 }
 
@@ -380,7 +485,10 @@ pub fn run<S: Source, K: Sink, D: Store>(
         (counts (S.faults input.new) (K.faults out.new) (D.faults store.new)) result.0 }
 
     // Words that name no file leave the store as it is.
-    ensures store { named_log (map string_bytes words.now) ≡ None → (store.new ≡ store.old) × (result.0 ≢ 6) }
+    ensures store { names_file (map string_bytes words.now) ≡ false → (store.new ≡ store.old) × (result.0 ≢ 6) }
+
+    // Words other than `commit` change no file, whatever the status.
+    ensures unchanged { is_commit (map string_bytes words.now) ≡ false → D.files store.new ≡ D.files store.old }
 {
     status_of(answer_words(alloc, words, input, out, store))
 }
@@ -394,7 +502,7 @@ pub fn run_surely(
     out: &mut SureSink,
     store: &mut SureStore,
 ) -> Status
-    ensures { (result.0 ≡ 1) ⊎ ComesSurely (outcome (map string_bytes words.now) store.old input.old.bytes)
+    ensures { (result.0 ≡ 1) ⊎ ComesSurely (outcome (map string_bytes words.now) (λ _. store.old) input.old.bytes)
         out.old out.new store.new result.0 }
 {
     run(alloc, words, input, out, store)

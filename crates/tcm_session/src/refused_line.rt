@@ -1,13 +1,17 @@
-//! Lines of log files that are refused, and their text.
+//! Lines of files that are refused, and their text.
 
 ghost use Rattle.std.specs.Prelude.{◌≡◌, ◌++◌, codes, decimal, take, length, OnOk};
+ghost use Rattle.wire_json.specs.Texts as wire;
 ghost use Rattle.tcm_session.specs.LogFiles as spec;
 
 use cluster_terms::{ByteText, Memory};
 use script_lang::{labelled, refusal_text};
-use transformations::Refusal;
+use std::alloc::Global;
+use transformations::{Entry, Refusal};
+use wire_json::entry_line;
 
-/// Why a line of a log file is refused. The causes are looked for in this order.
+/// Why a line of a file is refused. For a log file, the first four are looked for in this order; for a file that is
+/// replayed, `Line` first, and then the others as the follower finds them.
 #[derive(Debug, Drop)]
 pub enum Cause {
     /// The line breaks this rule of `read_line`, and no rule with a smaller number.
@@ -18,11 +22,14 @@ pub enum Cause {
     Id(u64, u64),
     /// The command of the entry at this epoch is refused.
     Command(u64, Refusal),
+    /// Another entry of this epoch waits: the one that waits, and the one that came.
+    Fork(u64, Entry, Entry),
 }
 
-/// A line of a log file that is refused: its number, from 1 on, and the first cause.
+/// A line of a file that is refused: the number of the file and that of the line, both from 1 on, and the first cause.
 #[derive(Debug, Drop)]
 pub struct RefusedLine {
+    pub file: u64,
     pub line: u64,
     pub cause: Cause,
 }
@@ -48,16 +55,51 @@ fn cause_text(cause: &Cause, out: &mut ByteText) -> Result<(), Memory>
             out.extend(b" ")?;
             refusal_text(refusal, out)
         }
+        Cause::Fork(epoch, _held, _came) => labelled(b"FORK ", epoch, out),
     }
 }
 
-/// Adds `REFUSED 1 line cause`, the text for a log file that is refused at this line. Fails only if memory runs out.
-#[tactic(auto, unfolding(crate::specs::LogFiles::refused_line_text))]
-pub fn refused_line_text(refused: &RefusedLine, out: &mut ByteText) -> Result<(), Memory>
-    ensures { OnOk result (out.new ≡ out.old ++ spec.refused_line_text refused.now) }
+// Adds the line of an entry.
+fn add_entry(alloc: Global, entry: &Entry, out: &mut ByteText) -> Result<(), Memory>
+    ensures { OnOk result (out.new ≡ out.old ++ wire.entry_line entry.now) }
 {
-    labelled(b"REFUSED 1 ", &refused.line, out)?;
+    let line = entry_line(alloc, entry)?;
+    out.extend(line.as_slice())
+}
+
+// Adds the lines of the entries of a fork.
+fn fork_lines(alloc: Global, cause: &Cause, out: &mut ByteText) -> Result<(), Memory>
+    ensures { OnOk result (out.new ≡ out.old ++ spec.fork_lines cause.now) }
+{
+    match cause {
+        Cause::Fork(_epoch, held, came) => {
+            add_entry(alloc, held, out)?;
+            add_entry(alloc, came, out)
+        }
+        _ => Ok(()),
+    }
+}
+
+// Adds the numbers of a refused line, and its cause.
+fn head_text(refused: &RefusedLine, out: &mut ByteText) -> Result<(), Memory>
+    ensures { OnOk result (out.new ≡ out.old ++ spec.refused_head refused.now) }
+{
+    numbers_text(b"REFUSED ", refused.file, refused.line, out)?;
     out.extend(b" ")?;
     cause_text(&refused.cause, out)?;
     out.extend(b"\n")
+}
+
+/// Adds `REFUSED file line cause`, the text for a file that is refused at this line, and after a fork the lines of its
+/// two entries. Fails only if memory runs out.
+#[tactic(auto, unfolding(crate::specs::LogFiles::refused_line_text))]
+pub fn refused_line_text(
+    alloc: Global,
+    refused: &RefusedLine,
+    out: &mut ByteText,
+) -> Result<(), Memory>
+    ensures { OnOk result (out.new ≡ out.old ++ spec.refused_line_text refused.now) }
+{
+    head_text(refused, out)?;
+    fork_lines(alloc, &refused.cause, out)
 }

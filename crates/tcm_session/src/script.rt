@@ -7,7 +7,7 @@ ghost use Rattle.tcm_session.specs.Counts.{counts};
 ghost use Rattle.tcm_session.specs.Faults.{HasRunCause};
 ghost use Rattle.tcm_session.specs.Lines.{whole_lines};
 ghost use Rattle.tcm_session.specs.LogFiles.{Gains, entry_lines};
-ghost use Rattle.tcm_session.specs.Machine.{answers, reply};
+ghost use Rattle.tcm_session.specs.Machine.{answers, reply, session_next};
 ghost use Rattle.tcm_session.specs.Runs.{IsBegun, LeavesStore, Takes, Writes, standing};
 
 use crate::fault::RunFault;
@@ -29,7 +29,7 @@ pub fn answer_line<K: Sink, D: Store>(
     ensures writes { Writes (reply session.old line.now).text (K.written out.old) (K.written out.new)
         (counts 0 (K.faults out.old) (D.faults store.old))
         (counts 0 (K.faults out.new) (D.faults store.new)) result }
-    ensures log { OnOk result (session.new ≡ session.old ++ (reply session.old line.now).added) }
+    ensures next { OnOk result (session.new ≡ session_next session.old line.now) }
     ensures file { OnOk result (Gains
         (option_copied log.entry) (entry_lines (reply session.old line.now).added)
         (D.files store.old) (D.files store.new)) }

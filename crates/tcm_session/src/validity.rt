@@ -1,4 +1,4 @@
-//! Facts about the definitions: the lines of an input, and the quorums that answers show.
+//! Facts about the definitions: the lines of an input, the quorums in answers, and what followers show.
 
 ghost use Rattle.std.specs.Prelude.{◌≡◌, ℕ, ◌++◌, [], List, None, Some, Ok, flat_map};
 ghost use Rattle.std.specs.List.{AllByRecursion};
@@ -6,9 +6,15 @@ ghost use Rattle.script_lang.specs.Grammar.{line_of};
 ghost use Rattle.script_lang.specs.Texts.{line};
 ghost use Rattle.transformations.specs.Log.{IsLog, commands_of};
 ghost use Rattle.transformations.specs.declared.entry.Entry.{Entry};
+ghost use Rattle.transformations.specs.declared.image.Image.{Image};
+ghost use Rattle.follower_log.specs.Follower.{FollowerState, hand_entry, hand_image};
 ghost use Rattle.tcm_session.specs.Lines.{HasNoFeed, open_line, whole_lines};
 ghost use Rattle.tcm_session.specs.LogFiles.{lines_part, log_of};
-ghost use Rattle.tcm_session.specs.Machine.{answers, entries_added, log_after, reply};
+ghost use Rattle.tcm_session.specs.Machine.{SessionState, answers, reply, session_after, session_over};
+ghost use Rattle.tcm_session.specs.Taken.{AnswerAsLog, FollowersShow, TellsEpoch};
+ghost use Rattle.tcm_edges.specs.Files.{Files};
+ghost use Rattle.tcm_session.specs.Replay.{files_replayed, nothing_replayed};
+ghost use Rattle.tcm_session.specs.ReplayPrefix.{AreFilesOf, ComesToPrefix, taken_of_files};
 ghost use Rattle.tcm_session.specs.Shown.{IsOfNoQuorum, LinesAreShown, Shown, ShownMeet, shown, shown_by, shown_text};
 
 /// Cutting an input into lines loses nothing: its whole lines, each with a line feed after it, and then its open line
@@ -30,14 +36,42 @@ pub fn lines_make_the_input()
 /// The first line is answered from the log in a file; a file without lines is the empty log.
 #[tactic(auto, using(crate::proofs::ShownAnswers::texts, crate::proofs::ShownAnswers::others))]
 pub fn shown_quorums_meet()
-    ensures texts { (log : List Entry) (bytes : List ℕ) (s : Shown)
-        → shown_by (commands_of log) (line_of bytes) ≡ Some s → (reply log bytes).text ≡ shown_text s }
-    ensures others { (log : List Entry) (bytes : List ℕ)
-        → shown_by (commands_of log) (line_of bytes) ≡ None → IsOfNoQuorum (reply log bytes).text }
+    ensures texts { (session : SessionState) (bytes : List ℕ) (s : Shown)
+        → shown_by session (line_of bytes) ≡ Some s → (reply session bytes).text ≡ shown_text s }
+    ensures others { (session : SessionState) (bytes : List ℕ)
+        → shown_by session (line_of bytes) ≡ None → IsOfNoQuorum (reply session bytes).text }
     ensures whole { (file : List ℕ) (log : List Entry) (lines : List (List ℕ)) → log_of file ≡ Ok log
-        → open_line (answers log lines) ≡ [] }
+        → open_line (answers (session_over log) lines) ≡ [] }
     ensures lines { (file : List ℕ) (log : List Entry) (lines : List (List ℕ)) → log_of file ≡ Ok log
-        → LinesAreShown (answers log lines) (shown log lines) }
+        → LinesAreShown (answers (session_over log) lines) (shown (session_over log) lines) }
     ensures meet { (file : List ℕ) (log : List Entry) (lines : List (List ℕ)) → log_of file ≡ Ok log
-        → ShownMeet (commands_of (log_after log lines)) (shown log lines) }
+        → ShownMeet (commands_of (session_after (session_over log) lines).log)
+        (shown (session_over log) lines) }
+{}
+
+/// A follower shows the longest gapless prefix of what it took. Take the lines of a script up to any of them: after
+/// these lines each follower is at a state of the log. The epoch of this state is reached without a gap, from epoch 0
+/// or from an image that the follower took, by entries that it took; no later epoch is reached so. What is answered
+/// `FULL` isn't taken.
+///
+/// What is answered `AT` and an epoch leaves the follower at this epoch. A query of a follower is answered from the
+/// state of the log at the follower's epoch.
+///
+/// The first line is answered from the log in a file; a file without lines is the empty log.
+pub fn followers_show_prefixes()
+    ensures prefixes { (file : List ℕ) (log : List Entry) (lines : List (List ℕ)) → log_of file ≡ Ok log
+        → FollowersShow log lines }
+    ensures at { (follower : FollowerState) (entry : Entry) (image : Image)
+        → TellsEpoch (hand_entry follower entry) × TellsEpoch (hand_image follower image) }
+    ensures queries { (file : List ℕ) (log : List Entry) (lines : List (List ℕ)) → log_of file ≡ Ok log
+        → AnswerAsLog (session_after (session_over log) lines) }
+{}
+
+/// A replay of files whose whole lines are entries of one log, in any order, some lost and some repeated. No line is
+/// refused. At the end of the files, the follower stands for this log and for what it took: the entries that weren't
+/// answered `Full`. It shows the state of the log at the end of the longest prefix of these without a gap, so the
+/// report is the report of this state.
+pub fn replays_show_the_longest_prefix()
+    ensures { (log : List Entry) (names : List (List ℕ)) (seen : ℕ → Files) → IsLog log → AreFilesOf log names seen
+        → ComesToPrefix log (taken_of_files names seen) (files_replayed 1 nothing_replayed names seen) }
 {}

@@ -9,11 +9,12 @@ use Rattle.transformations.specs.declared.command.Command.{Command}
 use Rattle.transformations.specs.declared.entry.Entry.{Entry}
 use Rattle.wire_json.specs.Kinds as spec
 use Rattle.wire_json.specs.Kinds.{Kind}
-use Rattle.wire_json.specs.Reading.{◌>>=◌, entry_keys, entry_of, epoch_at, found, holds, most_bytes, reading, value_of}
-use Rattle.wire_json.specs.Values.{has_keys, node_at, number_at, text_at}
+use Rattle.wire_json.specs.Reading.{◌>>=◌, entry_of, found, holds, most_bytes, reading, value_of}
+use Rattle.wire_json.specs.Values.{has_keys, node_at, text_at}
 use Rattle.wire_json.specs.declared.line.Line.{Line}
 use Rattle.wire_json.specs.declared.line.Line.TheVariants as line
 use Rattle.wire_json.specs.declared.line.ReadLineFault.{ReadLineFault}
+use Rattle.wire_json.proofs.EntryParts.{entry_parts}
 use Rattle.wire_json.proofs.KindsLemmas.{no_node_command, node_command}
 
 -- ---- what holds of the value in an option
@@ -93,26 +94,8 @@ module _ (Q : Command → Type 0) (of : HoldsOfKinds Q) where
 
   -- ---- entries
 
-  -- what is made of the parts of an entry
-  abbrev entry_by : Bool → Option ℕ → Option ℕ → Option Command → Result Entry ReadLineFault
-  entry_by keys id epoch command = do
-    keys ← holds 3 keys
-    id ← found 4 id
-    epoch ← found 4 epoch
-    command ← found 5 command
-    Ok (record { id = id; epoch = epoch; cmd = command })
-
   pub entry_commands : (value : Data) (entry : Entry) → entry_of value ≡ Ok entry → Q entry.cmd
-  unfolding entry_of
-  entry_commands value entry is =
-      by (has_keys entry_keys value) (number_at (codes "entry") value) (epoch_at (codes "epoch") value) (spec.command_at (codes "command") value) (of_command_at (codes "command") value) is
-    where
-      by : (keys : Bool) (id epoch : Option ℕ) (command : Option Command) → IfSome command Q → entry_by keys id epoch command ≡ Ok entry → Q entry.cmd
-      by false id epoch command all is = absurd (cc)
-      by true None epoch command all is = absurd (cc)
-      by true (Some n) None command all is = absurd (cc)
-      by true (Some n) (Some e) None all is = absurd (cc)
-      by true (Some n) (Some e) (Some command) all is = (let same : command ≡ entry.cmd = cc in subst Q same all)
+  entry_commands value entry is = subst (λ o. IfSome o Q) (entry_parts value entry is).command_is (of_command_at (codes "command") value)
 
   -- a line
   pub reading_commands : (bytes : List ℕ) (entry : Entry) → reading bytes ≡ Ok (line.Entry entry) → Q entry.cmd

@@ -1,6 +1,8 @@
 pub mod EntriesReadBack
 pub mod EntryCommands
+pub mod EntryEpochs
 pub mod EntryFloats
+pub mod EntryParts
 pub mod EntryTokens
 pub mod KeysLemmas
 pub mod KindsLemmas

@@ -1,9 +1,9 @@
 -- The entry in a line of a log file, or the first rule that the line breaks.
-use Rattle.std.specs.Prelude.{ℕ, ◌≡◌, Bool, ◌&&◌, if◌then◌else◌, List, [], ◌∷◌, length, Option, Some, None, Result, Ok, Err, option_and_then, ok_or, nat_le, codes, ⊤, IsTrue}
+use Rattle.std.specs.Prelude.{ℕ, ◌≡◌, ◌≤◌, Bool, ◌&&◌, if◌then◌else◌, List, [], ◌∷◌, length, Option, Some, None, Result, Ok, Err, option_and_then, ok_or, nat_le, codes, ⊤, IsTrue}
 use Rattle.std.specs.Str.{is_utf8}
 use Rattle.serde_json.specs.Data.{Data}
 use Rattle.serde_json.specs.Read.{read}
-use Rattle.transformations.specs.History.{is_command}
+use Rattle.transformations.specs.History.{is_command, most_epochs}
 use Rattle.transformations.specs.declared.entry.Entry.{Entry as AnyEntry}
 use Rattle.wire_json.specs.Kinds.{command_at}
 use Rattle.wire_json.specs.Values.{has_keys, number_at}
@@ -68,3 +68,7 @@ reading bytes = do
 -- if the command of the entry lists tokens, they are 1 to 256 and ascend
 abbrev pub HasTokens : Line → Type 0
 HasTokens (Entry entry) = IsTrue (is_command entry.cmd)
+
+-- the epoch of the entry is at most the last one that there can be
+abbrev pub HasEpoch : Line → Type 0
+HasEpoch (Entry entry) = entry.epoch ≤ most_epochs

@@ -38,6 +38,7 @@ const MOST_EPOCHS: u64 = 65_536;
 pub fn read_line(alloc: Global, bytes: &[u8]) -> Result<Line, ReadLineFault>
     ensures meaning { result ≢ Err fault.Memory → result ≡ spec.reading bytes.now }
     ensures tokens { IfOk result spec.HasTokens }
+    ensures epoch { IfOk result spec.HasEpoch }
     ensures long { 4194304 < length bytes.now → result ≡ Err (fault.Bad 1) }
 {
     if bytes.len() > MOST_BYTES {

@@ -1,7 +1,8 @@
-//! Scripts that reach the limits of nodes, tokens, keyspaces and epochs.
+//! Scripts that reach the limits of nodes, tokens, keyspaces, epochs and waiting entries.
 
 use crate::tests::running::{accepted, ran};
 use std::alloc::Global;
+use std::ops::Range;
 use std::process::Abort;
 use std::test::Fail;
 use tcm_session::Status;
@@ -135,5 +136,37 @@ fn epochs_end_at_65536(rt: HostRuntime) -> Result<(), Fail> {
     let mut want = accepted(alloc, 1, 65_536)?;
     want.push_str("NO EPOCHS-FULL\nNO EPOCHS-FULL\nOK 1\nOK 65536\n")?;
     want.push_str("NO ID-REUSED 1\nNO ID-REUSED 65536\nNO EPOCHS-FULL\n")?;
+    is_answered(&rt, alloc, &script, &want)
+}
+
+/// Adds lines that hand the entries of these epochs to a follower, and its answers.
+fn deliver(
+    alloc: Global,
+    script: &mut String,
+    want: &mut String,
+    epochs: Range<u64>,
+    answer: &str,
+) -> Result<(), Fail> {
+    for epoch in epochs {
+        script.push_str(&format!(in alloc; "deliver f {epoch}\n")?)?;
+        want.push_str(answer)?;
+    }
+    Ok(())
+}
+
+#[test]
+fn waiting_entries_end_at_1024(rt: HostRuntime) -> Result<(), Fail> {
+    let alloc = rt.alloc();
+    let mut script = String::new(alloc);
+    for i in 1..=1_030 {
+        script.push_str(&format!(in alloc; "commit {i} keyspace ks simple 1\n")?)?;
+    }
+    script.push_str("follower f\n")?;
+    let mut want = accepted(alloc, 1, 1_030)?;
+    want.push_str("AT 0\n")?;
+    deliver(alloc, &mut script, &mut want, 2..1_026, "AT 0\n")?;
+    deliver(alloc, &mut script, &mut want, 1_026..1_031, "FULL 0\n")?;
+    script.push_str("deliver f 1025\ndeliver f 1\ndeliver f 1026\ndeliver f 1028\n")?;
+    want.push_str("HELD 0\nAT 1025\nAT 1026\nAT 1026\n")?;
     is_answered(&rt, alloc, &script, &want)
 }

@@ -152,7 +152,6 @@ const BAD_LINES: &[u8] = b"\n\
     place @0 a/b\n\
     place @0 aaaaaaaaaaaaaaaaaaaaaaaaaaaaaaaaa\n\
     place @0 ks ks\n\
-    place 3 ks\n\
     place @ ks\n\
     place @-1 ks\n\
     place @01 ks\n\
@@ -161,7 +160,6 @@ const BAD_LINES: &[u8] = b"\n\
     nodes\n\
     nodes \n\
     nodes @\n\
-    nodes 0\n\
     nodes @00\n\
     nodes @0 \n\
     nodes @0 ks\n\
@@ -189,7 +187,6 @@ const BAD_LINES: &[u8] = b"\n\
     Quorum @0 ks 1\n\
     QUORUM @0 ks 1\n\
     quorums @0 ks 1\n\
-    quorum 0 ks 1\n\
     quorum @ ks 1\n\
     quorum @00 ks 1\n\
     quorum @-1 ks 1\n\
@@ -305,13 +302,41 @@ const BAD_LINES: &[u8] = b"\n\
     commit\t1 register a dc1 r1\n\
     commit 1 register \xff dc1 r1\n\
     commit 1 register a\0 dc1 r1\n\
-    place 0 ks\n\
     commit 1 register aaaaaaaaaaaaaaaaaaaaaaaaaaaaaaaaa b c\n\
-    follower f\n\
-    deliver f 1\n\
-    snapshot f 1\n\
-    place f ks\n\
-    nodes f\n";
+    follower\n\
+    follower \n\
+    follower f \n\
+    \x20follower f\n\
+    Follower f\n\
+    follower f\r\n\
+    follower a/b\n\
+    follower a b\n\
+    follower aaaaaaaaaaaaaaaaaaaaaaaaaaaaaaaaa\n\
+    follower @1\n\
+    deliver f\n\
+    deliver f 01\n\
+    deliver f -1\n\
+    deliver f 18446744073709551616\n\
+    deliver f x\n\
+    deliver f @1\n\
+    deliver f 1 \n\
+    deliver f  1\n\
+    deliver aaaaaaaaaaaaaaaaaaaaaaaaaaaaaaaaa 1\n\
+    deliver f 1 1\n\
+    deliver @1 1\n\
+    deliver 1\n\
+    snapshot f\n\
+    snapshot f @1\n\
+    snapshot f 01\n\
+    snapshot f x\n\
+    snapshot f 18446744073709551616\n\
+    snapshot aaaaaaaaaaaaaaaaaaaaaaaaaaaaaaaaa 1\n\
+    snapshot f 1 2\n\
+    place a/b ks\n\
+    nodes f g\n\
+    nodes aaaaaaaaaaaaaaaaaaaaaaaaaaaaaaaaa\n\
+    quorum f ks\n\
+    local f ks dc1\n";
 
 /// The answers to `count` lines that aren't in the grammar.
 fn refused(alloc: Global, count: usize) -> Result<Vec<u8>, Fail> {

@@ -51,6 +51,10 @@ const SPELT_1: &str =
 const SPELT_2: &str =
     r#"{"entry":7,"entry":2,"command":{"tokens":[ 0 ],"node":1,"kind":"unsafe-join"},"epoch":2} "#;
 
+/// The line of a keyspace whose name is before that of the other keyspace.
+const FIRST_KEYSPACE: &str =
+    r#"{"command":{"kind":"keyspace","name":"ka","replication":"simple 1"},"entry":9,"epoch":4}"#;
+
 /// The first bytes of a line.
 const FRONT: &str = "{\"comman";
 
@@ -70,6 +74,7 @@ fn line_of(letter: u8) -> &'static [u8] {
         b'b' => SECOND_NODE.as_bytes(),
         b't' => THREE_TOKENS.as_bytes(),
         b'd' => TWO_DATACENTERS.as_bytes(),
+        b'k' => FIRST_KEYSPACE.as_bytes(),
         b's' => SPELT_1.as_bytes(),
         b'p' => SPELT_2.as_bytes(),
         b'f' => FRONT.as_bytes(),
@@ -79,13 +84,13 @@ fn line_of(letter: u8) -> &'static [u8] {
 
 /// A file, told by its lines: each letter stands for a line, and `|` for the end of the last whole one. `None` stands
 /// for an absent file.
-type File = Option<&'static str>;
+pub type File = Option<&'static str>;
 
 /// The name of a run, the file before it, its script, the answers, and the file after it.
 type LogRun = (&'static str, File, &'static str, &'static str, File);
 
 /// Runs over a log that is taken over, with status 0.
-const RUNS: [LogRun; 18] = [
+const RUNS: [LogRun; 21] = [
     ("no file and no line", None, "", "", None),
     (
         "no file and no entry",
@@ -201,6 +206,45 @@ const RUNS: [LogRun; 18] = [
             (0,100] read 1 write 1\n\
             (100,max] read 1 write 1\n",
         Some("1234567"),
+    ),
+    (
+        "a follower and no entry",
+        None,
+        "follower f\n\
+            deliver f 1\n\
+            snapshot f 0\n",
+        "AT 0\n\
+            NO EPOCH 0\n\
+            OLD 0\n",
+        None,
+    ),
+    (
+        "followers of the log in a file",
+        Some("12"),
+        "follower f\n\
+            deliver f 2\n\
+            nodes f\n\
+            commit 3 keyspace ks simple 1\n\
+            deliver f 1\n\
+            snapshot f 3\n\
+            place f ks\n",
+        "AT 0\n\
+            AT 0\n\
+            NODES 0 0 0\n\
+            OK 3\n\
+            AT 2\n\
+            AT 3\n\
+            PLACE 3 ks 2\n\
+            (min,0] read 1 write 1\n\
+            (0,max] read 1 write 1\n",
+        Some("123"),
+    ),
+    (
+        "followers aren't in the file",
+        Some("123"),
+        "nodes f\nfollower f\n",
+        "NO FOLLOWER\nAT 0\n",
+        Some("123"),
     ),
     ("cut-tail", Some("1|f"), "", "", Some("1")),
     (
@@ -463,7 +507,7 @@ const STOPS: [Stop; 12] = [
 const OTHER: &str = "other\n{";
 
 /// The bytes of a file that is told by its lines.
-fn bytes_of(alloc: Global, told: &str) -> Result<Vec<u8>, Fail> {
+pub fn bytes_of(alloc: Global, told: &str) -> Result<Vec<u8>, Fail> {
     let mut bytes = Vec::new(alloc);
     let mut whole = true;
     for letter in told.as_bytes() {
@@ -479,18 +523,24 @@ fn bytes_of(alloc: Global, told: &str) -> Result<Vec<u8>, Fail> {
     Ok(bytes)
 }
 
+/// Puts a file into a store, unless it is absent.
+pub fn put_file(alloc: Global, store: &mut MemStore, name: &str, file: File) -> Result<(), Fail> {
+    if let Some(told) = file {
+        store.put(name, bytes_of(alloc, told)?.as_slice())?;
+    }
+    Ok(())
+}
+
 /// A store with the other file, and the file `x` unless it is absent. The calls of the list fail.
 fn store_of(alloc: Global, fails: StoreFailList, file: File) -> Result<MemStore, Fail> {
     let mut store = MemStore::new(alloc, fails);
     store.put("other", OTHER.as_bytes())?;
-    if let Some(told) = file {
-        store.put("x", bytes_of(alloc, told)?.as_slice())?;
-    }
+    put_file(alloc, &mut store, "x", file)?;
     Ok(store)
 }
 
 /// A store in which no call fails.
-fn sure_store_of(alloc: Global, file: File) -> Result<MemStore, Fail> {
+pub fn sure_store_of(alloc: Global, file: File) -> Result<MemStore, Fail> {
     store_of(alloc, StoreFailList::empty(alloc), file)
 }
 
@@ -512,7 +562,7 @@ fn holds(alloc: Global, store: &MemStore, file: File) -> Result<bool, Fail> {
 }
 
 /// The words of a run.
-fn words_from(alloc: Global, words: &[&str]) -> Result<Vec<String>, Fail> {
+pub fn words_from(alloc: Global, words: &[&str]) -> Result<Vec<String>, Fail> {
     let mut list = Vec::new(alloc);
     for word in words {
         list.push(String::from_str(alloc, word)?)?;
@@ -521,7 +571,7 @@ fn words_from(alloc: Global, words: &[&str]) -> Result<Vec<String>, Fail> {
 }
 
 /// Runs a script with these words, and compares the status and the printed bytes with those that are wanted.
-fn is_run<A: Abort>(
+pub fn is_run<A: Abort>(
     rt: &A,
     alloc: Global,
     name: &str,
@@ -680,7 +730,7 @@ fn logs_go_on_or_are_refused(rt: HostRuntime) -> Result<(), Fail> {
 }
 
 /// A list of one call that fails, and the bytes that it keeps.
-fn fail_of(alloc: Global, fail: (u64, u64)) -> Result<StoreFailList, Fail> {
+pub fn fail_of(alloc: Global, fail: (u64, u64)) -> Result<StoreFailList, Fail> {
     let mut list = StoreFailList::empty(alloc);
     let fail = StoreFail {
         call: fail.0,
@@ -707,8 +757,8 @@ const TOO_MANY_BYTES: u64 = 536_870_913;
 
 /// A store in which each file has one byte more than the limit. It doesn't tell its files.
 #[derive(Drop)]
-struct LargeFiles {
-    changes: u64,
+pub struct LargeFiles {
+    pub changes: u64,
 }
 
 impl Store for LargeFiles {

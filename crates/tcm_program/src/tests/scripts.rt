@@ -245,20 +245,32 @@ pub const NODES: [Script; 5] = [
         "unknown-things",
         "place @1 ks\n\
             place @0 ks\n\
+            place f ks\n\
+            deliver f 1\n\
+            snapshot f 0\n\
+            nodes f\n\
+            quorum f ks 0\n\
+            local f ks dc1 0\n\
             nodes @1\n\
             nodes @0\n\
-            nodes f\n\
             commit 1 drop-keyspace ks\n\
             commit 1 unregister 1\n\
+            commit 01 cancel 1\n\
             commit 1 unsafe-join 1 5 5\n\
             commit 01 register a dc1 r1\n",
         "NO EPOCH 0\n\
             NO KEYSPACE\n\
+            NO FOLLOWER\n\
+            NO FOLLOWER\n\
+            NO FOLLOWER\n\
+            NO FOLLOWER\n\
+            NO FOLLOWER\n\
+            NO FOLLOWER\n\
             NO EPOCH 0\n\
             NODES 0 0 0\n\
-            NO BAD-LINE\n\
             NO NO-KEYSPACE\n\
             NO NO-NODE\n\
+            NO BAD-LINE\n\
             NO BAD-LINE\n\
             NO BAD-LINE\n",
     ),

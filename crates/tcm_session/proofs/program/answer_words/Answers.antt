@@ -1,7 +1,7 @@
-use Rattle.std.proofs.Common.{None, Some, refl, ap, ◌∙◌, arith}
+use Rattle.std.proofs.Common.{None, Some, refl, ap, ◌∙◌}
 use Rattle.std.specs.Option.{option_copied}
-use Rattle.tcm_session.specs.Outcome.{unread_outcome, usage_text}
-use Rattle.tcm_session.proofs.RunLemmas.{runs_commit, runs_unloaded, runs_unread, runs_usage}
+use Rattle.tcm_session.proofs.ReplayRuns.{runs_others}
+use Rattle.tcm_session.proofs.RunLemmas.{runs_commit, runs_unloaded}
 use Rattle.tcm_session.proofs.program.answer_words.Goals as goal
 
 pub returns-in-Some-None-clause-runs : goal.returns-in-Some-None-clause-runs
@@ -17,7 +17,4 @@ returns-in-Some-Some-clause-runs g c =
 
 pub returns-in-None-clause-runs : goal.returns-in-None-clause-runs
 returns-in-None-clause-runs g c =
-    let writes = rw c.as_bytes.ensures.value at c.end_with.ensures.writes in
-    runs_usage _ c.args.input.now _ _ _ _ _ _ _ c.in-None.ensures
-    (runs_unloaded _ c.args.input.now _ _ _ (λ all _. unread_outcome 2 usage_text all) _ _ _
-    (λ all held. runs_unread 2 usage_text all _ c.args.input.now _ _ _ _ _ refl refl c.end_with.result (λ e. omega (arith, e)) (λ e. omega (arith, e)) held writes c.end_with.ensures.status))
+    runs_others _ _ c.args.input.now _ _ _ _ _ _ refl refl c.answer_others.result c.in-None.ensures c.answer_others.ensures.writes c.answer_others.ensures.cause c.answer_others.ensures.ended c.answer_others.ensures.files

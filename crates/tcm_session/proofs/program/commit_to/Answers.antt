@@ -19,7 +19,7 @@ returns-in-TooLarge-clause-runs g c =
     let load = load_of _ _ _ _ _ c.in-TooLarge.is c.in_ok-load.ensures.found in
     let writes = rw c.as_bytes.ensures.value at c.end_with.ensures.writes in
     runs_loaded _ c.args.input.now _ _ _ _ _ _ _ load _
-    (runs_unread 8 too_large_text _ _ c.args.input.now _ _ _ _ _ refl refl c.end_with.result (λ e. omega (arith, e)) (λ e. omega (arith, e)) (held_after _ _ _ load c.in_ok-load.ensures.kept)
+    (runs_unread 8 too_large_text _ _ c.args.input.now _ _ _ _ _ refl refl c.end_with.result (λ e. omega (arith, e)) (held_after _ _ _ load c.in_ok-load.ensures.kept)
     writes c.end_with.ensures.status)
 
 pub returns-in-Bytes-clause-runs : goal.returns-in-Bytes-clause-runs

@@ -15,11 +15,11 @@ pub returns-in-Some-clause-runs : goal.returns-in-Some-clause-runs
 returns-in-Some-clause-runs g c = λ all held.
     let taken = taken_refused _ c.in-Some.refused _ _ _ _ _ c.in-Some.is c.in_ok-refused.ensures.taken in
     runs_refused _ c.args.input.now _ _ _ c.args.name.now all c.args.file c.in-Some.refused _ _ taken.0
-    (runs_unread 3 _ all _ c.args.input.now _ _ _ _ _ refl refl c.refuse_log.result (λ e. omega (arith, e)) (λ e. omega (arith, e)) (subst (λ f. MayHold f all) (sym taken.1) held)
+    (runs_unread 3 _ all _ c.args.input.now _ _ _ _ _ refl refl c.refuse_log.result (λ e. omega (arith, e)) (subst (λ f. MayHold f all) (sym taken.1) held)
     c.refuse_log.ensures.writes c.refuse_log.ensures.status)
 
 pub returns-in-None-clause-runs : goal.returns-in-None-clause-runs
 returns-in-None-clause-runs g c = λ all held.
     let taken = taken_log _ _ _ _ _ _ c.in-None.is c.in_ok-refused.ensures.taken in
-    runs_resumed _ _ _ _ _ c.args.name.now all c.args.file c.take_log.new.session _ _ taken.0
+    runs_resumed _ _ _ _ _ c.args.name.now all c.args.file c.take_log.new.session.log _ _ taken.0
     (c.run_script.ensures.runs (cut_to_lines c.args.name.now c.args.file all) (held_cut _ _ _ _ all held taken.1))

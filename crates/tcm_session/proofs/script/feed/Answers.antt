@@ -13,7 +13,7 @@ pub loop-line-preserved : goal.loop-line-preserved
 loop-line-preserved g c =
     let kept : c.as_slice.result.now ≡ kept_of (c.loop-line.begun.items ++ c.in-Some.line.now) = c.as_slice.ensures.value ∙ c.in_ok-keep_begun.ensures.ok in
     let wrote = rw kept at c.in_ok-answer_line.ensures.writes.whole in
-    let next = rw kept at c.in_ok-answer_line.ensures.log in
+    let next = rw kept at c.in_ok-answer_line.ensures.next in
     let gained = rw kept at c.in_ok-answer_line.ensures.file in
     record {
       feeds = Feeds-line _ _ _ _ _ _ c.in-Some.more.now c.loop-line.invariant.feeds c.in-Some.ensures.some.1 c.in-Some.ensures.some.0 _ c.clear.ensures.items wrote next gained;

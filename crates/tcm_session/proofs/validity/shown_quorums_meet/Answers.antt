@@ -1,13 +1,14 @@
-use Rattle.tcm_session.proofs.FileLogs.{formed_file}
+use Rattle.tcm_session.specs.Machine.{session_over}
+use Rattle.tcm_session.proofs.FileLogs.{session_file}
 use Rattle.tcm_session.proofs.PrintedLemmas.{answers_shown, answers_whole}
 use Rattle.tcm_session.proofs.ShownLemmas.{shown_meet}
 use Rattle.tcm_session.proofs.validity.shown_quorums_meet.Goals as goal
 
 pub returns-clause-whole : goal.returns-clause-whole
-returns-clause-whole c = λ file log lines is. answers_whole log (formed_file file log is) lines
+returns-clause-whole c = λ file log lines is. answers_whole (session_over log) (session_file file log is) lines
 
 pub returns-clause-lines : goal.returns-clause-lines
-returns-clause-lines c = λ file log lines is. answers_shown log (formed_file file log is) lines
+returns-clause-lines c = λ file log lines is. answers_shown (session_over log) (session_file file log is) lines
 
 pub returns-clause-meet : goal.returns-clause-meet
-returns-clause-meet c = λ file log lines is. shown_meet log (formed_file file log is) lines
+returns-clause-meet c = λ file log lines is. shown_meet (session_over log) (session_file file log is) lines

@@ -2,6 +2,7 @@ use Rattle.std.proofs.Common.{Err, sym, ap, ◌∙◌}
 use Rattle.std.proofs.lemmas.Result.{err_from_is_err_and}
 use Rattle.serde_json.specs.View.{view}
 use Rattle.wire_json.proofs.ReadingLemmas.{reading-long, reading-entry, passed_no_value, passed_no_entry}
+use Rattle.wire_json.proofs.EntryEpochs.{entry_epoch}
 use Rattle.wire_json.proofs.EntryTokens.{entry_tokens}
 use Rattle.wire_json.proofs.reading.read_line.Goals as goal
 
@@ -24,3 +25,6 @@ returns-clause-meaning c = λ other. sym (reading-entry c.args.bytes.now _ c.in_
 
 pub returns-clause-tokens : goal.returns-clause-tokens
 returns-clause-tokens c = entry_tokens _ c.in_ok-entry.entry c.in_ok-entry.ensures
+
+pub returns-clause-epoch : goal.returns-clause-epoch
+returns-clause-epoch c = entry_epoch _ c.in_ok-entry.entry c.in_ok-entry.ensures

@@ -2,14 +2,14 @@ use Rattle.std.proofs.Common.{◌≡◌, ◌<◌, Some, false, nat_le, sym, ap, 
 use Rattle.std.proofs.lemmas.Bool.Decides.{nat_tests}
 use Rattle.follower_log.proofs.AdvanceLemmas.{compared_past}
 use Rattle.follower_log.proofs.KeptLemmas.{waiting_at_epoch}
-use Rattle.follower_log.specs.Follower.{ComesTo, FollowerState, hand_above, waiting_at}
+use Rattle.follower_log.specs.Follower.{Performs, FollowerState, hand_above, waiting_at}
 use Rattle.follower_log.proofs.follower.Follower.hand_over.Goals as goal
 
 -- the waiting entry of the epoch
 held : (c : goal.After-compared) → waiting_at c.args.self.now.waiting c.args.entry.now.epoch ≡ Some c.in-Some.held.now
 held c = sym (ap (λ (f : FollowerState). waiting_at f.waiting c.args.entry.now.epoch) c.self.view_is) ∙ sym c.in-Some.ensures
 
-comes : (c : goal.After-compared) → ComesTo c.args.self.now (hand_above c.args.self.now c.args.entry.now (Some c.in-Some.held.now)) c.compared.result c.args.self.now
+comes : (c : goal.After-compared) → Performs c.args.self.now (hand_above c.args.self.now c.args.entry.now (Some c.in-Some.held.now)) c.compared.result c.args.self.now
 comes c = c.compared.ensures c.args.self.now (sym c.epoch-epoch.ensures) (waiting_at_epoch c.args.self.now.waiting c.args.entry.now.epoch c.in-Some.held.now (held c))
 
 pub returns-in-Some-clause-step : goal.returns-in-Some-clause-step

@@ -4,7 +4,7 @@ use Rattle.transformations.specs.declared.entry.Entry.{Entry}
 use Rattle.transformations.specs.declared.image.Image.{Image}
 use Rattle.follower_log.proofs.AdvanceLemmas.{any_before}
 use Rattle.follower_log.proofs.KeptLemmas.{can_wait-filter}
-use Rattle.follower_log.specs.Follower.{ComesTo, FollowerState, advanced, hand_image}
+use Rattle.follower_log.specs.Follower.{Performs, FollowerState, advanced, hand_image}
 use Rattle.follower_log.specs.Kept.{Advances, CanWait}
 use Rattle.follower_log.specs.declared.fault.FollowerFault.{FollowerFault}
 use Rattle.follower_log.specs.declared.took.Took.{Took}
@@ -19,14 +19,14 @@ module _ (image after : Image) (epoch : ℕ) (waiting left : List Entry) (taken 
   left_waits other low same waits = rw (left_is, same, taken) (can_wait-filter low image.epoch waiting waits)
 
   goes_on : (before end : FollowerState) (result : Result Took FollowerFault) (other : Image) (inside : Image) → record { image = inside; waiting = waiting } ≡ before → other ≡ after → before.image.epoch < image.epoch
-      → Advances (record { image = other; waiting = left }) result end → ComesTo before (hand_image before image) result end
+      → Advances (record { image = other; waiting = left }) result end → Performs before (hand_image before image) result end
   goes_on before end result other inside is same past goes =
       let high : nat_le image.epoch before.image.epoch ≡ false = grind (arith, nat_tests) in
-      let whole : ComesTo before (advanced other left) result end = any_before (record { image = other; waiting = left }) before end result goes in
+      let whole : Performs before (advanced other left) result end = any_before (record { image = other; waiting = left }) before end result goes in
       let kept : left ≡ filter (λ (entry : Entry). nat_lt image.epoch entry.epoch) before.waiting = left_is ∙ ap (λ (f : FollowerState). filter (λ (entry : Entry). nat_lt image.epoch entry.epoch) f.waiting) is in
       let steps : advanced other left ≡ advanced image (filter (λ (entry : Entry). nat_lt image.epoch entry.epoch) before.waiting) =
       ap (λ i. advanced i left) (same ∙ taken) ∙ ap (advanced image) kept in
-      rw high (subst (λ step. ComesTo before step result end) steps whole)
+      rw high (subst (λ step. Performs before step result end) steps whole)
 
 pub invariant_of-self : goal.invariant_of-self
 invariant_of-self c =

@@ -9,7 +9,7 @@ use Rattle.transformations.specs.declared.refusal.Refusal.{Refusal}
 use Rattle.cluster_terms.specs.Ascending.{put}
 use Rattle.follower_log.proofs.AdvanceLemmas.{advanced_refused, advances_on, any_before, cut_past, shows_refused}
 use Rattle.follower_log.proofs.KeptLemmas.{can_wait_on, put_first, waits_past}
-use Rattle.follower_log.specs.Follower.{ComesTo, FollowerState, Handed, IsCutPast, advanced, by_epoch, cut_first, stays, waiting_at}
+use Rattle.follower_log.specs.Follower.{Performs, FollowerState, Handed, IsCutPast, advanced, by_epoch, cut_first, stays, waiting_at}
 use Rattle.follower_log.specs.Kept.{Advances, CanWait, Leads}
 use Rattle.follower_log.specs.declared.fault.FollowerFault.{FollowerFault}
 use Rattle.follower_log.specs.declared.fault.FollowerFault.TheVariants.{Refused}
@@ -50,9 +50,9 @@ module _ (image : Image) (waiting : List Entry) (before : FollowerState) (entry 
       advances_on (record { image = image; waiting = entry ∷ waiting }) (record { image = after; waiting = waiting }) result end leads goes
 
   comes : (after : Image) (result : Result Took FollowerFault) (end : FollowerState) → after ≡ next_image image entry.cmd → refusal_of image entry.cmd ≡ None → Advances (record { image = after; waiting = waiting }) result end
-      → ComesTo before (advanced before.image (put by_epoch entry before.waiting)) result end
+      → Performs before (advanced before.image (put by_epoch entry before.waiting)) result end
   comes after result end applied accepted goes =
-      subst (λ step. ComesTo before step result end) (sym first) (any_before (record { image = image; waiting = entry ∷ waiting }) before end result (whole after result end applied accepted goes))
+      subst (λ step. Performs before step result end) (sym first) (any_before (record { image = image; waiting = entry ∷ waiting }) before end result (whole after result end applied accepted goes))
 
   not_before : (after : Image) (result : Result Took FollowerFault) (end : FollowerState) → after ≡ next_image image entry.cmd → Advances (record { image = after; waiting = waiting }) result end → IsCutPast before.image.epoch result
   not_before after result end applied goes =

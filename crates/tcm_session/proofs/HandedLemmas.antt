@@ -1,0 +1,397 @@
+-- The ends of a step that hands something to a follower, or makes one.
+use Rattle.std.proofs.Common.{◌≡◌, ℕ, ◌+◌, ◌-◌, ◌<◌, ◌≤◌, Bool, true, false, ◌==◌, if◌then◌else◌, List, [], ◌∷◌, ◌++◌, get_or, set, position, length, Option, None, Some, is_some, Result, Ok, Err, IsErrAnd, IsOk, OnOk, nat_le, codes, decimal, true≢false, refl, sym, ap, ◌∙◌, subst, append-nil, arith}
+use Rattle.std.specs.List.{Contains, slice_get}
+use Rattle.std.specs.Option.{IfSome}
+use Rattle.std.proofs.lemmas.Bool.{and_parts, eqb-false}
+use Rattle.std.proofs.lemmas.Bool.Decides.{nat_tests}
+use Rattle.std.proofs.lemmas.List.{take_all}
+use Rattle.std.proofs.lemmas.Option.{none-some, slice_get_within}
+use Rattle.transformations.proofs.histories.HistoryLemmas.{history_short}
+use Rattle.transformations.proofs.histories.LogLemmas.{length-commands_of}
+use Rattle.transformations.specs.History.{is_command, state_after}
+use Rattle.transformations.specs.Log.{IsLog, are_numbered, commands_of, have_own_ids}
+use Rattle.transformations.specs.declared.entry.Entry.{Entry}
+use Rattle.transformations.specs.declared.image.Image.{Image}
+use Rattle.epoch_log.specs.Epochs.{entry_at}
+use Rattle.snapshot_store.proofs.EntryStates.{is_next}
+use Rattle.follower_log.specs.Follower.{Performs, FollowerState, Handed, hand_entry, hand_image}
+use Rattle.follower_log.specs.Prefix.{IsImageOf, StandsAfter, StandsFor, Taken, nothing_taken}
+use Rattle.follower_log.specs.declared.fault.FollowerFault.{FollowerFault}
+use Rattle.follower_log.specs.declared.fault.FollowerFault.TheVariants.{Fork, Refused, Memory, MemoryAt}
+use Rattle.follower_log.specs.declared.took.Took.{Took}
+use Rattle.follower_log.specs.declared.took.Took.TheVariants.{At, Old, Held, Full}
+use Rattle.follower_log.proofs.AmongLemmas.{epoch_within}
+use Rattle.follower_log.proofs.CutLemmas.{CutsFrom, entry_from, image_from}
+use Rattle.follower_log.proofs.ShowsLemmas.{empty_stands}
+use Rattle.script_lang.specs.Grammar.{line_of}
+use Rattle.script_lang.specs.Texts.{epoch_text, no_text}
+use Rattle.script_lang.specs.declared.script_line.ScriptLine.{ScriptLine}
+use Rattle.script_lang.specs.declared.script_line.ScriptLine.TheVariants.{Commit, Follower, Deliver, Snapshot, Place, Nodes, Quorum, Local}
+use Rattle.tcm_session.specs.Machine.{Reply, SessionState, answer_from, deliver_to, follower_named, follower_reply, follower_unless_full, handed_reply, handed_text, image_at, image_named, made_reply, most_followers, new_follower, no_epoch, on_follower, only_answers, query_text, replied, reply, reply_of, reply_to, snapshot_to, with_follower}
+use Rattle.tcm_session.specs.Steps.{AllFollow, Alone, AnswersHanded, FollowsLog, IsBetween, IsOfOneLog, OnlyAnswers, Stops, StopsAny, handed_by}
+use Rattle.tcm_session.specs.declared.fault.StepFault.{StepFault}
+use Rattle.tcm_session.specs.declared.fault.StepFault.TheVariants as step
+use Rattle.tcm_session.specs.declared.followers.NamedFollower.{NamedFollower}
+use Rattle.tcm_session.specs.declared.query.Query.{Query}
+use Rattle.tcm_session.proofs.FollowerLemmas.{all_follow_pushed, all_follow_with, named, named_follows, named_name, placed, unplaced, with_itself, with_named}
+use Rattle.tcm_session.proofs.StepLemmas.{kept_before, replied_nothing}
+use Rattle.tcm_session.proofs.TakenLemmas.{entry_there, epoch_at}
+
+-- ---- a line that only answers
+
+-- the follower that the line hands something to stays
+stops_here : (session : SessionState) (name : List ℕ) (f : NamedFollower) → AllFollow session.log session.followers → follower_named session.followers name ≡ Some f → Stops f session session.followers session
+stops_here session name f all found =
+    let called : f.name ≡ name = named_name session.followers name f found in
+    let again : follower_named session.followers f.name ≡ Some f = ap (follower_named session.followers) called ∙ found in
+    record {
+      at = f.follower;
+      is = ap (λ fs. record { log = session.log; followers = fs }) (sym (with_itself session.followers f.name f again));
+      between = subst (λ o. IfSome o (λ (g : NamedFollower). IsBetween session.log f.follower g.follower f.follower)) (sym again)
+          (record { from = omega arith; to = omega arith; follows = named_follows session.log session.followers name f all found });
+    }
+
+only_alone : {T : Type 0} (session : SessionState) (handed : Option NamedFollower) (text out out' : List ℕ) (r : Result T StepFault) → StopsAny handed session session.followers session
+    → OnlyAnswers text out out' r → Alone handed (only_answers session text) session session out out' r
+only_alone session handed text out out' (Ok x) stops only =
+    record { added = refl; text = only.answered; kept = only.kept; next = replied_nothing session (only_answers session text) refl refl; left = tt; memory = tt }
+only_alone session handed text out out' (Err e) stops only =
+    record { added = refl; text = tt; kept = only.kept; next = tt; left = stops; memory = only.memory }
+
+-- ---- by the follower that is named
+
+module _ {T : Type 0} (session session' : SessionState) (name : List ℕ) (out out' : List ℕ) (r : Result T StepFault) (reply : FollowerState → Reply) where
+  -- there is none
+  pub alone_missing : follower_named session.followers name ≡ None → session' ≡ session → OnlyAnswers (no_text (codes "FOLLOWER")) out out' r
+      → Alone (follower_named session.followers name) (on_follower session name reply) session session' out out' r
+  alone_missing none same only =
+      subst (λ o. Alone o (reply_of session o reply) session session' out out' r) (sym none)
+      (subst (λ s. Alone None (only_answers session (no_text (codes "FOLLOWER"))) session s out out' r) (sym same)
+      (only_alone session None (no_text (codes "FOLLOWER")) out out' r refl only))
+
+  -- there is one
+  pub alone_found : (f : NamedFollower) → follower_named session.followers name ≡ Some f → Alone (Some f) (reply f.follower) session session' out out' r
+      → Alone (follower_named session.followers name) (on_follower session name reply) session session' out out' r
+  alone_found f found alone = subst (λ o. Alone o (reply_of session o reply) session session' out out' r) (sym found) alone
+
+  -- it is handed nothing
+  pub alone_refused : (f : NamedFollower) (text : List ℕ) → AllFollow session.log session.followers → follower_named session.followers name ≡ Some f → reply f.follower ≡ only_answers session text
+      → session' ≡ session → OnlyAnswers text out out' r → Alone (follower_named session.followers name) (on_follower session name reply) session session' out out' r
+  alone_refused f text all found is same only =
+      alone_found f found
+      (subst (λ a. Alone (Some f) a session session' out out' r) (sym is)
+      (subst (λ s. Alone (Some f) (only_answers session text) session s out out' r) (sym same)
+      (only_alone session (Some f) text out out' r (stops_here session name f all found) only)))
+
+-- ---- something is handed over
+
+-- the follower after it follows the log
+pub follows_shown : (log : List Entry) (before after : Taken) (handed : Result Took FollowerFault) (at : FollowerState) → StandsAfter log before after handed at → FollowsLog log at
+follows_shown log before after (Ok (At e)) at shows = record { taken = after; stands = shows.0 }
+follows_shown log before after (Ok (Old e)) at shows = record { taken = after; stands = shows }
+follows_shown log before after (Ok (Held e)) at shows = record { taken = after; stands = shows }
+follows_shown log before after (Ok (Full e)) at shows = record { taken = before; stands = shows }
+follows_shown log before after (Err (MemoryAt e)) at shows = record { taken = after; stands = shows }
+follows_shown log before after (Err Memory) at shows = record { taken = before; stands = shows }
+follows_shown log before after (Err (Fork e held came)) at shows = absurd shows
+follows_shown log before after (Err (Refused e r)) at shows = absurd shows
+
+pub one_log_shown : (log : List Entry) (before after : Taken) (handed : Result Took FollowerFault) (at : FollowerState) → StandsAfter log before after handed at → IsOfOneLog handed
+one_log_shown log before after (Ok took) at shows = tt
+one_log_shown log before after (Err (MemoryAt e)) at shows = tt
+one_log_shown log before after (Err Memory) at shows = tt
+one_log_shown log before after (Err (Fork e held came)) at shows = absurd shows
+one_log_shown log before after (Err (Refused e r)) at shows = absurd shows
+
+-- where it stops for want of memory
+is_between : (log : List Entry) (f at : FollowerState) (step : Handed) (handed : Result Took FollowerFault) → CutsFrom f.image.epoch step → FollowsLog log at → Performs f step handed at → IsBetween log f step.after at
+is_between log f at step handed cuts follows comes = by handed comes
+  where
+    there : at ≡ step.after → IsBetween log f step.after at
+    there is = record { from = omega (arith, cuts.up, ap (λ (g : FollowerState). g.image.epoch) is); to = omega (arith, ap (λ (g : FollowerState). g.image.epoch) is); follows = follows }
+
+    by : (handed : Result Took FollowerFault) → Performs f step handed at → IsBetween log f step.after at
+    by (Ok took) comes = there comes.1
+    by (Err (Fork e held came)) comes = there comes.1
+    by (Err (Refused e r)) comes = there comes.1
+    by (Err Memory) comes = record { from = omega (arith, ap (λ (g : FollowerState). g.image.epoch) comes); to = omega (arith, cuts.up, ap (λ (g : FollowerState). g.image.epoch) comes); follows = follows }
+    by (Err (MemoryAt e)) comes = record { from = (cuts.cuts e at comes).0; to = (cuts.cuts e at comes).1; follows = follows }
+
+-- a result that isn't a fault
+record Took_so (f at : FollowerState) (step : Handed) (handed : Result Took FollowerFault) : Type 0 where
+  answer : handed ≡ step.answer
+  after : at ≡ step.after
+
+took_so : (f at : FollowerState) (step : Handed) (handed : Result Took FollowerFault) → IsOk handed → Performs f step handed at → Took_so f at step handed
+took_so f at step (Ok took) ok comes = record { answer = comes.0; after = comes.1 }
+took_so f at step (Err e) ok comes = absurd (true≢false (sym ok))
+
+pub alone_handed : {T : Type 0} (session session' : SessionState) (name : List ℕ) (f : NamedFollower) (at : FollowerState) (step : Handed) (handed : Result Took FollowerFault) (out out' : List ℕ) (r : Result T StepFault)
+    → follower_named session.followers name ≡ Some f → session' ≡ record session { followers = with_follower session.followers name at }
+    → CutsFrom f.follower.image.epoch step → FollowsLog session.log at → Performs f.follower step handed at → AnswersHanded handed out out' r
+    → Alone (Some f) (handed_reply session name step) session session' out out' r
+alone_handed session session' name f at step handed out out' (Ok x) found is cuts follows comes answers =
+    let so = took_so f.follower at step handed answers.took comes in
+    let log : session.log ≡ session.log ++ [] = sym (append-nil session.log) in
+    record {
+      added = refl;
+      text = answers.text ∙ ap (λ a. out ++ handed_text a) so.answer;
+      kept = answers.kept;
+      next = is ∙ (λ i. record { log = log i; followers = with_follower session.followers name (so.after i) });
+      left = tt;
+      memory = tt;
+    }
+alone_handed session session' name f at step handed out out' (Err e) found is cuts follows comes answers =
+    let called : f.name ≡ name = named_name session.followers name f found in
+    let after : follower_named (with_follower session.followers name step.after) f.name ≡ Some (record f { follower = step.after }) =
+    ap (follower_named (with_follower session.followers name step.after)) called ∙ with_named session.followers name f step.after found in
+    record {
+      added = refl;
+      text = tt;
+      kept = answers.kept;
+      next = tt;
+      left = record {
+        at = at;
+        is = is ∙ ap (λ n. record { log = session.log; followers = with_follower session.followers n at }) (sym called);
+        between = subst (λ o. IfSome o (λ (g : NamedFollower). IsBetween session.log f.follower g.follower at)) (sym after) (is_between session.log f.follower at step handed cuts follows comes);
+      };
+      memory = answers.memory;
+    }
+
+-- ---- the follower at a place
+
+-- the first follower with a name, which is at a place
+pub record HasFollower (session : SessionState) (name : List ℕ) (place : ℕ) (f : NamedFollower) : Type 0 where
+  pub found : follower_named session.followers name ≡ Some f
+  pub moved : (x : FollowerState) → set session.followers place (record f { follower = x }) ≡ with_follower session.followers name x
+  pub follows : FollowsLog session.log f.follower
+
+pub has_follower : (session : SessionState) (name : List ℕ) (place : ℕ) (f d : NamedFollower) → AllFollow session.log session.followers → position (named name) session.followers ≡ Some place
+    → f ≡ get_or session.followers place d → HasFollower session name place f
+has_follower session name place f d all at is =
+    let it = placed name session.followers place at in
+    let found : follower_named session.followers name ≡ Some f = it.found d ∙ ap Some (sym is) in
+    record {
+      found = found;
+      moved = λ x. ap (λ (g : NamedFollower). set session.followers place (record g { follower = x })) is ∙ it.moved d x;
+      follows = named_follows session.log session.followers name f all found;
+    }
+
+-- what the followers are once the one at a place was handed something
+pub moved_follow : (session : SessionState) (name : List ℕ) (place : ℕ) (f : NamedFollower) (x : FollowerState) → HasFollower session name place f → AllFollow session.log session.followers → FollowsLog session.log x
+    → AllFollow session.log (set session.followers place (record f { follower = x }))
+moved_follow session name place f x has all follows =
+    subst (AllFollow session.log) (sym (has.moved x)) (all_follow_with session.log session.followers name x all follows)
+
+-- it was handed something, and the line is answered
+pub alone_moved : {T : Type 0} (session : SessionState) (name : List ℕ) (place : ℕ) (f : NamedFollower) (x : FollowerState) (step : Handed) (handed : Result Took FollowerFault) (out out' : List ℕ) (r : Result T StepFault)
+    (reply : FollowerState → Reply) → HasFollower session name place f → reply f.follower ≡ handed_reply session name step → CutsFrom f.follower.image.epoch step → FollowsLog session.log x → Performs f.follower step handed x
+    → AnswersHanded handed out out' r
+    → Alone (follower_named session.followers name) (on_follower session name reply) session (record session { followers = set session.followers place (record f { follower = x }) }) out out' r
+alone_moved session name place f x step handed out out' r reply has is cuts follows comes answers =
+    let after : SessionState = record session { followers = set session.followers place (record f { follower = x }) } in
+    alone_found session after name out out' r reply f has.found
+    (subst (λ a. Alone (Some f) a session after out out' r) (sym is)
+    (alone_handed session after name f x step handed out out' r has.found (ap (λ fs. record { log = session.log; followers = fs }) (has.moved x)) cuts follows comes answers))
+
+-- ---- what is handed over
+
+-- an entry of a log
+pub record IsLogEntry (log : List Entry) (entry : Entry) : Type 0 where
+  pub formed : is_command entry.cmd ≡ true
+  pub epoch : entry.epoch ≤ 65536
+  pub among : Contains log entry
+
+pub entry_of : (log : List Entry) (epoch : ℕ) (entry : Entry) → IsLog log → entry_at log epoch ≡ Some entry → IsLogEntry log entry
+entry_of log epoch entry is at = by (epoch == 0) refl at
+  where
+    by : (b : Bool) → (epoch == 0) ≡ b → (if b then None else slice_get log (epoch - 1)) ≡ Some entry → IsLogEntry log entry
+    by true zero there = absurd (none-some entry there)
+    by false past there =
+        let next : epoch - 1 + 1 ≡ epoch = omega (arith, eqb-false epoch 0 past) in
+        let again : Some entry ≡ entry_at log (epoch - 1 + 1) = sym (ap (entry_at log) next ∙ at) in
+        let among = entry_there log epoch entry at in
+        let numbered = (and_parts (are_numbered 1 log) (have_own_ids log) is.entries).0 in
+        record {
+          formed = (is_next log (epoch - 1) entry (slice_get_within log (epoch - 1) entry there) again (state_after (commands_of log) (epoch - 1)) is.history refl).formed;
+          epoch = omega (arith, (epoch_within 1 log entry numbered among).1, history_short (commands_of log) is.history, length-commands_of log);
+          among = among;
+        }
+
+-- a state of a log
+pub image_of_log : (log : List Entry) (epoch : ℕ) (image : Image) → epoch ≤ length log → image ≡ state_after (commands_of log) epoch → IsImageOf log image
+image_of_log log epoch image within is =
+    let at : image.epoch ≡ epoch = ap (λ (i : Image). i.epoch) is ∙ epoch_at (commands_of log) epoch (omega (arith, within, length-commands_of log)) in
+    record { within = omega (arith, at, within); state = is ∙ ap (state_after (commands_of log)) (sym at) }
+
+-- the image of an epoch that has come, and of one that hasn't
+pub image_come : (log : List Entry) (epoch : ℕ) (image : Image) → epoch ≤ length log → image ≡ state_after (commands_of log) epoch → image_at (commands_of log) epoch ≡ Ok image
+image_come log epoch image within is =
+    let come : nat_le epoch (length (commands_of log)) ≡ true = (let low : epoch ≤ length (commands_of log) = omega (arith, within, length-commands_of log) in grind (arith, nat_tests)) in
+    ap (λ b. if b then Ok (state_after (commands_of log) epoch) else Err (no_epoch (commands_of log))) come ∙ ap Ok (sym is)
+
+pub image_past : (log : List Entry) (epoch : ℕ) → length log < epoch → image_at (commands_of log) epoch ≡ Err (no_epoch (commands_of log))
+image_past log epoch past =
+    let short : nat_le epoch (length (commands_of log)) ≡ false = (let high : length (commands_of log) < epoch = omega (arith, past, length-commands_of log) in grind (arith, nat_tests)) in
+    ap (λ b. if b then Ok (state_after (commands_of log) epoch) else Err (no_epoch (commands_of log))) short
+
+pub no_epoch_of : (log : List Entry) (last : ℕ) → last ≡ length log → no_text (no_epoch (commands_of log)) ≡ no_text (codes "EPOCH " ++ decimal last)
+no_epoch_of log last is = ap (λ n. no_text (codes "EPOCH " ++ decimal n)) (length-commands_of log ∙ sym is)
+
+-- ---- a follower is made
+
+module _ (session : SessionState) (name : List ℕ) where
+  pub reply_taken : is_some (position (named name) session.followers) ≡ true → follower_reply session name ≡ only_answers session (no_text (codes "FOLLOWER-TAKEN"))
+  reply_taken at = by session.followers (position (named name) session.followers) refl at
+    where
+      by : (fs : List NamedFollower) (o : Option ℕ) → position (named name) fs ≡ o → is_some o ≡ true
+          → (if is_some (follower_named fs name) then only_answers session (no_text (codes "FOLLOWER-TAKEN")) else follower_unless_full session name) ≡ only_answers session (no_text (codes "FOLLOWER-TAKEN"))
+      by fs None at some = absurd (true≢false (sym some))
+      by [] (Some place) at some = absurd (none-some place at)
+      by (g ∷ fs) (Some place) at some = ap (λ o. if is_some o then only_answers session (no_text (codes "FOLLOWER-TAKEN")) else follower_unless_full session name) ((placed name (g ∷ fs) place at).found g)
+
+  pub not_placed : is_some (position (named name) session.followers) ≡ false → position (named name) session.followers ≡ None
+  not_placed at = by (position (named name) session.followers) at
+    where
+      by : (o : Option ℕ) → is_some o ≡ false → o ≡ None
+      by None some = refl
+      by (Some place) some = absurd (true≢false some)
+
+  pub reply_full : position (named name) session.followers ≡ None → 16 ≤ length session.followers → follower_reply session name ≡ only_answers session (no_text (codes "FOLLOWERS-FULL"))
+  reply_full none full =
+      let many : nat_le most_followers (length session.followers) ≡ true = grind (arith, nat_tests) in
+      ap (λ o. if is_some o then only_answers session (no_text (codes "FOLLOWER-TAKEN")) else follower_unless_full session name) (unplaced name session.followers none)
+      ∙ ap (λ b. if b then only_answers session (no_text (codes "FOLLOWERS-FULL")) else made_reply session name) many
+
+  pub reply_made : position (named name) session.followers ≡ None → length session.followers < 16 → follower_reply session name ≡ made_reply session name
+  reply_made none few =
+      let free : nat_le most_followers (length session.followers) ≡ false = grind (arith, nat_tests) in
+      ap (λ o. if is_some o then only_answers session (no_text (codes "FOLLOWER-TAKEN")) else follower_unless_full session name) (unplaced name session.followers none)
+      ∙ ap (λ b. if b then only_answers session (no_text (codes "FOLLOWERS-FULL")) else made_reply session name) free
+
+pub alone_made : {T : Type 0} (session : SessionState) (name : List ℕ) (fs : List NamedFollower) (out out' : List ℕ) (x : T) → follower_reply session name ≡ made_reply session name
+    → fs ≡ session.followers ++ new_follower name ∷ [] → out' ≡ out ++ epoch_text (codes "AT") 0 → Alone None (follower_reply session name) session (record session { followers = fs }) out out' (Ok x)
+alone_made session name fs out out' x is made text =
+    let log : session.log ≡ session.log ++ [] = sym (append-nil session.log) in
+    subst (λ a. Alone None a session (record session { followers = fs }) out out' (Ok x)) (sym is)
+    (record {
+      added = refl;
+      text = text;
+      kept = kept_before out (epoch_text (codes "AT") 0) out' text;
+      next = (λ i. record { log = log i; followers = made i });
+      left = tt;
+      memory = tt;
+    })
+
+-- a line that makes no follower
+pub alone_unmade : {T : Type 0} (session session' : SessionState) (name text out out' : List ℕ) (r : Result T StepFault) → follower_reply session name ≡ only_answers session text → session' ≡ session → OnlyAnswers text out out' r
+    → Alone None (follower_reply session name) session session' out out' r
+alone_unmade session session' name text out out' r is same only =
+    subst (λ a. Alone None a session session' out out' r) (sym is)
+    (subst (λ s. Alone None (only_answers session text) session s out out' r) (sym same) (only_alone session None text out out' r refl only))
+
+pub made_follows : (log : List Entry) (name : List ℕ) (fs fs' : List NamedFollower) → AllFollow log fs → fs' ≡ fs ++ new_follower name ∷ [] → AllFollow log fs'
+made_follows log name fs fs' all is =
+    subst (AllFollow log) (sym is) (all_follow_pushed log fs (new_follower name) all (record { taken = nothing_taken; stands = empty_stands log }))
+
+-- the one at a place is handed nothing
+pub alone_turned : {T : Type 0} (session session' : SessionState) (name : List ℕ) (place : ℕ) (text out out' : List ℕ) (r : Result T StepFault) (reply : FollowerState → Reply) → AllFollow session.log session.followers
+    → position (named name) session.followers ≡ Some place → ((f : FollowerState) → reply f ≡ only_answers session text) → session' ≡ session → OnlyAnswers text out out' r
+    → Alone (follower_named session.followers name) (on_follower session name reply) session session' out out' r
+alone_turned session session' name place text out out' r reply all at is same only = by session.followers (λ d. (placed name session.followers place at).found d) refl
+  where
+    with_default : (d : NamedFollower) → ((d : NamedFollower) → follower_named session.followers name ≡ Some (get_or session.followers place d))
+        → Alone (follower_named session.followers name) (on_follower session name reply) session session' out out' r
+    with_default d found =
+        let f = get_or session.followers place d in
+        alone_refused session session' name out out' r reply f text all (found d) (is f.follower) same only
+
+    by : (fs : List NamedFollower) → ((d : NamedFollower) → follower_named session.followers name ≡ Some (get_or session.followers place d)) → session.followers ≡ fs
+        → Alone (follower_named session.followers name) (on_follower session name reply) session session' out out' r
+    by [] found none = absurd (none-some place (ap (position (named name)) (sym none) ∙ at))
+    by (g ∷ fs) found some = with_default g found
+
+module _ {T : Type 0} where
+  -- memory ran out before the image of an epoch was made
+  pub alone_unhanded : (session session' : SessionState) (name : List ℕ) (place epoch : ℕ) (out : List ℕ) (r : Result T StepFault) → AllFollow session.log session.followers
+      → position (named name) session.followers ≡ Some place → epoch ≤ length session.log → session' ≡ session → IsErrAnd r (λ e. e ≡ step.Memory)
+      → Alone (follower_named session.followers name) (on_follower session name (λ f. snapshot_to session name f (image_at (commands_of session.log) epoch))) session session' out out r
+  alone_unhanded session session' name place epoch out (Ok x) all at within same memory = absurd memory
+  alone_unhanded session session' name place epoch out (Err e) all at within same memory = by session.followers refl
+    where
+      reply : FollowerState → Reply
+      reply f = snapshot_to session name f (image_at (commands_of session.log) epoch)
+
+      image : Image
+      image = state_after (commands_of session.log) epoch
+
+      with_default : (d : NamedFollower) → Alone {T = T} (follower_named session.followers name) (on_follower session name reply) session session' out out (Err e)
+      with_default d =
+          let f = get_or session.followers place d in
+          let has = has_follower session name place f d all at refl in
+          let handed : reply f.follower ≡ handed_reply session name (hand_image f.follower image) = ap (snapshot_to session name f.follower) (image_come session.log epoch image within refl) in
+          alone_found session session' name out out (Err e) reply f has.found
+          (subst (λ a. Alone {T = T} (Some f) a session session' out out (Err e)) (sym handed)
+          (alone_handed session session' name f f.follower (hand_image f.follower image) (Err Memory) out out (Err e) has.found
+          (same ∙ ap (λ fs. record { log = session.log; followers = fs }) (sym (with_itself session.followers name f has.found)))
+          (image_from f.follower image) has.follows refl (record { took = tt; text = tt; kept = take_all (length out) out (omega arith); memory = memory })))
+
+      by : (fs : List NamedFollower) → session.followers ≡ fs → Alone {T = T} (follower_named session.followers name) (on_follower session name reply) session session' out out (Err e)
+      by [] none = absurd (none-some place (ap (position (named name)) (sym none) ∙ at))
+      by (g ∷ fs) some = with_default g
+
+-- ---- a query of a follower
+
+module _ {T E : Type 0} (session : SessionState) (name : List ℕ) (asked : Query) (out out' : List ℕ) (r : Result T E) where
+  pub asked_none : position (named name) session.followers ≡ None → OnOk r (out' ≡ out ++ no_text (codes "FOLLOWER")) → OnOk r (out' ≡ out ++ query_text (image_named (follower_named session.followers name)) asked)
+  asked_none at added = subst (λ o. OnOk r (out' ≡ out ++ query_text (image_named o) asked)) (sym (unplaced name session.followers at)) added
+
+  pub asked_image : (place : ℕ) (f d : NamedFollower) → position (named name) session.followers ≡ Some place → f ≡ get_or session.followers place d → OnOk r (out' ≡ out ++ answer_from asked f.follower.image)
+      → OnOk r (out' ≡ out ++ query_text (image_named (follower_named session.followers name)) asked)
+  asked_image place f d at is added =
+      subst (λ o. OnOk r (out' ≡ out ++ query_text (image_named o) asked)) (sym ((placed name session.followers place at).found d ∙ ap Some (sym is))) added
+
+-- ---- memory ran out before a line was read
+
+-- the follower that is to be handed something stays
+stops_before : (session : SessionState) (name : List ℕ) (f : NamedFollower) (step : Handed) → AllFollow session.log session.followers → follower_named session.followers name ≡ Some f → CutsFrom f.follower.image.epoch step
+    → Stops f session (with_follower session.followers name step.after) session
+stops_before session name f step all found cuts =
+    let here = stops_here session name f all found in
+    let called : f.name ≡ name = named_name session.followers name f found in
+    let after : follower_named (with_follower session.followers name step.after) f.name ≡ Some (record f { follower = step.after }) =
+    ap (follower_named (with_follower session.followers name step.after)) called ∙ with_named session.followers name f step.after found in
+    let again : follower_named session.followers f.name ≡ Some f = ap (follower_named session.followers) called ∙ found in
+    record {
+      at = f.follower;
+      is = ap (λ fs. record { log = session.log; followers = fs }) (sym (with_itself session.followers f.name f again));
+      between = subst (λ o. IfSome o (λ (g : NamedFollower). IsBetween session.log f.follower g.follower f.follower)) (sym after)
+          (record { from = omega arith; to = cuts.up; follows = named_follows session.log session.followers name f all found });
+    }
+
+stops_delivered : (session : SessionState) (name : List ℕ) (o : Option NamedFollower) (there : Option Entry) → AllFollow session.log session.followers → follower_named session.followers name ≡ o
+    → StopsAny o session (reply_of session o (λ f. deliver_to session name f there)).followers session
+stops_delivered session name None there all found = refl
+stops_delivered session name (Some f) None all found = stops_here session name f all found
+stops_delivered session name (Some f) (Some entry) all found = stops_before session name f (hand_entry f.follower entry) all found (entry_from f.follower entry)
+
+stops_imaged : (session : SessionState) (name : List ℕ) (o : Option NamedFollower) (there : Result Image (List ℕ)) → AllFollow session.log session.followers → follower_named session.followers name ≡ o
+    → StopsAny o session (reply_of session o (λ f. snapshot_to session name f there)).followers session
+stops_imaged session name None there all found = refl
+stops_imaged session name (Some f) (Err reason) all found = stops_here session name f all found
+stops_imaged session name (Some f) (Ok image) all found = stops_before session name f (hand_image f.follower image) all found (image_from f.follower image)
+
+stops_said : (session : SessionState) (said : Option ScriptLine) → AllFollow session.log session.followers → StopsAny (handed_by session said) session (reply_to session said).followers session
+stops_said session None all = refl
+stops_said session (Some (Commit id command)) all = refl
+stops_said session (Some (Follower name)) all = refl
+stops_said session (Some (Deliver name epoch)) all = stops_delivered session name (follower_named session.followers name) (entry_at session.log epoch) all refl
+stops_said session (Some (Snapshot name epoch)) all = stops_imaged session name (follower_named session.followers name) (image_at (commands_of session.log) epoch) all refl
+stops_said session (Some (Place target name)) all = refl
+stops_said session (Some (Nodes target)) all = refl
+stops_said session (Some (Quorum target name t)) all = refl
+stops_said session (Some (Local target name dc t)) all = refl
+
+pub stops_unread : (session : SessionState) (bytes : List ℕ) → AllFollow session.log session.followers → StopsAny (handed_by session (line_of bytes)) session (reply session bytes).followers session
+unfolding reply
+stops_unread session bytes all = stops_said session (line_of bytes) all

@@ -1,0 +1,144 @@
+-- From the parts of a replay to a run.
+use Rattle.std.proofs.Common.{arith, ◌≡◌, ◌≢◌, ℕ, Bool, true, false, if◌then◌else◌, List, [], ◌∷◌, Option, None, Some, Result, Ok, Err, IfOk, IsErrAnd, suc, ◌+◌, refl, sym, ap, ◌∙◌, subst}
+use Rattle.tcm_edges.proofs.OwedLemmas.{WritesPrefix-refl}
+use Rattle.tcm_edges.specs.Files.{Files, file_of, loaded_of}
+use Rattle.tcm_edges.specs.declared.store.Loaded.{Loaded}
+use Rattle.tcm_edges.specs.declared.store.Loaded.TheVariants as loaded
+use Rattle.tcm_session.specs.Counts.{Counts}
+use Rattle.tcm_session.specs.Endings.{IsReplayOf, status_by}
+use Rattle.tcm_session.specs.Faults.{HasRunCause}
+use Rattle.tcm_session.specs.Outcome.{Outcome, is_commit, is_replay, other_outcome, outcome, replay_outcome, replayed_files, unread_outcome, usage_text}
+use Rattle.tcm_session.specs.Limits.{input_limit}
+use Rattle.tcm_session.specs.Lines.{whole_lines}
+use Rattle.tcm_session.specs.Replay.{ending_of, files_replayed, lines_replayed, loaded_replayed, nothing_replayed, replay_ending, then_replayed, unless_ended}
+use Rattle.tcm_session.specs.Replays.{EndsSo, WritesLast, WritesOther, WritesReplay}
+use Rattle.tcm_session.specs.Run.{AreSeen}
+use Rattle.tcm_session.specs.Runs.{IsEnd, MayHold, RunsFor, RunsSeen, Writes}
+use Rattle.tcm_session.specs.declared.ending.Ending.{Ending}
+use Rattle.tcm_session.specs.declared.fault.RunFault.{RunFault}
+use Rattle.tcm_session.specs.declared.program.Status.{Status}
+use Rattle.tcm_session.specs.declared.refused_line.RefusedLine.{RefusedLine}
+use Rattle.tcm_session.specs.declared.replay.Replay.{Replay}
+use Rattle.tcm_session.proofs.CutLemmas.{files_behind}
+use Rattle.tcm_session.proofs.ReplayLemmas.{seen_any}
+use Rattle.tcm_session.proofs.RunLemmas.{final_end, runs_unread, runs_unread_err}
+use Rattle.tcm_session.proofs.RunOutcomes.{of_others, of_replay, of_usage}
+
+-- ---- a replay
+
+-- its end is printed
+pub replay_printed : (names : List (List ℕ)) (files : Option Files) (w w' : Option (List ℕ)) (before after : Counts) (ending : Ending) (r : Result Status RunFault) → EndsSo ending names files → Writes ending.text w w' before after r
+    → IfOk r (λ s. s.0 ≡ ending.status) → WritesReplay names files w w' r
+replay_printed names files w w' before after ending r ends writes status =
+    record {
+      seen = ends.seen;
+      held = ends.held;
+      writes = subst (λ (e : Ending). WritesLast (unread_outcome e.status e.text (ends.seen 0)) w w' r) ends.is (record { whole = writes.whole; part = writes.part; status = status });
+    }
+
+-- a fault comes before anything is written
+pub replay_stopped : (names : List (List ℕ)) (files : Option Files) (w : Option (List ℕ)) (r : Result Status RunFault) (e : RunFault) → IsErrAnd r (λ y. y ≡ e) → WritesReplay names files w w r
+replay_stopped names files w (Ok s) e is = absurd is
+replay_stopped names files w (Err f) e is =
+    let seen : ℕ → Files = λ _. files_behind files [] None in
+    record {
+      seen = seen;
+      held = seen_any files;
+      writes = record { whole = tt; part = WritesPrefix-refl w (replay_ending names seen).text; status = tt };
+    }
+
+-- ---- its status
+
+abbrev pub EndsRun : Result Replay Ending → Type 0
+EndsRun (Ok replay) = Unit {0}
+EndsRun (Err ending) = IsEnd ending.status × (ending.status ≢ 0)
+
+loaded_ends : (file : ℕ) (name : List ℕ) (replay : Replay) (it : Loaded) → EndsRun (loaded_replayed file name replay it)
+loaded_ends file name replay loaded.Absent = (refl, λ e. omega (arith, e))
+loaded_ends file name replay (loaded.TooLarge size) = (refl, λ e. omega (arith, e))
+loaded_ends file name replay (loaded.Bytes bytes) = by (lines_replayed file 1 replay (whole_lines bytes))
+  where
+    by : (r : Result Replay RefusedLine) → EndsRun (unless_ended r)
+    by (Ok next) = tt
+    by (Err refused) = (refl, λ e. omega (arith, e))
+
+pub files_ends : (names : List (List ℕ)) (file : ℕ) (replay : Replay) (seen : ℕ → Files) → EndsRun (files_replayed file replay names seen)
+files_ends [] file replay seen = tt
+files_ends (name ∷ names) file replay seen = by (loaded_replayed file name replay it) (loaded_ends file name replay it) (λ next. files_ends names (file + 1) next (λ i. seen (suc i)))
+  where
+    it : Loaded
+    it = loaded_of (file_of (seen 0) name) input_limit
+
+    by : (r : Result Replay Ending) → EndsRun r → ((next : Replay) → EndsRun (files_replayed (file + 1) next names (λ i. seen (suc i)))) → EndsRun (then_replayed r (λ next. files_replayed (file + 1) next names (λ i. seen (suc i))))
+    by (Ok next) ends later = later next
+    by (Err ending) ends later = ends
+
+pub replay_ends : (names : List (List ℕ)) (files : Option Files) (ending : Ending) (r : Result Status RunFault) → EndsSo ending names files → IfOk r (λ s. s.0 ≡ ending.status) → IfOk r (λ s. IsEnd s.0)
+replay_ends names files ending (Err e) ends is = tt
+replay_ends names files ending (Ok s) ends is =
+    subst IsEnd (sym (is ∙ ap (λ (e : Ending). e.status) ends.is)) (by (files_replayed 1 nothing_replayed names ends.seen) (files_ends names 1 nothing_replayed ends.seen))
+  where
+    by : (r : Result Replay Ending) → EndsRun r → IsEnd (ending_of r).status
+    by (Ok replay) ends = refl
+    by (Err ending) ends = ends.0
+
+-- ---- words other than `commit`
+
+-- words that are `replay`
+pub others_replay : (words : List (List ℕ)) (o : Option (List (List ℕ))) (names : List (List ℕ)) (files : Option Files) (w w' : Option (List ℕ)) (r : Result Status RunFault) → o ≡ Some names → IsReplayOf words o → WritesReplay names files w w' r
+    → WritesOther words files w w' r
+others_replay words o names files w w' r some said replay =
+    let is : (is_replay words ≡ true) × (replayed_files words ≡ names) = subst (IsReplayOf words) some said in
+    let same : other_outcome words replay.seen ≡ replay_outcome names replay.seen = of_replay words is.0 replay.seen ∙ ap (λ ns. replay_outcome ns replay.seen) is.1 in
+    record { seen = replay.seen; held = replay.held; writes = subst (λ o. WritesLast o w w' r) (sym same) replay.writes }
+
+-- words that name no command
+pub others_usage : (words : List (List ℕ)) (o : Option (List (List ℕ))) (files : Option Files) (w w' : Option (List ℕ)) (before after : Counts) (r : Result Status RunFault) → o ≡ None → IsReplayOf words o → Writes usage_text w w' before after r
+    → IfOk r (λ s. s.0 ≡ 2) → WritesOther words files w w' r
+others_usage words o files w w' before after r none said writes status =
+    let is : is_replay words ≡ false = subst (IsReplayOf words) none said in
+    let seen : ℕ → Files = λ _. files_behind files [] None in
+    record {
+      seen = seen;
+      held = seen_any files;
+      writes = subst (λ o. WritesLast o w w' r) (sym (of_usage words is seen)) (record { whole = writes.whole; part = writes.part; status = status });
+    }
+
+-- the files that the first load finds
+held_first : (files : Option Files) (seen : ℕ → Files) → AreSeen files seen → MayHold files (seen 0)
+held_first None seen held = tt
+held_first (Some these) seen held = sym (held 0)
+
+-- an outcome of such words reads nothing
+record IsUnread (o : Outcome) (all : Files) : Type 0 where
+  is : unread_outcome o.status o.last all ≡ o
+
+unread_others : (words : List (List ℕ)) (seen : ℕ → Files) → IsUnread (other_outcome words seen) (seen 0)
+unread_others words seen = by (is_replay words)
+  where
+    by : (b : Bool) → IsUnread (if b then replay_outcome (replayed_files words) seen else unread_outcome 2 usage_text (seen 0)) (seen 0)
+    by true = record { is = refl }
+    by false = record { is = refl }
+
+pub runs_others : {S : Type 0} (words : List (List ℕ)) (left : S → Option (List ℕ)) (input : S) (w w' : Option (List ℕ)) (files files' : Option Files) (before after : Counts) → before.source ≡ 0 → after.source ≡ 0 → (r : Result Status RunFault)
+    → is_commit words ≡ false → WritesOther words files w w' r → HasRunCause before after r → IfOk r (λ s. IsEnd s.0) → files' ≡ files → RunsSeen (outcome words) left input input w w' files files' (status_by r)
+runs_others {S} words left input w w' files files' before after none none' r other writes cause ended kept = record {
+  seen = writes.seen;
+  held = writes.held;
+  runs = subst (λ o. RunsFor o left input input w w' files' (status_by r)) (λ i given. (unread.is ∙ sym (of_others words other writes.seen given)) i) (by r writes.writes cause ended);
+}
+  where
+    o : Outcome
+    o = other_outcome words writes.seen
+
+    unread : IsUnread o (writes.seen 0)
+    unread = unread_others words writes.seen
+
+    held : MayHold files' (writes.seen 0)
+    held = subst (λ f. MayHold f (writes.seen 0)) (sym kept) (held_first files writes.seen writes.held)
+
+    by : (r : Result Status RunFault) → WritesLast o w w' r → HasRunCause before after r → IfOk r (λ s. IsEnd s.0) → RunsFor (λ _. unread_outcome o.status o.last (writes.seen 0)) left input input w w' files' (status_by r)
+    by (Ok s) last cause ended =
+        let not_4 : o.status ≢ 4 = λ four. (final_end s.0 ended).1.source (last.status ∙ four) in
+        runs_unread o.status o.last (writes.seen 0) left input w w' files' before after none none' (Ok s) not_4 held (record { whole = last.whole; part = last.part; cause = cause }) last.status
+    by (Err e) last cause ended = runs_unread_err o.status o.last (writes.seen 0) left input w w' files' before after none none' e last.part cause.shown

@@ -1,0 +1,51 @@
+//! The texts with which a replay ends before the end of its files.
+
+ghost use Rattle.std.specs.Prelude.{◌≡◌, ◌++◌, codes, IfOk};
+ghost use Rattle.script_lang.specs.Texts.{line};
+ghost use Rattle.tcm_session.specs.Limits.{too_large_text};
+ghost use Rattle.tcm_session.specs.LogFiles as log_file;
+
+use crate::limits::TOO_LARGE;
+use crate::refused_line::{RefusedLine, refused_line_text};
+use cluster_terms::{ByteText, Memory};
+use std::alloc::Global;
+
+/// The end of a run that reads no input: its status, and the text that is printed.
+#[derive(Debug, Drop)]
+pub struct Ending {
+    pub status: u8,
+    pub text: ByteText,
+}
+
+impl Ending {
+    /// The end at a file that is absent. Fails only if memory runs out.
+    pub fn absent(alloc: Global, name: &str) -> Result<Ending, Memory>
+        ensures { IfOk result (λ ending. ending
+            ≡ record { status = 7; text = line (codes "NO FILE " ++ name.now) }) }
+    {
+        let mut text = ByteText::empty(alloc);
+        text.extend(b"NO FILE ")?;
+        text.extend(name.as_bytes())?;
+        text.extend(b"\n")?;
+        Ok(Ending { status: 7, text })
+    }
+
+    /// The end at a file that is too large. Fails only if memory runs out.
+    pub fn too_large(alloc: Global) -> Result<Ending, Memory>
+        ensures { IfOk result (λ ending. ending ≡ record { status = 8; text = too_large_text }) }
+    {
+        let mut text = ByteText::empty(alloc);
+        text.extend(TOO_LARGE.as_bytes())?;
+        Ok(Ending { status: 8, text })
+    }
+
+    /// The end at a line that is refused. Fails only if memory runs out.
+    pub fn refused(alloc: Global, refused: &RefusedLine) -> Result<Ending, Memory>
+        ensures { IfOk result (λ ending. ending
+            ≡ record { status = 3; text = log_file.refused_line_text refused.now }) }
+    {
+        let mut text = ByteText::empty(alloc);
+        refused_line_text(alloc, refused, &mut text)?;
+        Ok(Ending { status: 3, text })
+    }
+}
