@@ -27,7 +27,7 @@ finished_rows image change at nodes tokens sequences is sound =
 
 -- it does where the change is a command's that is accepted
 pub sound_changed : (image : Image) (c : Command) (change : Change) → IsSound image → is_command c ≡ true → early_refusal_of image c ≡ None → image.epoch < most_epochs → IsChange image c change → IsSound (changed image change)
-sound_changed image c change sound formed early room makes = subst IsSound (sym makes.0) (sound_next image c sound formed early room)
+sound_changed image c change sound formed early room makes = subst IsSound (sym makes.made) (sound_next image c sound formed early room)
 
 -- the directory of the image that a change leads to: the one that it leaves, and else that of the image before
 pub left_directory : (image : Image) (change : Change) (d : Registry) → directory_after image change ≡ Some d → d ≡ directory_of (changed image change)
@@ -35,7 +35,7 @@ left_directory image (Nodes nodes next) d h = sym (cc h)
 left_directory image (Finished at nodes tokens sequences) d h = sym (cc h)
 left_directory image (Tokens tokens) d h = absurd (none-some d h)
 left_directory image (Keyspaces keyspaces) d h = absurd (none-some d h)
-left_directory image (Begun at row sequences) d h = absurd (none-some d h)
+left_directory image (Begun at plan sequences) d h = absurd (none-some d h)
 left_directory image (Started at row) d h = absurd (none-some d h)
 left_directory image (Mid at row) d h = absurd (none-some d h)
 left_directory image (Ended at sequences) d h = absurd (none-some d h)
@@ -46,7 +46,7 @@ kept_directory image (Nodes nodes next) h = absurd (none-some _ (sym h))
 kept_directory image (Finished at nodes tokens sequences) h = absurd (none-some _ (sym h))
 kept_directory image (Tokens tokens) h = refl
 kept_directory image (Keyspaces keyspaces) h = refl
-kept_directory image (Begun at row sequences) h = refl
+kept_directory image (Begun at plan sequences) h = refl
 kept_directory image (Started at row) h = refl
 kept_directory image (Mid at row) h = refl
 kept_directory image (Ended at sequences) h = refl

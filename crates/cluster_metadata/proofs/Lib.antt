@@ -6,6 +6,8 @@ pub mod LockLemmas
 pub mod LockRefusals
 pub mod MovementPlaces
 pub mod PermitOutcomes
+pub mod PlanLemmas
 pub mod PrepareLemmas
+pub mod ResumeLemmas
 pub mod RunningLemmas
 pub mod StepLemmas

@@ -26,7 +26,8 @@ use Rattle.transformations.specs.declared.keyspace.KeyspaceRow.{KeyspaceRow}
 use Rattle.transformations.specs.declared.refusal.Refusal.TheVariants.{Locked}
 use Rattle.transformations.specs.declared.sequence.SeqRow.{SeqRow}
 use Rattle.placement_deltas.specs.declared.plan.Plan.{Plan}
-use Rattle.sequence_plans.specs.Plan.{AreLocks, IsBook, IsPlan, replications_of}
+use Rattle.sequence_plans.specs.Plan.{AreLocks, IsBook, IsPlan}
+use Rattle.sequence_plans.specs.Replications.{replications_of}
 use Rattle.cluster_metadata.specs.Locks.{first_common_row, first_lock, is_common_row, lock_of}
 
 -- ---- replications that keyspaces have, and keyspaces

@@ -49,7 +49,7 @@ at_place P (q ∷ rows) (suc at) s all found = at_place P rows at s all.1 found
 
 module _ (n : ℕ) where
   -- movements that come after the node's stay as they are
-  steps_none : (p : Phase) (rows : List SeqRow) → AllByRecursion (λ (q : SeqRow). (q.node == n) ≡ false) rows → map (at_phase p n) rows ≡ rows
+  pub steps_none : (p : Phase) (rows : List SeqRow) → AllByRecursion (λ (q : SeqRow). (q.node == n) ≡ false) rows → map (at_phase p n) rows ≡ rows
   steps_none p [] all = refl
   steps_none p (q ∷ rows) all = rw all.0 (ap (λ l. q ∷ l) (steps_none p rows all.1))
 
@@ -57,7 +57,7 @@ module _ (n : ℕ) where
   others_all [] all = refl
   others_all (q ∷ rows) all = rw all.0 (ap (λ l. q ∷ l) (others_all rows all.1))
 
-  later_others : (s : SeqRow) (rows : List SeqRow) → (s.node == n) ≡ true → AllByRecursion (λ q. by_node s q ≡ Less) rows → AllByRecursion (λ (q : SeqRow). (q.node == n) ≡ false) rows
+  pub later_others : (s : SeqRow) (rows : List SeqRow) → (s.node == n) ≡ true → AllByRecursion (λ q. by_node s q ≡ Less) rows → AllByRecursion (λ (q : SeqRow). (q.node == n) ≡ false) rows
   later_others s [] own less = tt
   later_others s (q ∷ rows) own less = (greater_other s q n less.0 own, later_others s rows own less.1)
 

@@ -26,7 +26,7 @@ placements image valid = placed_by_outcomes image valid.sound
 
 module _ (image after : Image) (c : Command) (change : Change) (permitted : IsPermitted image c change) (made : after ≡ changed image change) (valid : IsValid image) where
   leads : next_image image c ≡ after
-  leads = sym (made ∙ permitted.makes.0)
+  leads = sym (made ∙ permitted.makes.made)
 
   pub valid_after : IsValid after
   valid_after = subst IsValid leads (valid_next image c valid permitted.formed permitted.accepted permitted.room)

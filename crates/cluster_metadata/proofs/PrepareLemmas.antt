@@ -36,7 +36,7 @@ prepared_begun image (Cancel n) row h = absurd (none-some row h)
 
 -- so a change that begins it is the command's
 pub prepares : (image : Image) (c : Command) (row : SeqRow) → prepared_by image.tokens c ≡ Some row → {E : Type 0} (result : Result Change E) → IfOk result (Begins image row) → IfOk result (IsChange image c)
-prepares image c row h (Ok change) begin = (begin.0 ∙ prepared_begun image c row h, begin.1)
+prepares image c row h (Ok change) begin = record { made = begin.made ∙ prepared_begun image c row h; follows = begin.follows; deltas = begin.deltas }
 prepares image c row h (Err e) begin = begin
 
 -- and it makes no keyspace

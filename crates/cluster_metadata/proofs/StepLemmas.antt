@@ -6,6 +6,8 @@ use Rattle.std.specs.List.Sorted.{IsStrictlySortedBy}
 use Rattle.cluster_terms.specs.Ascending.{put}
 use Rattle.cluster_terms.specs.declared.node.NodeRow.{NodeRow}
 use Rattle.cluster_terms.specs.declared.token.Pair.{Pair}
+use Rattle.placement_deltas.specs.declared.plan.Plan.{Plan}
+use Rattle.sequence_plans.specs.Deltas.{HasDeltas}
 use Rattle.transformations.proofs.commands.AcceptedLemmas.{first_none, test_false}
 use Rattle.transformations.proofs.lists.ListLemmas.{found_passes}
 use Rattle.transformations.specs.History.{next_image}
@@ -21,6 +23,7 @@ use Rattle.transformations.specs.declared.sequence.Kind.{Kind}
 use Rattle.transformations.specs.declared.sequence.Phase.{Phase}
 use Rattle.transformations.specs.declared.sequence.Phase.TheVariants as phase
 use Rattle.transformations.specs.declared.sequence.SeqRow.{SeqRow}
+use Rattle.cluster_metadata.proofs.PlanLemmas.{deltas_elsewhere}
 use Rattle.cluster_metadata.proofs.MovementPlaces.{at_index, others_at, stepped_at}
 use Rattle.cluster_metadata.specs.Change.{Begins, IsChange, in_phase}
 use Rattle.cluster_metadata.specs.declared.change.Change.TheVariants.{Begun, Started, Mid, Finished}
@@ -41,11 +44,11 @@ facts image g kind n h =
 
 -- ---- a movement that begins
 
-pub begins : (image : Image) (at : ℕ) (row : SeqRow) (after : List SeqRow) → row.phase ≡ phase.Prepared → at ≤ length image.sequences → after ≡ insert image.sequences at row
-    → put by_node row image.sequences ≡ insert image.sequences at row → Begins image row (Begun at row after)
-begins image at row after prepared within made place =
+pub begins : (image : Image) (at : ℕ) (plan : Plan) (after : List SeqRow) → plan.row.phase ≡ phase.Prepared → at ≤ length image.sequences → after ≡ insert image.sequences at plan.row
+    → put by_node plan.row image.sequences ≡ insert image.sequences at plan.row → HasDeltas image plan → Begins image plan.row (Begun at plan after)
+begins image at plan after prepared within made place deltas =
     let with_rows : List SeqRow → Image = λ rows. record image { epoch = image.epoch + 1; sequences = rows } in
-    (ap with_rows (made ∙ sym place), (prepared, within, made))
+    record { made = ap with_rows (made ∙ sym place); follows = (prepared, within, made); deltas = deltas_elsewhere image (image.epoch + 1) after plan deltas }
 
 -- ---- the movement that takes a step
 
@@ -103,7 +106,7 @@ module _ (image : Image) (n : ℕ) (at : ℕ) (s : SeqRow) (up : IsStrictlySorte
   unfolding next_image
   started kind goal.Start row is h made =
       let was = before_step image goal.Start kind n s h found in
-      (after phase.Started row made, (back phase.Prepared phase.Started row was made, ap (λ (r : SeqRow). r.phase) made))
+      record { made = after phase.Started row made; follows = (back phase.Prepared phase.Started row was made, ap (λ (r : SeqRow). r.phase) made); deltas = tt }
   started kind goal.Mid row is h made = cc
   started kind goal.Finish row is h made = cc
 
@@ -111,7 +114,7 @@ module _ (image : Image) (n : ℕ) (at : ℕ) (s : SeqRow) (up : IsStrictlySorte
   unfolding next_image
   half_way kind goal.Mid row is h made =
       let was = before_step image goal.Mid kind n s h found in
-      (after phase.Mid row made, (back phase.Started phase.Mid row was made, ap (λ (r : SeqRow). r.phase) made))
+      record { made = after phase.Mid row made; follows = (back phase.Started phase.Mid row was made, ap (λ (r : SeqRow). r.phase) made); deltas = tt }
   half_way kind goal.Start row is h made = cc
   half_way kind goal.Finish row is h made = cc
 
@@ -123,10 +126,12 @@ module _ (image : Image) (n : ℕ) (at : ℕ) (s : SeqRow) (up : IsStrictlySorte
       let without : rows ≡ remove image.sequences at = left ∙ others_at n image.sequences at s up stands own in
       let none_own : others image.sequences s.node ≡ remove image.sequences at = others_at s.node image.sequences at s up stands ((Decides-eqb s.node s.node).1 refl) in
       let ended : List NodeRow → List Pair → List SeqRow → Image = λ k r l. record image { epoch = image.epoch + 1; nodes = k; tokens = r; sequences = l } in
-      let last : Option SeqRow → Image = λ o. let a : Image = finished image o in record a { epoch = image.epoch + 1 } in (
-        ap (λ k. ended k ring rows) marked ∙ ap (λ r. ended (with_left image.nodes (leaver s)) r rows) made
-            ∙ ap (ended (with_left image.nodes (leaver s)) (ring_after image.tokens s)) (without ∙ sym none_own) ∙ ap last (sym found),
-        (ap (option_map (λ (q : SeqRow). q.phase)) stands ∙ ap (λ (p : Phase). Some p) was, without),
-      )
+      let last : Option SeqRow → Image = λ o. let a : Image = finished image o in record a { epoch = image.epoch + 1 } in
+      record {
+        made = ap (λ k. ended k ring rows) marked ∙ ap (λ r. ended (with_left image.nodes (leaver s)) r rows) made
+            ∙ ap (ended (with_left image.nodes (leaver s)) (ring_after image.tokens s)) (without ∙ sym none_own) ∙ ap last (sym found);
+        follows = (ap (option_map (λ (q : SeqRow). q.phase)) stands ∙ ap (λ (p : Phase). Some p) was, without);
+        deltas = tt;
+      }
   done kind goal.Start nodes ring rows is h marked made left = cc
   done kind goal.Mid nodes ring rows is h marked made left = cc

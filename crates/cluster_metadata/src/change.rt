@@ -1,4 +1,5 @@
 use cluster_terms::{NodeRows, PairList};
+use placement_deltas::Plan;
 use transformations::{KeyspaceRows, SeqRow, SeqRows};
 
 /// The change that a command makes in an image, beside the epoch. It has the new version of each list that changes, or
@@ -14,10 +15,10 @@ pub enum Change {
     Tokens(PairList),
     /// The new keyspaces.
     Keyspaces(KeyspaceRows),
-    /// A movement begins: its row, and the movements with this row inserted at `at`.
+    /// A movement begins: its plan, and the movements with the plan's row inserted at `at`.
     Begun {
         at: usize,
-        row: SeqRow,
+        plan: Plan,
         sequences: SeqRows,
     },
     /// A movement starts: its row, at `Started`.

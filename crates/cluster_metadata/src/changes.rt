@@ -153,7 +153,7 @@ pub fn change_of<L: Ledger>(
     ensures change { IfOk result (IsChange image.now cmd.now) }
     ensures replicated { OnOk result (HasReplication cmd.now) }
     ensures refusal { AdmitsUnless (refusal_of image.now cmd.now) result }
-    ensures uncounted { walks.new ≡ walks.old }
+    ensures uncounted { prepared_by image.now.tokens cmd.now ≡ None → walks.new ≡ walks.old }
 {
     if let Some(row) = row_prepared(alloc, image, cmd)? {
         return prepare(alloc, image, row, walks);

@@ -1,15 +1,16 @@
 //! Makes a change in an image and in the values of its movements in flight. Nothing here allocates memory.
 
-ghost use Rattle.std.specs.Prelude.{◌≡◌, ◌+◌, ◌<◌, ◌≤◌, ◌^◌, ◌-◌, length, slice_set, vec_capacity, vec_len, MatchOption};
+ghost use Rattle.std.specs.Prelude.{◌≡◌, ◌+◌, ◌<◌, ◌≤◌, ◌^◌, ◌-◌, length, map, slice_set, vec_capacity, vec_len, MatchOption};
 ghost use Rattle.std.specs.List.{insert, remove};
 ghost use Rattle.transformations.specs.declared.sequence.Phase.TheVariants as phase;
-ghost use Rattle.cluster_metadata.specs.Change.{Follows, StandsAt, StandsBeforeMid, changed, grown_to};
-ghost use Rattle.cluster_metadata.specs.Running.{IsRunning};
+ghost use Rattle.cluster_metadata.specs.Change.{Follows, StandsAt, StandsBeforeMid, changed, grown_to, plans_after};
+ghost use Rattle.cluster_metadata.specs.Running.{IsRunning, plan_of};
 ghost use Rattle.cluster_metadata.specs.declared.change.Change.TheVariants as change;
 
 use crate::change::Change;
 use crate::running::Running;
 use node_directory::Directory;
+use placement_deltas::Plan;
 use std::mem::swap;
 use transformations::{Image, SeqRow, SeqRows};
 
@@ -46,18 +47,19 @@ fn begin(
     running: &mut Vec<Running>,
     room: &mut Vec<Running>,
     at: usize,
-    row: SeqRow,
+    plan: Plan,
 )
     requires running { IsRunning sequences.now running.old.items }
     requires place { at ≤ length sequences.now }
-    requires phase { row.phase ≡ phase.Prepared }
+    requires phase { plan.row.phase ≡ phase.Prepared }
     requires empty { vec_len room.old ≡ 0 }
     requires room { length sequences.now + 1 ≤ vec_capacity room.old }
-    ensures running { IsRunning (insert sequences.now at row) running.new.items }
+    ensures running { IsRunning (insert sequences.now at plan.row) running.new.items }
+    ensures plans { map plan_of running.new.items ≡ insert (map plan_of running.old.items) at plan }
     ensures empty { vec_len room.new ≡ 0 }
 {
     move_over(running, room);
-    put(running, at, Running::begin(row));
+    put(running, at, Running::begin(plan));
 }
 
 /// Takes a movement from `Prepared` to `Started`.
@@ -66,6 +68,7 @@ fn start(sequences: &mut SeqRows, running: &mut Vec<Running>, at: usize, row: Se
     requires follows { Follows sequences.old (change.Started at row) }
     ensures rows { sequences.new ≡ slice_set sequences.old at row }
     ensures running { IsRunning sequences.new running.new.items }
+    ensures plans { map plan_of running.new.items ≡ map plan_of running.old.items }
 {
     let movement = running.remove(at);
     put(running, at, movement.start());
@@ -78,6 +81,7 @@ fn mid(sequences: &mut SeqRows, running: &mut Vec<Running>, at: usize, row: SeqR
     requires follows { Follows sequences.old (change.Mid at row) }
     ensures rows { sequences.new ≡ slice_set sequences.old at row }
     ensures running { IsRunning sequences.new running.new.items }
+    ensures plans { map plan_of running.new.items ≡ map plan_of running.old.items }
 {
     let movement = running.remove(at);
     put(running, at, movement.mid());
@@ -88,18 +92,20 @@ fn mid(sequences: &mut SeqRows, running: &mut Vec<Running>, at: usize, row: SeqR
 fn finish(sequences: &[SeqRow], running: &mut Vec<Running>, at: usize)
     requires running { IsRunning sequences.now running.old.items }
     requires mid { StandsAt sequences.now at phase.Mid }
-    ensures { IsRunning (remove sequences.now at) running.new.items }
+    ensures running { IsRunning (remove sequences.now at) running.new.items }
+    ensures plans { map plan_of running.new.items ≡ remove (map plan_of running.old.items) at }
 {
-    let _row = running.remove(at).finish();
+    let _plan = running.remove(at).finish();
 }
 
 /// Removes the value of a movement that is given up. It isn't at `Mid`.
 fn end(sequences: &[SeqRow], running: &mut Vec<Running>, at: usize)
     requires running { IsRunning sequences.now running.old.items }
     requires early { StandsBeforeMid sequences.now at }
-    ensures { IsRunning (remove sequences.now at) running.new.items }
+    ensures running { IsRunning (remove sequences.now at) running.new.items }
+    ensures plans { map plan_of running.new.items ≡ remove (map plan_of running.old.items) at }
 {
-    let _row = running.remove(at).give_up();
+    let _plan = running.remove(at).give_up();
 }
 
 /// Takes a movement from `Mid` back to `Started`.
@@ -108,6 +114,7 @@ fn bring_back(sequences: &mut SeqRows, running: &mut Vec<Running>, at: usize, ro
     requires follows { Follows sequences.old (change.BroughtBack at row) }
     ensures rows { sequences.new ≡ slice_set sequences.old at row }
     ensures running { IsRunning sequences.new running.new.items }
+    ensures plans { map plan_of running.new.items ≡ map plan_of running.old.items }
 {
     let movement = running.remove(at);
     put(running, at, movement.bring_back());
@@ -132,6 +139,7 @@ pub fn make(image: &mut Image, running: &mut Vec<Running>, change: Change, mut r
     requires room { grown_to change ≤ vec_capacity room }
     ensures made { image.new ≡ changed image.old change }
     ensures running { IsRunning image.new.sequences running.new.items }
+    ensures plans { map plan_of running.new.items ≡ plans_after (map plan_of running.old.items) change }
 {
     image.epoch += 1;
     match change {
@@ -141,8 +149,12 @@ pub fn make(image: &mut Image, running: &mut Vec<Running>, change: Change, mut r
         }
         Change::Tokens(tokens) => image.tokens = tokens,
         Change::Keyspaces(keyspaces) => image.keyspaces = keyspaces,
-        Change::Begun { at, row, sequences } => {
-            begin(image.sequences.as_slice(), running, &mut room, at, row);
+        Change::Begun {
+            at,
+            plan,
+            sequences,
+        } => {
+            begin(image.sequences.as_slice(), running, &mut room, at, plan);
             image.sequences = sequences;
         }
         Change::Started { at, row } => start(&mut image.sequences, running, at, row),

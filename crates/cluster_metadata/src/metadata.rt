@@ -1,11 +1,11 @@
-ghost use Rattle.std.specs.Prelude.{◌≡◌, ◌<◌, ◌≤◌, true, None, length, option_map, IfErr, IfOk, IfSome, IsTrue};
+ghost use Rattle.std.specs.Prelude.{◌≡◌, ◌<◌, ◌≤◌, true, None, length, option_map, IfErr, IfOk, IfSome, IsSome, IsTrue};
 ghost use Rattle.std.specs.Option.{option_copied};
 ghost use Rattle.transformations.specs.History.{empty_image, is_command, most_epochs, next_image};
 ghost use Rattle.transformations.specs.Meeting.{HaveReplications, QuorumsExistTogether, QuorumsMeet, ReadsAreWritten, makes_movement_epoch};
-ghost use Rattle.transformations.specs.Refusals.{refusal_of};
+ghost use Rattle.transformations.specs.Refusals.{early_refusal_of, prepared_by, refusal_of};
 ghost use Rattle.transformations.specs.Valid.{IsValid};
 ghost use Rattle.cluster_metadata.specs.Change.{directory_of};
-ghost use Rattle.cluster_metadata.specs.Running.{IsRunning};
+ghost use Rattle.cluster_metadata.specs.Running.{HaveDeltas, IsRunning};
 ghost use Rattle.cluster_metadata.specs.Served as spec;
 
 use crate::admit_fault::AdmitFault;
@@ -24,6 +24,9 @@ use transformations::{Command, Image, KeyspaceRow};
 
 /// The metadata of a cluster: a valid image, and the movements in flight, each as a value of its phase. Contracts see
 /// it as the image.
+///
+/// Each movement in flight keeps the plan with which it was prepared. The deltas of the plan are exact in the image as
+/// it is: at each token, under each keyspace, they are the nodes that the movement gains and loses.
 ///
 /// Under each keyspace, a token is in the ranges of at most one movement. The ranges are CEP-21's locked ranges, by a
 /// rule of this project: the tokens whose replicas the movement may change, whatever happens to the other movements.
@@ -47,14 +50,15 @@ impl Model for Metadata {
     ghost invariant = { λ m. IsHeld m.image m.directory m.running.items };
 }
 
-/// The directory of a valid image, and the values of its movements in flight.
+/// The directory of a valid image, and the values of its movements in flight, each with its plan.
 fn parts_of(alloc: Global, image: &Image) -> Result<(Directory, Vec<Running>), Memory>
     requires { IsValid image.now }
     ensures directory { IfOk result (λ parts. parts.0 ≡ directory_of image.now) }
     ensures running { IfOk result (λ parts. IsRunning image.now.sequences parts.1.items) }
+    ensures deltas { IfOk result (λ parts. HaveDeltas image.now parts.1.items) }
 {
     let directory = Directory::from_valid(alloc, image.nodes.as_slice(), image.next)?;
-    let running = resume_all(alloc, image.sequences.as_slice())?;
+    let running = resume_all(alloc, image)?;
     Ok((directory, running))
 }
 
@@ -86,7 +90,9 @@ impl Metadata {
     /// The metadata of an image. The image is valid, and each of its keyspaces has a replication. If memory runs out,
     /// returns the image.
     ///
-    /// Cost: a copy of the nodes and of the movements in flight.
+    /// Cost: a copy of the nodes, and a plan for each movement in flight, as `sequence_plans::plan` makes it. For m
+    /// movements and r replications, this is m copies of the image and m·m·r calls of `ring_reach::reached`. Each plan
+    /// also walks rings: under each replication, two walks for each row between cuts that is in its movement's ranges.
     pub fn from_image(alloc: Global, image: Image) -> Result<Metadata, (Image, ImageFault)>
         requires valid { IsValid image }
         requires replications { HaveReplications image }
@@ -120,8 +126,8 @@ impl Metadata {
         &self.image
     }
 
-    /// A copy of the image, with all its lists. `Err` means that memory ran out. The image is valid, and the replication
-    /// of each keyspace names each of its datacenters once.
+    /// A copy of the image, with all its lists. `Err` means that memory ran out. The image is valid, and the
+    /// replication of each keyspace names each of its datacenters once.
     pub fn image(&self) -> Result<Image, Memory>
         ensures image { IfOk result (λ image. image ≡ self.now) }
         ensures valid { IsValid self.now }
@@ -136,9 +142,13 @@ impl Metadata {
     /// last. `Locked` shows the least node whose movement shares a token with the new movement, in the ranges of both
     /// under one keyspace, and the right end of the first row that they share.
     ///
-    /// Cost: a copy of each list that the command changes, or of the row of the movement that takes a step. No strategy
-    /// is called. If the command prepares a movement, the image is copied and the ranges of all movements are found
-    /// anew: for m movements with the new one and r replications, `ring_reach::reached` is called m·r times.
+    /// Cost: a copy of each list that the command changes, or of the row of the movement that takes a step. A command
+    /// that prepares no movement calls no strategy and counts no walk.
+    ///
+    /// If the command prepares a movement, its plan is made: the image is copied, and the ranges of all movements are
+    /// found anew. For m movements with the new one and r replications, `ring_reach::reached` is called m·r times. Under
+    /// each replication, two walks are counted for each row between cuts that is in the ranges of the new movement. See
+    /// `sequence_plans::plan`. `Locked` is the only refusal that comes after walks.
     ///
     /// Under each keyspace, a token is in the ranges of at most one movement. Whichever movements are done or given up,
     /// the placement at a token depends only on the movements that have it in their ranges. Reads and writes are
@@ -153,7 +163,8 @@ impl Metadata {
         requires formed { IsTrue (is_command cmd.now) }
         ensures permit { IfOk result (λ permit. permit ≡ record { image = self.now; command = cmd.now }) }
         ensures refusal { AdmitsUnless (refusal_of self.now cmd.now) result }
-        ensures uncounted { walks.new ≡ walks.old }
+        ensures uncounted { prepared_by self.now.tokens cmd.now ≡ None → walks.new ≡ walks.old }
+        ensures early { IsSome (early_refusal_of self.now cmd.now) → walks.new ≡ walks.old }
         ensures apart { AreApart self.now }
         ensures outcomes { PlacedByRanges self.now }
         ensures rings { AreOutcomes self.now }
@@ -163,7 +174,7 @@ impl Metadata {
     }
 
     /// Carries out the permit's command and returns the new epoch. It can't be refused and allocates no memory: it
-    /// uses the memory that the permit holds.
+    /// uses the memory that the permit holds. A new movement takes the plan that the permit holds.
     ///
     /// Each movement that goes on keeps its ranges, and under each keyspace a token is still in the ranges of at most
     /// one movement. Reads and writes are still placements after outcomes, as `admit` says.

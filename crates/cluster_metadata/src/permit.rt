@@ -1,6 +1,6 @@
-ghost use Rattle.std.specs.Prelude.{◌≡◌, ◌<◌, ◌≤◌, None, IfOk, IsTrue, vec_capacity, vec_len};
+ghost use Rattle.std.specs.Prelude.{◌≡◌, ◌<◌, ◌≤◌, None, IfOk, IsSome, IsTrue, vec_capacity, vec_len};
 ghost use Rattle.transformations.specs.History.{is_command, most_epochs};
-ghost use Rattle.transformations.specs.Refusals.{refusal_of};
+ghost use Rattle.transformations.specs.Refusals.{early_refusal_of, prepared_by, refusal_of};
 ghost use Rattle.transformations.specs.Valid.{IsSound, IsValid};
 ghost use Rattle.cluster_metadata.specs.Change.{changed, directory_after, grown_to};
 ghost use Rattle.cluster_metadata.specs.Permission.{AdmitsUnless};
@@ -97,7 +97,8 @@ pub(crate) fn permit_for<L: Ledger>(
     requires formed { IsTrue (is_command cmd.now) }
     ensures permit { IfOk result (λ permit. permit ≡ record { image = image.now; command = cmd.now }) }
     ensures refusal { AdmitsUnless (refusal_of image.now cmd.now) result }
-    ensures uncounted { walks.new ≡ walks.old }
+    ensures uncounted { prepared_by image.now.tokens cmd.now ≡ None → walks.new ≡ walks.old }
+    ensures early { IsSome (early_refusal_of image.now cmd.now) → walks.new ≡ walks.old }
 {
     if let Some(refusal) = early_refusal(alloc, image, cmd)? {
         return Err(AdmitFault::Refused(refusal));

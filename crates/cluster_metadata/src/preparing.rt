@@ -9,6 +9,7 @@ ghost use Rattle.transformations.specs.Refusals.{early_refusal_of, locked, prepa
 ghost use Rattle.transformations.specs.Valid.{IsSound};
 ghost use Rattle.transformations.specs.declared.sequence.Phase.TheVariants as phase;
 ghost use Rattle.transformations.specs.declared.sequence.SeqRow.{SeqRow};
+ghost use Rattle.sequence_plans.specs.Deltas.{HasDeltas};
 ghost use Rattle.cluster_metadata.specs.Change.{Begins};
 ghost use Rattle.cluster_metadata.specs.Permission.{AdmitsUnless};
 
@@ -16,6 +17,7 @@ use crate::admit_fault::AdmitFault;
 use crate::change::Change;
 use crate::locks::first_lock;
 use cluster_terms::{Memory, NodeId, Steps, TryCopy};
+use placement_deltas::Plan;
 use sequence_plans::plan;
 use sequence_rows::{join_row, leave_row, move_row, replace_row};
 use std::alloc::Global;
@@ -37,16 +39,22 @@ fn place_for(sequences: &[SeqRow], node: NodeId) -> usize
     sequences.len()
 }
 
-/// The change that begins the movement of a node that has none.
-fn begun(image: &Image, row: SeqRow) -> Result<Change, Memory>
-    requires phase { row.phase ≡ phase.Prepared }
-    requires new { AllByRecursion (λ s. (s.node == row.node) ≡ false) image.now.sequences }
-    ensures { IfOk result (Begins image.now row) }
+/// The change that begins the movement of a node that has none, with its plan.
+fn begun(image: &Image, plan: Plan) -> Result<Change, Memory>
+    requires phase { plan.row.phase ≡ phase.Prepared }
+    requires new { AllByRecursion (λ s. (s.node == plan.row.node) ≡ false) image.now.sequences }
+    requires deltas { HasDeltas image.now plan }
+    ensures { IfOk result (Begins image.now plan.row) }
 {
+    let row = &plan.row;
     let at = place_for(image.sequences.as_slice(), row.node);
     let mut sequences = image.sequences.copy()?;
     sequences.insert(at, row.copy()?)?;
-    Ok(Change::Begun { at, row, sequences })
+    Ok(Change::Begun {
+        at,
+        plan,
+        sequences,
+    })
 }
 
 /// The row of the movement that a command prepares. The command has no early refusal. Returns `None` if and only if the
@@ -83,7 +91,6 @@ pub fn prepare<L: Ledger>(
     requires sound { IsSound (with_movement image.now row) }
     ensures change { IfOk result (Begins image.now row) }
     ensures refusal { AdmitsUnless (locked (with_movement image.now row) row) result }
-    ensures uncounted { walks.new ≡ walks.old }
 {
     let plan = match plan(alloc, image, row, walks) {
         Ok(plan) => plan,
@@ -93,5 +100,5 @@ pub fn prepare<L: Ledger>(
     if let Some(refusal) = first_lock(ranges, plan.wide.as_slice(), plan.cuts.as_slice()) {
         return Err(AdmitFault::Refused(refusal));
     }
-    Ok(begun(image, plan.row)?)
+    Ok(begun(image, plan)?)
 }

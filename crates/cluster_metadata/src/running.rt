@@ -1,15 +1,22 @@
-ghost use Rattle.std.specs.Prelude.{◌≡◌, ◌++◌, ◌∷◌, [], false, map, IfOk, OnOk};
+ghost use Rattle.std.specs.Prelude.{◌≡◌, ◌++◌, ◌∷◌, ◌<◌, [], false, IfOk, OnOk};
+ghost use Rattle.std.specs.List.{Contains};
 ghost use Rattle.transformations.specs.Rings.{is_mid};
+ghost use Rattle.transformations.specs.Valid.{IsSound};
 ghost use Rattle.transformations.specs.declared.sequence.Phase.TheVariants as phase;
-ghost use Rattle.cluster_metadata.specs.Change.{in_phase};
-ghost use Rattle.cluster_metadata.specs.Running.{IsRunning, phase_of, movement_row};
+ghost use Rattle.sequence_plans.specs.Deltas.{HasDeltas};
+ghost use Rattle.cluster_metadata.specs.Running.{HaveDeltas, IsRunning, phase_of, plan_of, movement_row};
 
-use cluster_terms::{Memory, TryCopy};
+use crate::stepping::at_phase;
+use cluster_terms::{Memory, Steps};
+use placement_deltas::Plan;
 use sequence_core::{Mid, Prepared, Seq, Started};
+use sequence_plans::plan;
 use std::alloc::Global;
-use transformations::{Phase, SeqRow};
+use std::marker::Brand;
+use std::sync::ledger::{Blank, Ledger};
+use transformations::{Image, Phase, SeqRow};
 
-/// A movement in flight, as a value of its phase.
+/// A movement in flight, as a value of its phase. It holds the plan with which the movement was prepared.
 pub enum Running {
     Prepared(Seq<Prepared>),
     Started(Seq<Started>),
@@ -17,23 +24,22 @@ pub enum Running {
 }
 
 impl Running {
-    /// The value of a movement whose row is at `Prepared`.
-    pub fn begin(row: SeqRow) -> Running
-        requires { row.phase ≡ phase.Prepared }
-        ensures row { movement_row result ≡ row }
+    /// The value of a movement from its plan, whose row is at `Prepared`.
+    pub fn begin(plan: Plan) -> Running
+        requires { plan.row.phase ≡ phase.Prepared }
+        ensures plan { plan_of result ≡ plan }
         ensures phase { phase_of result ≡ phase.Prepared }
     {
-        Running::Prepared(Seq::begin(row))
+        Running::Prepared(Seq::begin(plan))
     }
 
-    /// The value of a movement whose row is at any phase.
-    pub fn resume(mut row: SeqRow) -> Running
-        ensures row { movement_row result ≡ row }
-        ensures phase { phase_of result ≡ row.phase }
+    /// The value of a movement at any phase, from its plan.
+    pub fn resume(plan: Plan, at: Phase) -> Running
+        requires { plan.row.phase ≡ phase.Prepared }
+        ensures plan { plan_of result ≡ plan }
+        ensures phase { phase_of result ≡ at }
     {
-        let at = row.phase;
-        row.phase = Phase::Prepared;
-        let begun = Running::begin(row);
+        let begun = Running::begin(plan);
         match at {
             Phase::Prepared => begun,
             Phase::Started => begun.start(),
@@ -44,7 +50,7 @@ impl Running {
     /// Takes a movement from `Prepared` to `Started`.
     pub fn start(self) -> Running
         requires { phase_of self ≡ phase.Prepared }
-        ensures row { movement_row result ≡ in_phase phase.Started (movement_row self) }
+        ensures plan { plan_of result ≡ plan_of self }
         ensures phase { phase_of result ≡ phase.Started }
     {
         match self {
@@ -56,7 +62,7 @@ impl Running {
     /// Takes a movement from `Started` to `Mid`.
     pub fn mid(self) -> Running
         requires { phase_of self ≡ phase.Started }
-        ensures row { movement_row result ≡ in_phase phase.Mid (movement_row self) }
+        ensures plan { plan_of result ≡ plan_of self }
         ensures phase { phase_of result ≡ phase.Mid }
     {
         match self {
@@ -65,10 +71,10 @@ impl Running {
         }
     }
 
-    /// Finishes a movement that is at `Mid`, and returns its row.
-    pub fn finish(self) -> SeqRow
+    /// Finishes a movement that is at `Mid`, and returns its plan.
+    pub fn finish(self) -> Plan
         requires { phase_of self ≡ phase.Mid }
-        ensures { result ≡ movement_row self }
+        ensures { result ≡ plan_of self }
     {
         match self {
             Running::Mid(seq) => seq.finish(),
@@ -79,7 +85,7 @@ impl Running {
     /// Takes a movement from `Mid` back to `Started`.
     pub fn bring_back(self) -> Running
         requires { phase_of self ≡ phase.Mid }
-        ensures row { movement_row result ≡ in_phase phase.Started (movement_row self) }
+        ensures plan { plan_of result ≡ plan_of self }
         ensures phase { phase_of result ≡ phase.Started }
     {
         match self {
@@ -88,10 +94,10 @@ impl Running {
         }
     }
 
-    /// Gives up a movement that isn't at `Mid`, and returns its row.
-    pub fn give_up(self) -> SeqRow
+    /// Gives up a movement that isn't at `Mid`, and returns its plan.
+    pub fn give_up(self) -> Plan
         requires { is_mid (phase_of self) ≡ false }
-        ensures { result ≡ movement_row self }
+        ensures { result ≡ plan_of self }
     {
         match self {
             Running::Prepared(seq) => seq.cancel(),
@@ -102,7 +108,7 @@ impl Running {
 
     /// Consumes the value of a movement at any phase. The image doesn't change.
     pub fn close(self) {
-        let _row = match self {
+        let _plan = match self {
             Running::Prepared(seq) => seq.cancel(),
             Running::Started(seq) => seq.cancel(),
             Running::Mid(seq) => seq.finish(),
@@ -110,14 +116,29 @@ impl Running {
     }
 }
 
-/// Adds the value of a movement. If memory runs out, the values are unchanged.
-fn push_resumed(running: &mut Vec<Running>, row: &SeqRow) -> Result<(), Memory>
-    ensures rows { OnOk result (map movement_row running.new.items
-        ≡ map movement_row running.old.items ++ row.now ∷ []) }
-    ensures phases { OnOk result (map phase_of running.new.items
-        ≡ map phase_of running.old.items ++ row.now.phase ∷ []) }
+/// The value of a movement of an image, with the plan that it has there. Fails only if memory runs out.
+fn resumed<L: Ledger>(
+    alloc: Global,
+    image: &Image,
+    row: &SeqRow,
+    walks: &mut Steps<L>,
+) -> Result<Running, Memory>
+    requires sound { IsSound image.now }
+    requires movement { Contains image.now.sequences row.now }
+    ensures row { IfOk result (λ movement. movement_row movement ≡ row.now) }
+    ensures deltas { IfOk result (λ movement. HasDeltas image.now (plan_of movement)) }
 {
-    match running.push(Running::resume(row.copy()?)) {
+    match plan(alloc, image, at_phase(row, Phase::Prepared)?, walks) {
+        Ok(plan) => Ok(Running::resume(plan, row.phase)),
+        Err((_row, memory)) => Err(memory),
+    }
+}
+
+/// Adds the value of a movement. If memory runs out, the values are unchanged.
+fn push(running: &mut Vec<Running>, movement: Running) -> Result<(), Memory>
+    ensures { OnOk result (running.new.items ≡ running.old.items ++ movement ∷ []) }
+{
+    match running.push(movement) {
         Ok(()) => Ok(()),
         Err(failed) => {
             failed.value.close();
@@ -126,25 +147,37 @@ fn push_resumed(running: &mut Vec<Running>, row: &SeqRow) -> Result<(), Memory>
     }
 }
 
-/// Adds the values of movements, in their order. If memory runs out, some of them may be added.
-fn push_all(running: &mut Vec<Running>, rows: &[SeqRow]) -> Result<(), Memory>
-    ensures rows { OnOk result (map movement_row running.new.items
-        ≡ map movement_row running.old.items ++ rows.now) }
-    ensures phases { OnOk result (map phase_of running.new.items
-        ≡ map phase_of running.old.items ++ map (λ s. s.phase) rows.now) }
+/// Adds the values of the movements of an image, in their order. If memory runs out, some of them may be added.
+fn push_all<L: Ledger>(
+    alloc: Global,
+    image: &Image,
+    running: &mut Vec<Running>,
+    blank: Blank,
+) -> Result<(), Memory>
+    requires name { blank.name ≡ L.name }
+    requires parts { blank.parts ≡ L.parts }
+    requires some { 0 < blank.parts }
+    requires sound { IsSound image.now }
+    requires empty { running.old.items ≡ [] }
+    ensures running { OnOk result (IsRunning image.now.sequences running.new.items) }
+    ensures deltas { OnOk result (HaveDeltas image.now running.new.items) }
 {
-    for row in rows {
-        push_resumed(running, row)?;
+    let mut walks = Steps::<L>::begin(blank);
+    for row in image.sequences.as_slice() {
+        push(running, resumed(alloc, image, row, &mut walks)?)?;
     }
     Ok(())
 }
 
-/// The values of movements, in their order. Fails only if memory runs out.
-pub fn resume_all(alloc: Global, rows: &[SeqRow]) -> Result<Vec<Running>, Memory>
-    ensures { IfOk result (λ running. IsRunning rows.now running.items) }
+/// The values of the movements of an image, in their order. Walks are counted on a counter of its own. Fails only if
+/// memory runs out.
+pub fn resume_all(alloc: Global, image: &Image) -> Result<Vec<Running>, Memory>
+    requires { IsSound image.now }
+    ensures running { IfOk result (λ running. IsRunning image.now.sequences running.items) }
+    ensures deltas { IfOk result (λ running. HaveDeltas image.now running.items) }
 {
     let mut running = Vec::new(alloc);
-    match push_all(&mut running, rows) {
+    match push_all::<Brand>(alloc, image, &mut running, Blank::new(1)) {
         Ok(()) => Ok(running),
         Err(memory) => {
             close_all(running);

@@ -1,1 +1,2 @@
 pub mod NodeSets
+pub mod IdLists

@@ -1,6 +1,14 @@
-//! The plan of a movement: its ranges, where it may change placements, and the ranges of the other movements.
+//! The plan of a movement: its ranges, the nodes that it adds to the reads and writes or takes from them at each token,
+//! and the ranges of the other movements.
 #![tactic(auto)]
 
+pub mod book;
+pub mod delta;
+pub mod delta_row;
+mod joining;
 pub mod plan;
 
+pub use book::{DeltaBook, DeltaBookRow};
+pub use delta::Delta;
+pub use delta_row::{DeltaRow, DeltaRows};
 pub use plan::Plan;

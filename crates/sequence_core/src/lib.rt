@@ -4,5 +4,5 @@
 mod phase;
 mod seq;
 
-pub use phase::{AtPhase, Mid, Prepared, Started};
+pub use phase::{Mid, Prepared, Started};
 pub use seq::Seq;

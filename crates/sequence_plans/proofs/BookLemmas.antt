@@ -41,7 +41,7 @@ pub each_within : (image : Image) (i : ℕ) (s : SeqRow) → IsSound image → i
 each_within image i s sound within is = all_at (MovesWithin image) image.sequences i s (moved_within image sound) within is
 
 -- and so does one that is put among them
-own_put : (P : SeqRow → Type 0) (s : SeqRow) (sequences : List SeqRow) → AllByRecursion P (put by_node s sequences) → P s
+pub own_put : (P : SeqRow → Type 0) (s : SeqRow) (sequences : List SeqRow) → AllByRecursion P (put by_node s sequences) → P s
 own_put P s [] all = all.0
 own_put P s (q ∷ sequences) all = by (by_node s q) all (own_put P s sequences)
   where

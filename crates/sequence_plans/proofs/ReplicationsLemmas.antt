@@ -6,7 +6,7 @@ use Rattle.cluster_terms.proofs.ReplicationLemmas.{same_replication-exact}
 use Rattle.cluster_terms.specs.Replication.{same_replication}
 use Rattle.cluster_terms.specs.declared.replication.Replication.{Replication}
 use Rattle.transformations.specs.declared.keyspace.KeyspaceRow.{KeyspaceRow}
-use Rattle.sequence_plans.specs.Plan.{replications_of}
+use Rattle.sequence_plans.specs.Replications.{replications_of}
 
 -- whether a replication is among some
 abbrev pub has : List Replication → Replication → Bool

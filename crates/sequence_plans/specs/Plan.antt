@@ -1,9 +1,7 @@
--- Plans of movements: their ranges, and those of the movements in flight beside them.
-use Rattle.std.specs.Prelude.{◌≡◌, not, List, [], ◌∷◌, map, filter}
+-- Plans of movements: their ranges, those of the movements in flight beside them, and their deltas.
+use Rattle.std.specs.Prelude.{◌≡◌, List, [], ◌∷◌, map}
 use Rattle.std.specs.List.{AllByRecursion}
 use Rattle.cluster_terms.specs.Arc.{IsToken}
-use Rattle.cluster_terms.specs.Replication.{same_replication}
-use Rattle.cluster_terms.specs.declared.replication.Replication.{Replication}
 use Rattle.token_ring.specs.Ranges.{AreCutOut, HaveTokens}
 use Rattle.token_ring.specs.declared.book.LockRow.{LockRow}
 use Rattle.token_ring.specs.declared.book.RangeRow.{RangeRow}
@@ -11,14 +9,10 @@ use Rattle.transformations.specs.Ranges.{in_ranges}
 use Rattle.transformations.specs.Rings.{cuts}
 use Rattle.transformations.specs.Steps.{others}
 use Rattle.transformations.specs.declared.image.Image.{Image}
-use Rattle.transformations.specs.declared.keyspace.KeyspaceRow.{KeyspaceRow}
 use Rattle.transformations.specs.declared.sequence.SeqRow.{SeqRow}
 use Rattle.placement_deltas.specs.declared.plan.Plan.{Plan}
-
--- the replications of these keyspaces, each once, in the order in which they first appear
-abbrev pub replications_of : List KeyspaceRow → List Replication
-replications_of [] = []
-replications_of (k ∷ ks) = k.replication ∷ filter (λ r. not (same_replication k.replication r)) (replications_of ks)
+use Rattle.sequence_plans.specs.Deltas.{HasDeltas}
+use Rattle.sequence_plans.specs.Replications.{replications_of}
 
 -- the ranges of a movement under each replication of the keyspaces; the tokens at which they begin and end are cuts
 pub record IsBook (image : Image) (s : SeqRow) (book : List RangeRow) : Type 0 where
@@ -37,10 +31,12 @@ AreLocks image [] (row ∷ rows) = ⊥
 AreLocks image (s ∷ sequences) [] = ⊥
 AreLocks image (s ∷ sequences) (row ∷ rows) = IsLockRow image s row × AreLocks image sequences rows
 
--- the plan of a movement, in the image that has it: its row, the cuts, its ranges, and those of the other movements
+-- the plan of a movement, in the image that has it: its row, the cuts, its ranges, those of the other movements, and its
+-- deltas
 pub record IsPlan (image : Image) (s : SeqRow) (plan : Plan) : Type 0 where
   pub row : plan.row ≡ s
   pub cuts : plan.cuts ≡ cuts image
   pub tokens : AllByRecursion IsToken plan.cuts
   pub ranges : IsBook image s plan.ranges
   pub wide : AreLocks image (others image.sequences s.node) plan.wide
+  pub deltas : HasDeltas image plan

@@ -1,17 +1,22 @@
 ghost use Rattle.std.specs.Prelude.{◌≡◌, IfOk};
+ghost use Rattle.std.specs.List.{Contains};
 ghost use Rattle.token_ring.specs.Ranges.{AreCutOut, HaveTokens};
 ghost use Rattle.transformations.specs.Ranges.{in_ranges, moved_by};
-ghost use Rattle.transformations.specs.Rings.{cuts};
+ghost use Rattle.transformations.specs.Rings as spec;
 ghost use Rattle.transformations.specs.Steps.{others};
 ghost use Rattle.transformations.specs.Valid.{IsSound};
 ghost use Rattle.sequence_plans.specs.Basis.{IsBasis, MovesWithin};
+ghost use Rattle.sequence_plans.specs.Deltas.{AreStepDeltas};
 ghost use Rattle.sequence_plans.specs.Plan.{AreLocks, IsBook};
+ghost use Rattle.sequence_plans.specs.Replications.{replications_of};
 
+use crate::deltas::DeltaBooks;
 use crate::replications::{Replications, replications_of};
-use cluster_terms::{Memory, NodeId, PairList, Replication, TryCopy};
+use cluster_terms::{Memory, NodeId, PairList, Replication, Steps, Token, TryCopy};
 use node_directory::Directory;
 use ring_reach::reached;
 use std::alloc::Global;
+use std::sync::ledger::Ledger;
 use token_ring::{LockRow, LockRows, RangeBook, RangeList, RangeRow, Ring};
 use transformations::{Image, SeqRow, fixed_ring, widest};
 
@@ -59,7 +64,7 @@ impl<'a> Basis<'a> {
         requires within { MovesWithin self.now.image.now row.now }
         ensures ranges { IfOk result
             (HaveTokens (in_ranges self.now.image.now replication.now row.now)) }
-        ensures bounds { IfOk result (λ ranges. AreCutOut (cuts self.now.image.now) ranges) }
+        ensures bounds { IfOk result (λ ranges. AreCutOut (spec.cuts self.now.image.now) ranges) }
     {
         let moved = moved_by(row)?;
         reached(
@@ -86,6 +91,34 @@ impl<'a> Basis<'a> {
             })?;
         }
         Ok(book)
+    }
+
+    /// The deltas of a movement, under the replication of each row of its ranges. `Err` means that memory ran out. Two
+    /// walks for each row between cuts that is in its ranges, under each replication.
+    pub fn deltas_of<L: Ledger>(
+        &self,
+        row: &SeqRow,
+        ranges: &[RangeRow],
+        cuts: &[Token],
+        walks: &mut Steps<L>,
+    ) -> Result<DeltaBooks, Memory>
+        requires basis { IsBasis self.now }
+        requires sound { IsSound self.now.image.now }
+        requires moves { Contains self.now.image.now.sequences row.now }
+        requires ranges { IsBook self.now.image.now row.now ranges.now }
+        requires cuts { cuts.now ≡ spec.cuts self.now.image.now }
+        ensures { IfOk result (λ books. AreStepDeltas self.now.image.now row.now
+            (replications_of self.now.image.now.keyspaces) books.gain books.swap books.lose) }
+    {
+        DeltaBooks::of_movement(
+            self.alloc,
+            self.image,
+            row,
+            &self.directory,
+            ranges,
+            cuts,
+            walks,
+        )
     }
 
     /// The ranges of all movements, except the movement of a node. `Err` means that memory ran out.

@@ -2,7 +2,12 @@
 #![tactic(auto)]
 
 mod basis;
+mod deltas;
+mod movement_rings;
+pub mod placer;
 mod planning;
 mod replications;
+mod row_sets;
 
+pub use placer::Placer;
 pub use planning::plan;

@@ -1,7 +1,7 @@
 ghost use Rattle.std.specs.Prelude.{◌≡◌, IfOk};
 ghost use Rattle.std.specs.List.{list_any};
 ghost use Rattle.cluster_terms.specs.Replication.{same_replication};
-ghost use Rattle.sequence_plans.specs.Plan.{replications_of};
+ghost use Rattle.sequence_plans.specs.Replications.{replications_of};
 
 use cluster_terms::{Memory, Replication, SmallList, TryCopy};
 use std::alloc::Global;

@@ -2,68 +2,41 @@
 
 ghost use Rattle.std.specs.Prelude.{◌≡◌, ◌<◌, IfOk};
 ghost use Rattle.transformations.specs.Rings as spec;
-ghost use Rattle.tcm_session.specs.Placers.{IsPlacing, PlacesOn, placed_by};
+ghost use Rattle.sequence_plans.specs.Placers.{placed_by};
+ghost use Rattle.tcm_session.specs.Placers.{IsPlacing};
 ghost use Rattle.tcm_session.specs.Rings.{AreRings};
 
 use crate::rings::Rings;
-use cluster_terms::{Memory, Replication, Rf, Steps, Token};
+use cluster_terms::{Memory, Replication, Steps, Token};
 use node_directory::Directory;
 use node_sets::NodeSet;
+use sequence_plans::Placer;
 use std::alloc::Global;
 use std::marker::Brand;
 use std::sync::ledger::{Blank, Ledger};
-use token_ring::Ring;
-use topology_strategy::CountedRing;
 use transformations::Image;
 
-/// A ring, with the strategy that places replicas on it.
-#[derive(Drop)]
-pub enum Placer<'a> {
-    /// SimpleStrategy, with its factor.
-    Simple(&'a Ring, Rf),
-    /// NetworkTopologyStrategy, with its datacenters counted.
-    Topology(CountedRing<'a>),
+/// The replicas of a placer at a token. The steps of the walk aren't counted.
+fn place(alloc: Global, placer: &Placer, at: Token) -> Result<NodeSet, Memory>
+    ensures { IfOk result (λ nodes. nodes ≡ placed_by placer.now at) }
+{
+    walked::<Brand>(alloc, placer, at, Blank::new(1))
 }
 
-impl<'a> Placer<'a> {
-    /// The placer of a replication on a ring.
-    fn new(
-        alloc: Global,
-        ring: &'a Ring,
-        dir: &'a Directory,
-        replication: &'a Replication,
-    ) -> Result<Placer<'a>, Memory>
-        ensures { IfOk result (PlacesOn ring.now dir.now.rows replication.now) }
-    {
-        match replication {
-            Replication::Simple(rf) => Ok(Placer::Simple(ring, *rf)),
-            Replication::Topology(factors) => {
-                let counted = CountedRing::new(alloc, ring, dir, factors)?;
-                Ok(Placer::Topology(counted))
-            }
-        }
-    }
-
-    /// The replicas at a token. The steps of the walk aren't counted.
-    fn place(&self, alloc: Global, at: Token) -> Result<NodeSet, Memory>
-        ensures { IfOk result (λ nodes. nodes ≡ placed_by self.now at) }
-    {
-        self.walked::<Brand>(alloc, at, Blank::new(1))
-    }
-
-    /// The replicas at a token, with a counter of steps of its own for the walk.
-    fn walked<L: Ledger>(&self, alloc: Global, at: Token, blank: Blank) -> Result<NodeSet, Memory>
-        requires name { blank.name ≡ L.name }
-        requires parts { blank.parts ≡ L.parts }
-        requires some { 0 < blank.parts }
-        ensures { IfOk result (λ nodes. nodes ≡ placed_by self.now at) }
-    {
-        let mut walks = Steps::<L>::begin(blank);
-        match self {
-            Placer::Simple(ring, rf) => simple_strategy::replicas(alloc, ring, *rf, at, &mut walks),
-            Placer::Topology(counted) => counted.replicas(at, &mut walks),
-        }
-    }
+/// The replicas of a placer at a token, with a counter of steps of its own for the walk.
+fn walked<L: Ledger>(
+    alloc: Global,
+    placer: &Placer,
+    at: Token,
+    blank: Blank,
+) -> Result<NodeSet, Memory>
+    requires name { blank.name ≡ L.name }
+    requires parts { blank.parts ≡ L.parts }
+    requires some { 0 < blank.parts }
+    ensures { IfOk result (λ nodes. nodes ≡ placed_by placer.now at) }
+{
+    let mut walks = Steps::<L>::begin(blank);
+    placer.place(alloc, at, &mut walks)
 }
 
 /// The placers of the rings of an image.
@@ -107,7 +80,7 @@ impl<'a> Placers<'a> {
         requires { IsPlacing image.now replication.now self.now }
         ensures { IfOk result (λ nodes. nodes ≡ spec.reads_at image.now replication.now at) }
     {
-        self.read.place(alloc, at)
+        place(alloc, &self.read, at)
     }
 
     /// The write replicas at a token: the replicas on the ring before the movements and on the ring that writes see.
@@ -123,8 +96,8 @@ impl<'a> Placers<'a> {
         requires { IsPlacing image.now replication.now self.now }
         ensures { IfOk result (λ nodes. nodes ≡ spec.writes_at image.now replication.now at) }
     {
-        let before = self.low.place(alloc, at)?;
-        let after = self.high.place(alloc, at)?;
+        let before = place(alloc, &self.low, at)?;
+        let after = place(alloc, &self.high, at)?;
         before.union(&after)
     }
 }

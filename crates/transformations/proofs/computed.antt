@@ -2,3 +2,4 @@
 pub mod MeetingRows
 pub mod MovementRows
 pub mod Rows
+pub mod StepRows

@@ -1,4 +1,7 @@
 pub mod Counted
+pub mod CutSteps
+pub mod DeltaSteps
+pub mod Deltas
 pub mod History
 pub mod Log
 pub mod Meeting

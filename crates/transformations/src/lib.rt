@@ -22,11 +22,11 @@ pub use image::Image;
 pub use keyspace::{KeyspaceRow, KeyspaceRows};
 pub use refusal::Refusal;
 pub use refusals::early_refusal;
-pub use rings::{RingKind, cuts, fixed_ring, ring_with, widest};
+pub use rings::{RingKind, cuts, fixed_ring, ring_with, ring_with_movement, widest};
 pub use sequence::{Goal, Kind, Phase, SeqRow, SeqRows};
 pub use state::{NodeState, node_state, state_of};
 pub use steps::movement_of;
 pub use validity::{
-    adjacent_epochs_meet, histories_are_valid, ids_act_once, locked_ranges_overlap,
-    movements_are_apart,
+    adjacent_epochs_meet, cuts_follow_movements, deltas_act, deltas_persist, histories_are_valid,
+    ids_act_once, locked_ranges_overlap, movements_are_apart, rows_stand_for_tokens,
 };

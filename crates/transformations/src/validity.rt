@@ -1,19 +1,23 @@
 //! Facts about the images that commands lead to.
 
-ghost use Rattle.std.specs.Prelude.{◌≡◌, ◌++◌, ◌<◌, ◌≤◌, ℕ, ℤ, true, false, [], List, Some, None, Ok, IsTrue, length, nat_eq};
+ghost use Rattle.std.specs.Prelude.{◌≡◌, ◌+◌, ◌++◌, ◌<◌, ◌≤◌, ℕ, ℤ, true, false, [], List, Some, None, Ok, IsTrue, length, nat_eq};
 ghost use Rattle.std.specs.List.{All, AllByRecursion, Any, Contains, list_any};
 ghost use Rattle.std.specs.List.Sorted.{IsStrictlySortedBy};
-ghost use Rattle.std.specs.Ordering.{int_cmp};
+ghost use Rattle.std.specs.Ordering.{int_cmp, int_eq};
 ghost use Rattle.std.specs.Set.{is_member};
 ghost use Rattle.cluster_terms.specs.Arc.{IsToken};
 ghost use Rattle.cluster_terms.specs.Quorum.{AreSome, Meet, Sets, read_need, write_need};
 ghost use Rattle.cluster_terms.specs.Replication.{total_of};
 ghost use Rattle.cluster_terms.specs.Row.{last_token};
+ghost use Rattle.cluster_terms.specs.declared.replication.Replication.{Replication};
 ghost use Rattle.cluster_terms.specs.declared.token.RightEnd.{RightEnd};
-ghost use Rattle.transformations.specs.History.{IsHistory, empty_image, image_after, is_command, most_epochs, next_image};
+ghost use Rattle.transformations.specs.CutSteps.{CutsFollow, SameAcross};
+ghost use Rattle.transformations.specs.DeltaSteps.{ChangesByDeltas};
+ghost use Rattle.transformations.specs.Deltas.{KeepsDeltas, LivesOn, RowsStandForDeltas, gained_at, lives_through, lost_at};
+ghost use Rattle.transformations.specs.History.{IsHistory, are_accepted, empty_image, image_after, is_command, most_epochs, next_image};
 ghost use Rattle.transformations.specs.Log.{IsLog, commit_of};
 ghost use Rattle.transformations.specs.Meeting.{HaveReplications, QuorumsExistTogether, QuorumsMeet, ReadsAreWritten, makes_movement_epoch};
-ghost use Rattle.transformations.specs.Ranges.{AreApart, AreOutcomes, ArePlacedByOutcomes, IsLockedBy, KeepsRanges, PlacedByRanges, RowsStandInRanges, first_shared, in_both};
+ghost use Rattle.transformations.specs.Ranges.{AreApart, AreOutcomes, ArePlacedByOutcomes, IsLockedBy, KeepsRanges, PlacedByRanges, RowsStandInRanges, first_shared, in_both, in_ranges};
 ghost use Rattle.transformations.specs.Refusals.{IsLockedOf, locked, refusal_of};
 ghost use Rattle.transformations.specs.Rings.{RowsStandForTokens, cuts, reads_at};
 ghost use Rattle.transformations.specs.Steps.{others};
@@ -64,6 +68,47 @@ pub fn rows_stand_for_tokens()
     ensures ascend { (image : Image) → IsStrictlySortedBy int_cmp (cuts image) }
     ensures rows { (image : Image) → RowsStandForTokens image }
     ensures ranges { (image : Image) → IsSound image → RowsStandInRanges image }
+{}
+
+/// What a movement gains and loses at a token doesn't change once it is prepared. If a command is accepted in a valid
+/// image, each movement that goes on keeps its deltas, at each token and under each keyspace. The same holds of a list
+/// of accepted commands, if the movement lives through them and there are epochs left for them.
+///
+/// In a sound image, a movement gains and loses nothing at tokens outside its ranges. In every image, the placement
+/// without a movement and the placement with it are the same at all tokens of a row between cuts.
+pub fn deltas_persist()
+    ensures step { (image : Image) (c : Command) → IsValid image → IsTrue (is_command c)
+        → refusal_of image c ≡ None → KeepsDeltas image (next_image image c) }
+    ensures kept { (image : Image) (s : SeqRow) (commands : List Command) → IsValid image
+        → Contains image.sequences s → IsTrue (are_accepted image commands)
+        → image.epoch + length commands ≤ most_epochs → IsTrue (lives_through image s.node commands)
+        → LivesOn image (image_after image commands) s }
+    ensures outside { (image : Image) (r : Replication) (s : SeqRow) (x : ℤ) → IsSound image
+        → Contains image.sequences s → in_ranges image r s x ≡ false
+        → (gained_at image r s x ≡ []) × (lost_at image r s x ≡ []) }
+    ensures rows { (image : Image) → RowsStandForDeltas image }
+{}
+
+/// The deltas of movements act. If a command makes a movement epoch and is accepted in a valid image, it changes the
+/// nodes that are read and the nodes that are written by the deltas of its movement, at each token and under each
+/// keyspace. A start adds the nodes gained to the writes. The step half way adds them to the reads, and removes the
+/// nodes lost from the reads. A finish removes the nodes lost from the writes. A cancel undoes the last step, if one
+/// was taken. No other such command changes what is read or written.
+pub fn deltas_act()
+    ensures acts { (image : Image) (c : Command) → IsValid image → IsTrue (is_command c)
+        → refusal_of image c ≡ None → makes_movement_epoch c ≡ true → ChangesByDeltas image c }
+{}
+
+/// How the cuts change if a command makes a movement epoch and is accepted in a sound image. A prepare adds the tokens
+/// that its movement puts in. A finish adds no cut, and removes only cuts at tokens of its movement. A cancel at
+/// PREPARED or STARTED does the same. No other such command changes the cuts.
+///
+/// In every image, the reads and the writes at a token that is no cut are those at the token after it.
+pub fn cuts_follow_movements()
+    ensures follow { (image : Image) (c : Command) → IsSound image → IsTrue (is_command c)
+        → refusal_of image c ≡ None → makes_movement_epoch c ≡ true → CutsFollow image c }
+    ensures across { (image : Image) (r : Replication) (t : ℤ) → is_member int_eq (cuts image) t ≡ false
+        → SameAcross image r t }
 {}
 
 /// The quorums of QUORUM, and of LOCAL_QUORUM in each datacenter, in each valid image, at each token and under each

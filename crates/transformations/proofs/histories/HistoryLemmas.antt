@@ -46,12 +46,12 @@ epoch_after h = let all = epoch_after_from empty_image h in omega arith
 -- ---- commands that are accepted
 
 -- the first command may be one and isn't refused, and the others are accepted after it
-record IsAcceptedFirst (image : Image) (c : Command) (commands : List Command) : Type 0 where
-  right : is_command c ≡ true
-  unrefused : refusal_of image c ≡ None
-  rest : are_accepted (next_image image c) commands ≡ true
+pub record IsAcceptedFirst (image : Image) (c : Command) (commands : List Command) : Type 0 where
+  pub right : is_command c ≡ true
+  pub unrefused : refusal_of image c ≡ None
+  pub rest : are_accepted (next_image image c) commands ≡ true
 
-accepted_first : (image : Image) (c : Command) (commands : List Command) → are_accepted image (c ∷ commands) ≡ true → IsAcceptedFirst image c commands
+pub accepted_first : (image : Image) (c : Command) (commands : List Command) → are_accepted image (c ∷ commands) ≡ true → IsAcceptedFirst image c commands
 accepted_first image c commands h = by (is_command c) refl (refusal_of image c) refl (are_accepted (next_image image c) commands) refl h
   where
     by : (a : Bool) → is_command c ≡ a → (o : Option Refusal) → refusal_of image c ≡ o → (b : Bool) → are_accepted (next_image image c) commands ≡ b

@@ -151,7 +151,7 @@ module _ (phase : Phase) (n : ℕ) where
       by true = refl
       by false = refl
 
-  phase_in_pairs : (s : SeqRow) → (at_phase phase n s).in_pairs ≡ s.in_pairs
+  pub phase_in_pairs : (s : SeqRow) → (at_phase phase n s).in_pairs ≡ s.in_pairs
   phase_in_pairs s = by (s.node == n)
     where
       by : (b : Bool) → (let changed : SeqRow = record s { phase = phase } in if b then changed else s).in_pairs ≡ s.in_pairs

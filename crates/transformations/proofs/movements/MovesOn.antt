@@ -8,16 +8,16 @@ use Rattle.std.specs.declared.cmp.Ordering.TheVariants.{Less}
 use Rattle.cluster_terms.proofs.AscendingLemmas.{All-put}
 use Rattle.cluster_terms.specs.Ascending.{put}
 use Rattle.transformations.proofs.lists.ListLemmas.{all_both, all_map, all_none, all_weaker, part_all_of, part_filter}
-use Rattle.transformations.proofs.movements.MovementLemmas.{phase_moved, phase_node}
+use Rattle.transformations.proofs.movements.MovementLemmas.{phase_in_pairs, phase_node, phase_out_pairs}
+use Rattle.transformations.specs.Deltas.{MovesSame}
 use Rattle.transformations.specs.Orders.{by_node}
-use Rattle.transformations.specs.Ranges.{moved_by}
 use Rattle.transformations.specs.Steps.{at_phase, others}
 use Rattle.transformations.specs.declared.sequence.Phase.{Phase}
 use Rattle.transformations.specs.declared.sequence.SeqRow.{SeqRow}
 
 -- two movements move the same pairs where they are of one node
 abbrev pub MoveAlike : SeqRow → SeqRow → Type 0
-MoveAlike s q = (q.node == s.node) ≡ true → moved_by q ≡ moved_by s
+MoveAlike s q = (q.node == s.node) ≡ true → MovesSame s q
 
 -- each movement before moves the same pairs as those of its node after
 abbrev pub MoveOn : List SeqRow → List SeqRow → Type 0
@@ -32,7 +32,7 @@ pub on_same : (sequences : List SeqRow) → IsStrictlySortedBy by_node sequences
 unfolding IsStrictlySortedBy
 on_same [] up = tt
 on_same (s ∷ sequences) up = (
-  (λ same. refl, all_weaker (λ (q : SeqRow). by_node s q ≡ Less) (MoveAlike s) (λ q less same. absurd (above s.node q.node less same)) sequences up.0),
+  (λ same. record { outs = refl; ins = refl }, all_weaker (λ (q : SeqRow). by_node s q ≡ Less) (MoveAlike s) (λ q less same. absurd (above s.node q.node less same)) sequences up.0),
   all_both (λ (q : SeqRow). by_node s q ≡ Less) (λ (q : SeqRow). AllByRecursion (MoveAlike q) sequences) (λ (q : SeqRow). AllByRecursion (MoveAlike q) (s ∷ sequences))
       (λ q less rest. (λ same. absurd (below s.node q.node less same), rest)) sequences up.0 (on_same sequences up.1),
 )
@@ -48,8 +48,11 @@ pub on_phase : (phase : Phase) (n : ℕ) (sequences : List SeqRow) → IsStrictl
 on_phase phase n sequences up =
     carried sequences sequences (map (at_phase phase n) sequences)
     (λ s all. all_map (MoveAlike s) (at_phase phase n) sequences
-    (all_weaker (MoveAlike s) (λ (q : SeqRow). MoveAlike s (at_phase phase n q)) (λ q alike same. phase_moved phase n q ∙ alike (ap (λ m. m == s.node) (sym (phase_node phase n q)) ∙ same)) sequences all))
+    (all_weaker (MoveAlike s) (λ (q : SeqRow). MoveAlike s (at_phase phase n q)) (λ q alike same. moves_on q (alike (ap (λ m. m == s.node) (sym (phase_node phase n q)) ∙ same))) sequences all))
     (on_same sequences up)
+  where
+    moves_on : {s : SeqRow} (q : SeqRow) → MovesSame s q → MovesSame s (at_phase phase n q)
+    moves_on q m = record { outs = phase_out_pairs phase n q ∙ m.outs; ins = phase_in_pairs phase n q ∙ m.ins }
 
 pub on_others : (n : ℕ) (sequences : List SeqRow) → IsStrictlySortedBy by_node sequences → MoveOn sequences (others sequences n)
 on_others n sequences up = carried sequences sequences (others sequences n) (λ s. part_all_of (MoveAlike s) (part_filter (λ (q : SeqRow). not (q.node == n)) sequences)) (on_same sequences up)

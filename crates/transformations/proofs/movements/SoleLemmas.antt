@@ -3,12 +3,13 @@ use Rattle.std.proofs.Common.{◌≡◌, ℕ, Bool, true, false, cond, true≢fa
 use Rattle.std.proofs.lemmas.Bool.{or_parts}
 use Rattle.std.proofs.lemmas.Bool.Decides.{nat_tests}
 use Rattle.std.proofs.lemmas.Cmp.{ranked}
+use Rattle.std.proofs.lemmas.List.Elements.{All-contains, All-from_recursion}
 use Rattle.std.proofs.lemmas.Option.{none-some}
-use Rattle.std.specs.List.{AllByRecursion, IsDistinct, list_any}
+use Rattle.std.specs.List.{AllByRecursion, Contains, IsDistinct, list_any}
 use Rattle.std.specs.List.Sorted.{IsStrictlySortedBy}
 use Rattle.std.specs.Ordering.{nat_cmp}
 use Rattle.std.specs.declared.cmp.Ordering.TheVariants.{Less}
-use Rattle.transformations.proofs.lists.ListLemmas.{all_found, all_weaker, filter_none}
+use Rattle.transformations.proofs.lists.ListLemmas.{all_both, all_found, all_weaker, filter_none}
 use Rattle.transformations.specs.Orders.{by_node}
 use Rattle.transformations.specs.declared.sequence.SeqRow.{SeqRow}
 
@@ -71,6 +72,21 @@ found_by_node test (q ∷ sequences) s up found = by (test q) found (found_by_no
         ap (λ b. cond b (Some q) (find (λ (r : SeqRow). r.node == s.node) sequences)) (ap (λ (r : SeqRow). r.node == s.node) is ∙ itself s.node) ∙ ap (λ r. Some r) is
     by false found rest =
         ap (λ b. cond b (Some q) (find (λ (r : SeqRow). r.node == s.node) sequences)) (ascends_before q.node s.node (all_found (λ r. by_node q r ≡ Less) test sequences s found up.0)) ∙ rest found
+
+-- each movement is found by its node
+pub each_found : (sequences : List SeqRow) → IsStrictlySortedBy by_node sequences → AllByRecursion (λ s. find (λ (q : SeqRow). q.node == s.node) sequences ≡ Some s) sequences
+unfolding IsStrictlySortedBy
+each_found [] up = tt
+each_found (s ∷ sequences) up = (
+  ap (λ b. cond b (Some s) (find (λ (r : SeqRow). r.node == s.node) sequences)) (itself s.node),
+  all_both (λ q. by_node s q ≡ Less) (λ q. find (λ (r : SeqRow). r.node == q.node) sequences ≡ Some q) (λ q. find (λ (r : SeqRow). r.node == q.node) (s ∷ sequences) ≡ Some q)
+      (λ q less found. ap (λ b. cond b (Some s) (find (λ (r : SeqRow). r.node == q.node) sequences)) (ascends_before s.node q.node less) ∙ found) sequences up.0 (each_found sequences up.1),
+)
+
+pub found_own : (sequences : List SeqRow) (s : SeqRow) → IsStrictlySortedBy by_node sequences → Contains sequences s → find (λ (q : SeqRow). q.node == s.node) sequences ≡ Some s
+found_own sequences s up there =
+    let P : SeqRow → Type 0 = λ r. find (λ (q : SeqRow). q.node == r.node) sequences ≡ Some r in
+    All-contains P sequences s (All-from_recursion P sequences (each_found sequences up)) there
 
 -- it is the only one of its node
 pub filter_own : (sequences : List SeqRow) (s : SeqRow) → IsStrictlySortedBy by_node sequences → find (λ (q : SeqRow). q.node == s.node) sequences ≡ Some s → filter (λ (q : SeqRow). q.node == s.node) sequences ≡ s ∷ []

@@ -1,10 +1,11 @@
 -- The rings of a sound image: no token stands twice in any of them.
 use Rattle.std.proofs.Common.{◌≡◌, ℕ, Bool, true, false, true≢false, not, ◌&&◌, ◌||◌, ◌==◌, List, [], ◌∷◌, ◌++◌, filter, refl, sym, ap, ◌∙◌, subst, append_assoc, arith}
 use Rattle.std.proofs.lemmas.Bool.{or_parts}
+use Rattle.std.proofs.lemmas.List.{append-nil}
 use Rattle.std.proofs.lemmas.List.Elements.{filter-append}
 use Rattle.std.proofs.lemmas.List.Folds.{list_any-append}
 use Rattle.std.proofs.lemmas.Map.Keys.{IsDistinct-head}
-use Rattle.std.specs.List.{AllByRecursion, IsDistinct, list_any}
+use Rattle.std.specs.List.{AllByRecursion, Contains, IsDistinct, list_any}
 use Rattle.std.specs.Ordering.{int_eq}
 use Rattle.cluster_terms.proofs.PairLemmas.{same_pair-refl}
 use Rattle.cluster_terms.specs.Pair.{has_pair, same_pair, tokens_of, without_pairs}
@@ -15,6 +16,7 @@ use Rattle.transformations.proofs.movements.ExchangeLemmas.{IsExchange, exchange
 use Rattle.transformations.proofs.lists.FilterLemmas.{filter_alike, filter_both}
 use Rattle.transformations.proofs.lists.ListLemmas.{all_both, all_members, all_pi, all_weaker, exchanged, filter_all, filter_none, nothing, part_all, part_all_of, part_append, part_distinct, part_filter, part_flat, part_front, part_map, part_without_pairs}
 use Rattle.transformations.proofs.movements.OnceLemmas.{AreOnce, both_take, first_alone, later_once, not_out, once_by_node}
+use Rattle.transformations.proofs.movements.SoleLemmas.{filter_own, found_own}
 use Rattle.transformations.proofs.pairs.OwnedLemmas.{has_filter, owned_without, without}
 use Rattle.transformations.proofs.pairs.RingPairs.{AreFew, few_moved, few_part, not_others}
 use Rattle.transformations.proofs.pairs.SwapLemmas.{PutsAnew, few_swapped}
@@ -109,14 +111,16 @@ few_replaced ring (s ∷ later) all once few =
 swap : (image : Image) (s : SeqRow) → IsExchange image s → IsSwap image.tokens s
 swap image s x = record { from = x.from; out = x.out; takes = x.takes; own = x.own; puts = x.puts }
 
-ring_few : (applied : Phase → Bool) (image : Image) → IsSound image → AreFew (ring_at applied image)
-ring_few applied image h =
-    let test : SeqRow → Bool = λ s. applied s.phase in
+replaced_few : (test : SeqRow → Bool) (image : Image) → IsSound image → AreFew (replaced image.tokens (outgoing (filter test image.sequences)) (incoming (filter test image.sequences)))
+replaced_few test image h =
     let part = part_filter test image.sequences in
     few_replaced image.tokens (filter test image.sequences)
     (part_all_of (IsSwap image.tokens) part (all_weaker (IsExchange image) (IsSwap image.tokens) (swap image) image.sequences (exchanges image h)))
     (λ n. part_distinct (both_take n) part (once_by_node image.sequences h.once n))
     (few_part (part_append (part_all image.tokens) (part_flat (λ (q : SeqRow). brought_by q.kind q.in_pairs) test image.sequences)) (settled_few image h))
+
+ring_few : (applied : Phase → Bool) (image : Image) → IsSound image → AreFew (ring_at applied image)
+ring_few applied = replaced_few (λ s. applied s.phase)
 
 -- the tokens of the low, the read and the high ring
 pub widest-tokens : (image : Image) → IsSound image
@@ -126,3 +130,11 @@ widest-tokens image h = (
   (ring_few is_mid image h).fresh,
   (ring_few has_started image h).fresh,
 )
+
+-- those of the low ring with one movement applied
+pub applied-tokens : (image : Image) (s : SeqRow) → IsSound image → Contains image.sequences s → IsDistinct int_eq (tokens_of (replaced (low_ring image) s.out_pairs s.in_pairs))
+applied-tokens image s h there =
+    let own : filter (λ (q : SeqRow). q.node == s.node) image.sequences ≡ s ∷ [] = filter_own image.sequences s h.movements (found_own image.sequences s h.movements there) in
+    subst (λ ring. IsDistinct int_eq (tokens_of ring))
+    (ap (λ one. replaced image.tokens (outgoing one) (incoming one)) own ∙ (λ i. replaced image.tokens (append-nil s.out_pairs i) (append-nil s.in_pairs i)))
+    (replaced_few (λ (q : SeqRow). q.node == s.node) image h).fresh

@@ -37,9 +37,9 @@ use Rattle.transformations.specs.declared.sequence.SeqRow.{SeqRow}
 -- ---- steps that are accepted
 
 -- the movement of a node
-record HasMovement (image : Image) (n : ℕ) : Type 0 where
-  row : SeqRow
-  found : movement_of image n ≡ Some row
+pub record HasMovement (image : Image) (n : ℕ) : Type 0 where
+  pub row : SeqRow
+  pub found : movement_of image n ≡ Some row
 
 moves : (image : Image) (n : ℕ) → no_sequence image n ≡ None → HasMovement image n
 moves image n none = by (movement_of image n) refl (test_false (not (is_some (movement_of image n))) NoSequence none)
@@ -48,16 +48,16 @@ moves image n none = by (movement_of image n) refl (test_false (not (is_some (mo
     by None found test = absurd (true≢false test)
     by (Some s) found test = record { row = s; found = found }
 
-step_moves : (image : Image) (g : Goal) (kind : Kind) (n : ℕ) → early_refusal_of image (Step g kind n) ≡ None → HasMovement image n
+pub step_moves : (image : Image) (g : Goal) (kind : Kind) (n : ℕ) → early_refusal_of image (Step g kind n) ≡ None → HasMovement image n
 unfolding early_refusal_of
 step_moves image g kind n none = moves image n (none_of (no_node image n ∷ no_sequence image n ∷ wrong_step g kind image n ∷ []) none).1.0
 
-cancel_moves : (image : Image) (n : ℕ) → early_refusal_of image (Cancel n) ≡ None → HasMovement image n
+pub cancel_moves : (image : Image) (n : ℕ) → early_refusal_of image (Cancel n) ≡ None → HasMovement image n
 unfolding early_refusal_of
 cancel_moves image n none = moves image n (none_of (no_node image n ∷ no_sequence image n ∷ []) none).1.0
 
 -- it is in the phase that the step goes on from
-step_phase : (image : Image) (g : Goal) (kind : Kind) (n : ℕ) → early_refusal_of image (Step g kind n) ≡ None → (s : SeqRow) → movement_of image n ≡ Some s → same_phase s.phase (phase_before g) ≡ true
+pub step_phase : (image : Image) (g : Goal) (kind : Kind) (n : ℕ) → early_refusal_of image (Step g kind n) ≡ None → (s : SeqRow) → movement_of image n ≡ Some s → same_phase s.phase (phase_before g) ≡ true
 unfolding early_refusal_of
 step_phase image g kind n none s found =
     let all = none_of (no_node image n ∷ no_sequence image n ∷ wrong_step g kind image n ∷ []) none in
@@ -74,7 +74,7 @@ begun_before Prepared e = absurd (false≢true e)
 begun_before Started e = refl
 begun_before Mid e = refl
 
-half_way : (phase : Phase) → same_phase phase Mid ≡ true → is_mid phase ≡ true
+pub half_way : (phase : Phase) → same_phase phase Mid ≡ true → is_mid phase ≡ true
 half_way Prepared e = e
 half_way Started e = e
 half_way Mid e = refl

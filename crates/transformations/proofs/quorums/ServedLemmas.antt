@@ -102,16 +102,21 @@ module _ (image : Image) (r : Replication) (x : ℤ) where
       swaps : IsExchange image s
       swaps = exchange image s h.ring fits
 
-      -- the ring that it leaves has the pairs of the outcome in which it alone is done
-      ring_own : SamePairs (ring_after image.tokens s) (outcome_ring image own)
+      -- the ring with its pairs swapped has the pairs of the outcome in which it alone is done
+      pub replaced_own : SamePairs (replaced image.tokens s.out_pairs s.in_pairs) (outcome_ring image own)
+      replaced_own p =
+          sym (λ i. has_pair (replaced image.tokens (append-nil s.out_pairs i) (append-nil s.in_pairs i)) p)
+          ∙ sym (ap (λ one. has_pair (replaced image.tokens (outgoing one) (incoming one)) p) (filter_own image.sequences s h.movements found))
+          ∙ outcome_same image own h p
+
+      -- and so has the ring that it leaves
+      pub ring_own : SamePairs (ring_after image.tokens s) (outcome_ring image own)
       ring_own p =
           has_done image s h fits swaps found p
           ∙ turned (has_pair s.in_pairs p) (has_pair image.tokens p && not (has_pair s.out_pairs p))
           ∙ ap (λ b. b || has_pair s.in_pairs p) (sym (has_filter (λ q. not (has_pair s.out_pairs q)) image.tokens p))
           ∙ has_append (filter (λ q. not (has_pair s.out_pairs q)) image.tokens) s.in_pairs p
-          ∙ sym (λ i. has_pair (replaced image.tokens (append-nil s.out_pairs i) (append-nil s.in_pairs i)) p)
-          ∙ sym (ap (λ one. has_pair (replaced image.tokens (outgoing one) (incoming one)) p) (filter_own image.sequences s h.movements found))
-          ∙ outcome_same image own h p
+          ∙ replaced_own p
         where
           turned : (a b : Bool) → (a || b) ≡ (b || a)
           turned a b = grind arith
@@ -129,7 +134,7 @@ module _ (image : Image) (r : Replication) (x : ℤ) where
 -- ---- the movement that has x in its ranges
 
 -- where it is the only one, the others don't matter
-agree_for : (image : Image) (r : Replication) (x : ℤ) (s : SeqRow) → AllByRecursion (λ q. in_ranges image r q x ≡ true → q ≡ s) image.sequences
+pub agree_for : (image : Image) (r : Replication) (x : ℤ) (s : SeqRow) → AllByRecursion (λ q. in_ranges image r q x ≡ true → q ≡ s) image.sequences
     → (one other : SeqRow → Bool) → one s ≡ other s → AgreeAt image r x one other
 agree_for image r x s only one other same =
     all_weaker (λ (q : SeqRow). in_ranges image r q x ≡ true → q ≡ s) (λ (q : SeqRow). in_ranges image r q x ≡ true → one q ≡ other q)
@@ -140,7 +145,7 @@ agree_free image r x free one other =
     all_weaker (λ (q : SeqRow). in_ranges image r q x ≡ false) (λ (q : SeqRow). in_ranges image r q x ≡ true → one q ≡ other q)
     (λ q out here. absurd (true≢false (sym here ∙ out))) image.sequences free
 
-started_at_mid : (phase : Phase) → is_mid phase ≡ true → has_started phase ≡ true
+pub started_at_mid : (phase : Phase) → is_mid phase ≡ true → has_started phase ≡ true
 started_at_mid Mid is = refl
 started_at_mid Started is = refl
 started_at_mid Prepared is = is

@@ -1,5 +1,5 @@
 -- Images in which a movement has the same ranges.
-use Rattle.std.proofs.Common.{◌≡◌, Bool, true, false, not, ◌&&◌, ◌||◌, ◌==◌, ℤ, List, [], ◌∷◌, Option, Some, None, is_some, refl, sym, ap, ◌∙◌}
+use Rattle.std.proofs.Common.{◌≡◌, Bool, true, false, not, ◌&&◌, ◌||◌, ◌==◌, ℤ, List, [], ◌∷◌, ◌++◌, Option, Some, None, is_some, refl, sym, ap, ◌∙◌}
 use Rattle.std.proofs.lemmas.Bool.{false≢true}
 use Rattle.std.specs.List.{AllByRecursion, list_any}
 use Rattle.std.specs.Option.{IfSome}
@@ -13,6 +13,7 @@ use Rattle.cluster_terms.specs.declared.token.Pair.{Pair}
 use Rattle.transformations.proofs.ranges.ApartLemmas.{both_at}
 use Rattle.transformations.proofs.lists.ListLemmas.{all_both, all_each, all_false, all_found, all_weaker, found_passes}
 use Rattle.transformations.proofs.movements.MovesOn.{MoveAlike, MoveOn}
+use Rattle.transformations.specs.Deltas.{MovesSame}
 use Rattle.transformations.specs.Ranges.{KeepsAt, KeepsRanges, in_both, in_ranges, moved_by}
 use Rattle.transformations.specs.Rings.{fixed_ring, widest}
 use Rattle.transformations.specs.Steps.{movement_of}
@@ -155,7 +156,7 @@ both_kept before after x same s q one other =
 -- ---- all movements
 
 -- what holds of the items of two lists, taken by those of the second
-all_turned : {X Y : Type 0} (P : Y → X → Type 0) (xs : List X) (ys : List Y) → AllByRecursion (λ x. AllByRecursion (λ y. P y x) ys) xs → AllByRecursion (λ y. AllByRecursion (P y) xs) ys
+pub all_turned : {X Y : Type 0} (P : Y → X → Type 0) (xs : List X) (ys : List Y) → AllByRecursion (λ x. AllByRecursion (λ y. P y x) ys) xs → AllByRecursion (λ y. AllByRecursion (P y) xs) ys
 all_turned P xs [] all = tt
 all_turned P xs (y ∷ ys) all = (
   all_weaker (λ x. P y x × AllByRecursion (λ z. P z x) ys) (P y) (λ x each. each.0) xs all,
@@ -171,7 +172,8 @@ module _ (before after : Image) (on : MoveOn before.sequences after.sequences) w
       by : (o : Option SeqRow) → movement_of after s.node ≡ o → AllByRecursion (λ (k : KeyspaceRow). IfSome o (λ q. in_ranges before k.replication s x ≡ in_ranges after k.replication q x)) before.keyspaces
       by None found = all_each (λ (k : KeyspaceRow). Unit {0}) (λ k. tt) before.keyspaces
       by (Some q) found =
-          let moved : moved_by q ≡ moved_by s = all_found (MoveAlike s) (λ (r : SeqRow). r.node == s.node) after.sequences q found alike (found_passes (λ (r : SeqRow). r.node == s.node) after.sequences q found) in
+          let same : MovesSame s q = all_found (MoveAlike s) (λ (r : SeqRow). r.node == s.node) after.sequences q found alike (found_passes (λ (r : SeqRow). r.node == s.node) after.sequences q found) in
+          let moved : moved_by q ≡ moved_by s = λ i. same.outs i ++ same.ins i in
           all_weaker (λ (k : KeyspaceRow). in_ranges before k.replication s x ≡ in_ranges after k.replication s x) (λ (k : KeyspaceRow). in_ranges before k.replication s x ≡ in_ranges after k.replication q x)
           (λ k same. same ∙ ranges_alike after after k.replication x s q refl refl refl (sym moved)) before.keyspaces (kept (ap is_some found))
 

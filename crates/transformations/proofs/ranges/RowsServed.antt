@@ -30,21 +30,21 @@ pub cuts_ascend : (image : Image) → IsStrictlySortedBy int_cmp (cuts image)
 cuts_ascend image = ascending_sorted int_cmp int_cmp_total (tokens_of (widest image))
 
 -- the pairs of each ring are among the widest pairs
-ring_part : (applied : Phase → Bool) (image : Image) → IsPart (ring_at applied image) (widest image)
+pub ring_part : (applied : Phase → Bool) (image : Image) → IsPart (ring_at applied image) (widest image)
 ring_part applied image =
     part_append (part_without_pairs image.tokens (outgoing (filter (λ (s : SeqRow). applied s.phase) image.sequences)))
     (part_flat (λ (s : SeqRow). s.in_pairs) (λ (s : SeqRow). applied s.phase) image.sequences)
 
 module _ (image : Image) (x w : ℤ) (le : x ≤ℤ w) (clear : AllByRecursion (λ t. in_arc x w t ≡ false) (cuts image)) where
   -- no pair of a ring lies from x to w
-  clear_ring : {ring : List Pair} → IsPart ring (widest image) → AllByRecursion (λ p. in_arc x w p.token ≡ false) ring
+  pub clear_ring : {ring : List Pair} → IsPart ring (widest image) → AllByRecursion (λ p. in_arc x w p.token ≡ false) ring
   clear_ring part = part_all_of (λ p. in_arc x w p.token ≡ false) part (clear_pairs image x w clear)
 
-  reads-between : (r : Replication) → reads_at image r x ≡ reads_at image r w
+  pub reads-between : (r : Replication) → reads_at image r x ≡ reads_at image r w
   unfolding reads_at
   reads-between r = place-between x w le (ring_at is_mid image) (clear_ring (ring_part is_mid image)) (groups_of image.nodes r)
 
-  writes-between : (r : Replication) → writes_at image r x ≡ writes_at image r w
+  pub writes-between : (r : Replication) → writes_at image r x ≡ writes_at image r w
   unfolding writes_at
   writes-between r =
       let low = place-between x w le image.tokens (clear_ring (part_front image.tokens (incoming image.sequences))) (groups_of image.nodes r) in

@@ -1,5 +1,9 @@
-use Rattle.cluster_metadata.proofs.RunningLemmas.{running_remove}
+use Rattle.cluster_metadata.proofs.RunningLemmas.{map_remove, running_remove}
+use Rattle.cluster_metadata.specs.Running.{plan_of}
 use Rattle.cluster_metadata.proofs.enact.finish.Goals as goal
 
-pub returns : goal.returns
-returns c = rw c.remove.ensures.items (running_remove _ _ c.args.at c.requires.running)
+pub returns-clause-running : goal.returns-clause-running
+returns-clause-running c = rw c.remove.ensures.items (running_remove _ _ c.args.at c.requires.running)
+
+pub returns-clause-plans : goal.returns-clause-plans
+returns-clause-plans c = rw c.remove.ensures.items (map_remove plan_of _ c.args.at)

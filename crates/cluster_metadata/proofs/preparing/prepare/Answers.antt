@@ -1,5 +1,7 @@
 use Rattle.std.proofs.Common.{sym, ◌∙◌}
 use Rattle.cluster_metadata.proofs.LockLemmas.{others_cut, own_cut, plan_ascends, plan_locked}
+use Rattle.transformations.specs.Refusals.{with_movement}
+use Rattle.cluster_metadata.proofs.PlanLemmas.{deltas_elsewhere}
 use Rattle.cluster_metadata.proofs.preparing.prepare.Goals as goal
 
 pub first_lock-requires-clause-ascending : goal.first_lock-requires-clause-ascending
@@ -18,6 +20,10 @@ returns-in-Some-clause-refusal g c =
 
 pub begun-requires-clause-new : goal.begun-requires-clause-new
 begun-requires-clause-new g c = rw c.in-Ok.ensures.plan.row c.requires.new
+
+pub begun-requires-clause-deltas : goal.begun-requires-clause-deltas
+begun-requires-clause-deltas g c =
+    deltas_elsewhere (with_movement c.args.image.now c.args.row) c.args.image.now.epoch c.args.image.now.sequences c.in-Ok.plan c.in-Ok.ensures.plan.deltas
 
 pub returns-clause-refusal : goal.returns-clause-refusal
 returns-clause-refusal g c =

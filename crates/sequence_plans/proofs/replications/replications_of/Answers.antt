@@ -3,7 +3,7 @@ use Rattle.std.specs.List.{list_any}
 use Rattle.cluster_terms.specs.Replication.{same_replication}
 use Rattle.cluster_terms.specs.declared.replication.Replication.{Replication}
 use Rattle.sequence_plans.proofs.ReplicationsLemmas.{new, shown}
-use Rattle.sequence_plans.specs.Plan.{replications_of}
+use Rattle.sequence_plans.specs.Replications.{replications_of}
 use Rattle.sequence_plans.proofs.replications.replications_of.Goals as goal
 use Rattle.sequence_plans.proofs.replications.replications_of.Goals.{then-not-has+in_ok-copy+in_ok-push, else-not-has}
 

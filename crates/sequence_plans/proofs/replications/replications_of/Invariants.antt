@@ -1,5 +1,5 @@
 use Rattle.std.proofs.Common.{◌≡◌, take}
-use Rattle.sequence_plans.specs.Plan.{replications_of}
+use Rattle.sequence_plans.specs.Replications.{replications_of}
 use Rattle.sequence_plans.proofs.replications.replications_of.Given as goal
 
 -- the replications of the keyspaces so far

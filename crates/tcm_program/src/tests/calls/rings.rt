@@ -88,7 +88,7 @@ const UNIONS: [(&[i64], &[i64], &[Ends]); 4] = [
     (&[i64::MIN, 0], &[0, 7], &[(Some(i64::MIN), Some(7))]),
 ];
 
-fn cuts_of(alloc: Global, cuts: &[i64]) -> Result<TokenList, Fail>
+pub fn cuts_of(alloc: Global, cuts: &[i64]) -> Result<TokenList, Fail>
     ensures { IfOk result (λ cuts. IsStrictlySortedBy int_cmp cuts) }
 {
     let mut tokens = TokenList::empty(alloc);

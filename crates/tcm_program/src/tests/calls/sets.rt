@@ -20,7 +20,7 @@ const SETS: [(&[u32], &[u32], &[u32], &[u32]); 6] = [
     ),
 ];
 
-fn set_of(alloc: Global, ids: &[u32]) -> Result<NodeSet, Fail> {
+pub fn set_of(alloc: Global, ids: &[u32]) -> Result<NodeSet, Fail> {
     let ids = ids
         .iter()
         .map(|id| NodeId(*id))

@@ -5,10 +5,11 @@ use Rattle.cluster_metadata.proofs.metadata.Metadata.empty.Goals as goal
 
 pub invariant_of-result : goal.invariant_of-result
 invariant_of-result c =
-    let running : IsRunning c.empty-4.result c.new.result.items = rw (c.empty-4.ensures, c.new.ensures.items) (refl, refl) in
+    let running : IsRunning c.empty-4.result c.new.result.items = rw (c.empty-4.ensures, c.new.ensures.items) refl in
     record {
       valid = rw (c.empty.ensures, c.empty-2.ensures, c.empty-3.ensures, c.empty-4.ensures) valid_empty;
       replications = rw c.empty-3.ensures tt;
       directory = rw c.empty.ensures c.in_ok-directory.ensures;
       running = running;
+      deltas = rw c.new.ensures.items tt;
     }

@@ -4,6 +4,7 @@ use Rattle.transformations.specs.Ranges.{KeepsRanges}
 use Rattle.transformations.specs.Valid.{IsValid}
 use Rattle.cluster_metadata.proofs.ImageDirectory.{renewed}
 use Rattle.cluster_metadata.proofs.PermitOutcomes.{keeps_ranges, placed, placements, quorums_meet, replications_kept, rings, valid_after}
+use Rattle.cluster_metadata.proofs.PlanLemmas.{deltas_held}
 use Rattle.cluster_metadata.proofs.metadata.Metadata.enact.Goals as goal
 
 -- the image that is made is valid
@@ -24,6 +25,8 @@ invariant_of-self c =
       replications = replications_kept c.self.inside.image c.make.new.image _ _ permitted c.make.ensures.made c.self.invariant.valid c.self.invariant.replications;
       directory = rw c.make.ensures.made directory;
       running = c.make.ensures.running;
+      deltas = deltas_held c.self.inside.image c.make.new.image _ _ _ _ permitted c.make.ensures.made c.self.invariant.valid c.self.invariant.running c.self.invariant.deltas
+          (valid c).sound.movements c.make.ensures.running c.make.ensures.plans;
     }
 
 pub returns-clause-apart : goal.returns-clause-apart

@@ -5,8 +5,8 @@ use Rattle.cluster_terms.specs.Replication.{groups_of}
 use Rattle.cluster_terms.specs.declared.token.Pair.{Pair}
 use Rattle.cluster_terms.proofs.PlacementLemmas.{place-permuted}
 use Rattle.transformations.specs.Rings.{low_ring, read_ring, high_ring}
-use Rattle.tcm_session.specs.Placers.{placed_by}
-use Rattle.tcm_session.specs.declared.placement.Placer.{Placer}
+use Rattle.sequence_plans.specs.Placers.{placed_by}
+use Rattle.sequence_plans.specs.declared.placer.Placer.{Placer}
 use Rattle.tcm_session.proofs.placement.Placers.new.Goals as goal
 
 pub returns : goal.returns

@@ -1,0 +1,90 @@
+-- Deltas: the row of a token, and the inverse.
+use Rattle.std.proofs.Common.{◌≡◌, ℕ, zero, suc, ◌<◌, ◌≤◌, Bool, true, false, if◌then◌else◌, ℤ, ◌≤ℤ◌, int_lt, int_le, List, [], ◌∷◌, length, get_or, refl, sym, ap, ◌∙◌, arith}
+use Rattle.std.specs.List.{AllByRecursion}
+use Rattle.std.specs.List.Sorted.{IsPartitionPoint, IsPartitionedBy}
+use Rattle.std.proofs.lemmas.Int.{ints}
+use Rattle.cluster_terms.proofs.AscendingLemmas.{weaker}
+use Rattle.cluster_terms.specs.Arc.{greatest_token}
+use Rattle.cluster_terms.specs.Row.{last_token}
+use Rattle.placement_deltas.specs.Deltas.{IsDelta, change_in, delta_at, exchanged, inverse_of}
+use Rattle.placement_deltas.specs.declared.delta_row.DeltaRow.{DeltaRow}
+use Rattle.token_ring.proofs.RangeLemmas.{to_all}
+
+-- ---- the order of the rows
+
+-- the rows after a row end past it
+pub later_end : (row : DeltaRow) (rows : List DeltaRow) → IsDelta (row ∷ rows) → AllByRecursion (λ r. int_lt (last_token row.right) (last_token r.right) ≡ true) rows
+later_end row [] delta = tt
+later_end row (next ∷ rows) delta = (
+  delta.0,
+  weaker (λ (r : DeltaRow). int_lt (last_token next.right) (last_token r.right) ≡ true) (λ (r : DeltaRow). int_lt (last_token row.right) (last_token r.right) ≡ true)
+      (λ r later. past (last_token row.right) (last_token next.right) (last_token r.right) delta.0 later) rows (later_end next rows delta.2),
+)
+  where
+    past : (a b c : ℤ) → int_lt a b ≡ true → int_lt b c ≡ true → int_lt a c ≡ true
+    past a b c h k = grind (arith, ints)
+
+-- the rows that end before a token stand before the others
+pub ends_climb : (rows : List DeltaRow) (t : ℤ) → IsDelta rows → IsPartitionedBy (λ r. int_lt (last_token r.right) t) rows
+ends_climb [] t delta i j d le in_j low = absurd (omega arith)
+ends_climb (row ∷ rows) t delta zero zero d le in_j low = low
+ends_climb (row ∷ rows) t delta zero (suc j) d le in_j low =
+    let later = to_all (λ (r : DeltaRow). int_lt (last_token row.right) (last_token r.right) ≡ true) rows (later_end row rows delta) j d (omega arith) in
+    past (last_token row.right) (last_token (get_or rows j d).right) later low
+  where
+    past : (a b : ℤ) → int_lt a b ≡ true → int_lt b t ≡ true → int_lt a t ≡ true
+    past a b h k = grind (arith, ints)
+ends_climb (row ∷ rows) t delta (suc i) zero d le in_j low = absurd (omega arith)
+ends_climb (row ∷ []) t delta (suc i) (suc j) d le in_j low = absurd (omega arith)
+ends_climb (row ∷ next ∷ rows) t delta (suc i) (suc j) d le in_j low = ends_climb (next ∷ rows) t delta.2 i j d (omega arith) (omega arith) low
+
+-- ---- the row of a token
+
+-- not all rows end before a token
+pub some_left : (rows : List DeltaRow) (t : ℤ) (k : ℕ) → IsDelta rows → t ≤ℤ greatest_token → k ≤ length rows
+    → IsPartitionPoint (λ r. int_lt (last_token r.right) t ≡ true) (λ r. int_lt (last_token r.right) t ≡ false) rows k → k < length rows
+some_left [] t k delta top within split = absurd delta
+some_left (row ∷ rows) t zero delta top within split = omega arith
+some_left (row ∷ []) t (suc k) delta top within split =
+    let low : int_lt (last_token row.right) t ≡ true = split.0 0 row (omega arith) (omega arith) in
+    let max : last_token row.right ≡ greatest_token = ap last_token delta in
+    absurd (none (last_token row.right) max low)
+  where
+    none : (w : ℤ) → w ≡ greatest_token → int_lt w t ≡ true → ⊥
+    none w is low = grind (arith, ints)
+some_left (row ∷ next ∷ rows) t (suc k) delta top within split =
+    let rest = some_left (next ∷ rows) t k delta.2 top (omega arith) (λ j e from below. split.0 (suc j) e (omega arith) (omega arith), λ j e from below. split.1 (suc j) e (omega arith) (omega arith)) in
+    omega arith
+
+-- where k rows end before a token, the next row tells what is gained and lost at the token
+pub found_at : (rows : List DeltaRow) (t : ℤ) (k : ℕ) (d : DeltaRow)
+    → IsPartitionPoint (λ r. int_lt (last_token r.right) t ≡ true) (λ r. int_lt (last_token r.right) t ≡ false) rows k
+    → k < length rows → change_in (get_or rows k d) ≡ delta_at rows t
+found_at [] t k d split within = absurd (omega arith)
+found_at (row ∷ rows) t zero d split within =
+    let upto : int_lt (last_token row.right) t ≡ false = split.1 0 d (omega arith) (omega arith) in
+    let here : int_le t (last_token row.right) ≡ true = grind (arith, ints) in
+    ap (λ b. if b then change_in row else delta_at rows t) (sym here)
+found_at (row ∷ rows) t (suc k) d split within =
+    let low : int_lt (last_token row.right) t ≡ true = split.0 0 d (omega arith) (omega arith) in
+    let past : int_le t (last_token row.right) ≡ false = grind (arith, ints) in
+    found_at rows t k d (λ j e from below. split.0 (suc j) e (omega arith) (omega arith), λ j e from below. split.1 (suc j) e (omega arith) (omega arith)) (omega arith)
+    ∙ ap (λ b. if b then change_in row else delta_at rows t) (sym past)
+
+-- ---- the inverse
+
+pub inverse_is : (rows : List DeltaRow) → IsDelta rows → IsDelta (inverse_of rows)
+inverse_is [] delta = delta
+inverse_is (row ∷ []) delta = delta
+inverse_is (row ∷ next ∷ rows) delta =
+    (delta.0, λ same. delta.1 (ap (λ (p : List ℕ × List ℕ). (p.1, p.0)) same), inverse_is (next ∷ rows) delta.2)
+
+-- at each token the inverse gains what the delta loses, and loses what it gains
+pub inverse_at : (rows : List DeltaRow) (x : ℤ) → delta_at (inverse_of rows) x ≡ ((delta_at rows x).1, (delta_at rows x).0)
+inverse_at [] x = refl
+inverse_at (row ∷ rows) x = by (int_le x (last_token row.right)) (inverse_at rows x)
+  where
+    by : (b : Bool) → delta_at (inverse_of rows) x ≡ ((delta_at rows x).1, (delta_at rows x).0)
+        → (if b then change_in (exchanged row) else delta_at (inverse_of rows) x) ≡ ((if b then change_in row else delta_at rows x).1, (if b then change_in row else delta_at rows x).0)
+    by true rest = refl
+    by false rest = rest

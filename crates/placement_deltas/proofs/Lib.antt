@@ -1,0 +1,4 @@
+mod DeltaExamples
+pub mod DeltaLemmas
+mod JoinedDeltas
+pub mod ShownChanges

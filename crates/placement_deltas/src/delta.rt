@@ -1,0 +1,115 @@
+ghost use Rattle.std.specs.Prelude.{◌≡◌, int_lt, true, false, ◌<◌, length, IfOk};
+ghost use Rattle.std.specs.List.Sorted.{IsPartitionPoint, IsStrictlySortedBy};
+ghost use Rattle.std.specs.Ordering.{int_cmp};
+ghost use Rattle.cluster_terms.specs.Row.{last_token, rows_between};
+ghost use Rattle.placement_deltas.specs.Deltas.{EndAtCuts, IsDelta, ShowsChanges, delta_at, exchanged, inverse_of};
+
+use crate::delta_row::{DeltaRow, DeltaRows};
+use crate::joining::joined;
+use cluster_terms::{Memory, Token, TryCopy, rows_between};
+use node_sets::NodeSet;
+use std::alloc::Global;
+use std::marker::Model;
+
+/// The nodes gained and the nodes lost at each token. The rows ascend, and adjacent rows differ in one of the two sets.
+#[derive(Debug, Drop)]
+pub struct Delta {
+    alloc: Global,
+    rows: DeltaRows,
+}
+
+impl Model for Delta {
+    ghost use Rattle.std.specs.Prelude.{List};
+    ghost use Rattle.placement_deltas.specs.declared.delta_row.DeltaRow.{DeltaRow};
+    ghost use Rattle.placement_deltas.specs.Deltas.{IsDelta};
+
+    ghost Value = { List DeltaRow };
+
+    ghost view = { λ delta. delta.rows };
+
+    ghost invariant = { λ delta. IsDelta delta.rows };
+}
+
+/// How many rows end before a token.
+fn count_before(rows: &[DeltaRow], t: Token) -> usize
+    requires { IsDelta rows.now }
+    ensures bound { result < length rows.now }
+    ensures split { IsPartitionPoint (λ r. int_lt (last_token r.right) t ≡ true)
+        (λ r. int_lt (last_token r.right) t ≡ false) rows.now result }
+{
+    let number = t.value();
+    rows.partition_point(|row| row.last_token().value() < number)
+}
+
+/// The row with the nodes gained and the nodes lost exchanged.
+fn exchanged(row: &DeltaRow) -> Result<DeltaRow, Memory>
+    ensures { IfOk result (λ other. other ≡ exchanged row.now) }
+{
+    Ok(DeltaRow {
+        right: row.right,
+        gained: row.lost.copy()?,
+        lost: row.gained.copy()?,
+    })
+}
+
+impl Delta {
+    /// The nodes gained and lost at each token between two lists of node sets. Each list has a set for each row between
+    /// the cuts. `Err` means that memory ran out. The cost is one pass over the rows and the sets.
+    pub fn between(
+        alloc: Global,
+        cuts: &[Token],
+        before: &[NodeSet],
+        after: &[NodeSet],
+    ) -> Result<Delta, Memory>
+        requires ascending { IsStrictlySortedBy int_cmp cuts.now }
+        requires before { length before.now ≡ length (rows_between cuts.now) }
+        requires after { length after.now ≡ length (rows_between cuts.now) }
+        ensures sets { IfOk result (ShowsChanges (rows_between cuts.now) before.now after.now) }
+        ensures cuts { IfOk result (EndAtCuts cuts.now) }
+    {
+        let between = rows_between(alloc, cuts)?;
+        let rows = joined(alloc, between.as_slice(), before, after)?;
+        Ok(Delta { alloc, rows })
+    }
+
+    /// The rows in ascending order.
+    pub fn rows(&self) -> &[DeltaRow]
+        ensures rows { result.now ≡ self.now }
+        ensures delta { IsDelta self.now }
+    {
+        self.rows.as_slice()
+    }
+
+    /// The nodes gained and the nodes lost at a token. Takes no memory. The cost is a binary search.
+    pub fn at(&self, t: Token) -> (&NodeSet, &NodeSet)
+        ensures { (result.0.now, result.1.now) ≡ delta_at self.now t }
+    {
+        let rows = self.rows();
+        let row = &rows[count_before(rows, t)];
+        (&row.gained, &row.lost)
+    }
+
+    /// The delta with the nodes gained and the nodes lost exchanged. `Err` means that memory ran out.
+    pub fn inverse(&self) -> Result<Delta, Memory>
+        ensures { IfOk result (λ delta. delta ≡ inverse_of self.now) }
+    {
+        let mut rows = DeltaRows::empty(self.alloc);
+        for row in self.rows() {
+            rows.push(exchanged(row)?)?;
+        }
+        Ok(Delta {
+            alloc: self.alloc,
+            rows,
+        })
+    }
+}
+
+impl TryCopy for Delta {
+    fn copy(&self) -> Result<Delta, Memory> {
+        let rows = self.rows.copy()?;
+        Ok(Delta {
+            alloc: self.alloc,
+            rows,
+        })
+    }
+}

@@ -1,0 +1,39 @@
+ghost use Rattle.std.specs.Prelude.{◌≡◌};
+ghost use Rattle.cluster_terms.specs.Row.{last_token};
+
+use cluster_terms::{Memory, RightEnd, SmallList, Token, TryCopy};
+use node_sets::NodeSet;
+
+/// The nodes that the tokens of a range gain, and the nodes that they lose. The range begins where the row before it
+/// ends, or with the least token.
+#[derive(Debug, Drop)]
+pub struct DeltaRow {
+    pub right: RightEnd,
+    pub gained: NodeSet,
+    pub lost: NodeSet,
+}
+
+/// A list of rows of a delta.
+pub type DeltaRows = SmallList<DeltaRow>;
+
+impl DeltaRow {
+    /// The last token of the row. It is 2^63 - 1 if the right end is `Max`.
+    pub fn last_token(&self) -> Token
+        ensures { result ≡ last_token self.now.right }
+    {
+        match self.right {
+            RightEnd::At(token) => token,
+            RightEnd::Max => Token::new(i64::MAX),
+        }
+    }
+}
+
+impl TryCopy for DeltaRow {
+    fn copy(&self) -> Result<DeltaRow, Memory> {
+        Ok(DeltaRow {
+            right: self.right,
+            gained: self.gained.copy()?,
+            lost: self.lost.copy()?,
+        })
+    }
+}

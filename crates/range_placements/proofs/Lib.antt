@@ -1,0 +1,5 @@
+mod Halving
+pub mod MapChanges
+pub mod MapCuts
+mod MapExamples
+pub mod MapRows

@@ -1,0 +1,9 @@
+use Rattle.std.proofs.Common.{◌≡◌, IfOk, ℕ, List, length, sym, subst, rules}
+use Rattle.range_placements.proofs.MapChanges.{unchanged}
+use Rattle.range_placements.proofs.placement_row.with_change.Goals as goal
+
+pub returns-then-is_empty-2 : goal.returns-then-is_empty-2
+returns-then-is_empty-2 c =
+    let gained : length c.args.gained.now ≡ 0 = search rules in
+    let lost : length c.args.lost.now ≡ 0 = search rules in
+    subst (λ (set : List ℕ). IfOk c.copy.result (λ other. other ≡ set)) (sym (unchanged c.args.set.now c.args.gained.now c.args.lost.now gained lost)) c.copy.ensures

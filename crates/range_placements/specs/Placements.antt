@@ -1,0 +1,79 @@
+-- Placements: the nodes that are read and the nodes that are written at each token.
+use Rattle.std.specs.Prelude.{◌≡◌, Bool, true, if◌then◌else◌, ℕ, ℤ, pos, ◌+ℤ◌, int_lt, int_le, List, [], ◌∷◌, ◌++◌, map, filter_map, Option, Some, None}
+use Rattle.std.specs.Ordering.{int_eq, nat_cmp}
+use Rattle.std.specs.Set.{is_member}
+use Rattle.cluster_terms.specs.Arc.{greatest_token}
+use Rattle.cluster_terms.specs.Ascending.{put_all}
+use Rattle.cluster_terms.specs.Row.{last_token}
+use Rattle.cluster_terms.specs.declared.token.RightEnd.{RightEnd}
+use Rattle.cluster_terms.specs.declared.token.RightEnd.TheVariants.{At, Max}
+use Rattle.node_sets.specs.NodeSets.{without}
+use Rattle.range_placements.specs.declared.placement_row.PlacementRow.{PlacementRow}
+
+-- the reads and the writes of a row
+abbrev pub placement_in : PlacementRow → List ℕ × List ℕ
+placement_in row = (row.reads, row.writes)
+
+-- the reads and the writes at a token: those of the first row that ends at or after it
+abbrev pub map_at : List PlacementRow → ℤ → List ℕ × List ℕ
+map_at [] x = ([], [])
+map_at (row ∷ rows) x = if int_le x (last_token row.right) then placement_in row else map_at rows x
+
+-- the last tokens of the rows ascend, and the last row ends in Max or at the greatest token
+abbrev pub IsPlacementMap : List PlacementRow → Type 0
+IsPlacementMap [] = ⊥
+IsPlacementMap (row ∷ []) = last_token row.right ≡ greatest_token
+IsPlacementMap (row ∷ next ∷ rows) = (int_lt (last_token row.right) (last_token next.right) ≡ true) × IsPlacementMap (next ∷ rows)
+
+-- the right ends of the rows
+abbrev pub right_ends : List PlacementRow → List RightEnd
+right_ends rows = map (λ row. row.right) rows
+
+-- the cuts: the tokens at which rows end, apart from Max
+abbrev pub cut_of : RightEnd → Option ℤ
+cut_of (At t) = Some t
+cut_of Max = None
+
+abbrev pub cuts_of : List PlacementRow → List ℤ
+cuts_of rows = filter_map cut_of (right_ends rows)
+
+abbrev pub is_cut_of : List PlacementRow → ℤ → Bool
+is_cut_of rows t = is_member int_eq (cuts_of rows) t
+
+-- a row with another right end
+abbrev pub ended : PlacementRow → RightEnd → PlacementRow
+ended row right = record { right = right; reads = row.reads; writes = row.writes }
+
+-- a row up to a token, and the rest of it, if tokens are left
+abbrev pub split_row : PlacementRow → ℤ → List PlacementRow
+split_row row t = ended row (At t) ∷ (if int_lt t (last_token row.right) then row ∷ [] else [])
+
+-- the rows with a token as a cut
+abbrev pub split_rows : List PlacementRow → ℤ → List PlacementRow
+split_rows [] t = []
+split_rows (row ∷ rows) t = if int_lt (last_token row.right) t then row ∷ split_rows rows t else split_row row t ++ rows
+
+-- the rows from a row on, joined with the row after it; the last row ends in Max instead
+abbrev pub merged_row : PlacementRow → List PlacementRow → List PlacementRow
+merged_row row [] = ended row Max ∷ []
+merged_row row (next ∷ rows) = next ∷ rows
+
+-- the rows without a token as a cut
+abbrev pub merged_rows : List PlacementRow → ℤ → List PlacementRow
+merged_rows [] t = []
+merged_rows (row ∷ rows) t = if int_lt (last_token row.right) t then row ∷ merged_rows rows t else merged_row row rows
+
+-- a token and the token after it, if there is one, have the same reads and the same writes
+abbrev pub HasSameSides : List PlacementRow → ℤ → Type 0
+HasSameSides rows t = int_lt t greatest_token ≡ true → map_at rows t ≡ map_at rows (t +ℤ pos 1)
+
+-- a set of nodes without the nodes that it loses and with those that it gains
+abbrev pub with_change : List ℕ → List ℕ → List ℕ → List ℕ
+with_change set gained lost = put_all nat_cmp gained (without set lost)
+
+-- the reads and the writes where the reads change, and where the writes change, by nodes gained and nodes lost
+abbrev pub reads_changed : List ℕ × List ℕ → List ℕ × List ℕ → List ℕ × List ℕ
+reads_changed placement change = (with_change placement.0 change.0 change.1, placement.1)
+
+abbrev pub writes_changed : List ℕ × List ℕ → List ℕ × List ℕ → List ℕ × List ℕ
+writes_changed placement change = (placement.0, with_change placement.1 change.0 change.1)

@@ -1,0 +1,9 @@
+//! The placements of a keyspace: the nodes that are read and the nodes that are written at each token of the ring.
+#![tactic(auto)]
+
+pub mod placement_map;
+pub mod placement_row;
+pub mod validity;
+
+pub use placement_map::PlacementMap;
+pub use placement_row::{PlacementRow, PlacementRows};

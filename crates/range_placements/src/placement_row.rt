@@ -1,0 +1,88 @@
+ghost use Rattle.std.specs.Prelude.{◌≡◌, IfOk};
+ghost use Rattle.cluster_terms.specs.Row.{last_token};
+ghost use Rattle.cluster_terms.specs.declared.token.RightEnd.TheVariants as right_end;
+ghost use Rattle.range_placements.specs.Changing as spec;
+ghost use Rattle.range_placements.specs.Placements.{with_change, ended, reads_changed, writes_changed};
+
+use cluster_terms::{Memory, RightEnd, Token, TryCopy};
+use node_sets::NodeSet;
+use placement_deltas::Delta;
+
+/// The nodes that are read and the nodes that are written at the tokens of a range. The range begins where the row
+/// before it ends, or with the least token.
+#[derive(Debug, Drop)]
+pub struct PlacementRow {
+    pub right: RightEnd,
+    pub reads: NodeSet,
+    pub writes: NodeSet,
+}
+
+/// The rows of a placement map.
+pub type PlacementRows = Vec<PlacementRow>;
+
+/// The set with the gained nodes and without the lost nodes.
+fn with_change(set: &NodeSet, gained: &NodeSet, lost: &NodeSet) -> Result<NodeSet, Memory>
+    ensures { IfOk result (λ other. other ≡ with_change set.now gained.now lost.now) }
+{
+    if gained.is_empty() && lost.is_empty() {
+        return set.copy();
+    }
+    gained.union(&set.minus(lost)?)
+}
+
+impl PlacementRow {
+    /// The last token of the row. It is 2^63 - 1 if the right end is `Max`.
+    pub fn last_token(&self) -> Token
+        ensures { result ≡ last_token self.now.right }
+    {
+        match self.right {
+            RightEnd::At(token) => token,
+            RightEnd::Max => Token::new(i64::MAX),
+        }
+    }
+
+    /// The row with its right end at a token.
+    pub(crate) fn up_to(&self, t: Token) -> Result<PlacementRow, Memory>
+        ensures { IfOk result (λ row. row ≡ ended self.now (right_end.At t)) }
+    {
+        Ok(PlacementRow {
+            right: RightEnd::At(t),
+            reads: self.reads.copy()?,
+            writes: self.writes.copy()?,
+        })
+    }
+
+    /// The row with the reads changed by what the delta shows at the last token.
+    pub(crate) fn with_reads(&self, delta: &Delta) -> Result<PlacementRow, Memory>
+        ensures { IfOk result (λ row. row ≡ spec.row_changed reads_changed delta.now self.now) }
+    {
+        let (gained, lost) = delta.at(self.last_token());
+        Ok(PlacementRow {
+            right: self.right,
+            reads: with_change(&self.reads, gained, lost)?,
+            writes: self.writes.copy()?,
+        })
+    }
+
+    /// The row with the writes changed by what the delta shows at the last token.
+    pub(crate) fn with_writes(&self, delta: &Delta) -> Result<PlacementRow, Memory>
+        ensures { IfOk result (λ row. row ≡ spec.row_changed writes_changed delta.now self.now) }
+    {
+        let (gained, lost) = delta.at(self.last_token());
+        Ok(PlacementRow {
+            right: self.right,
+            reads: self.reads.copy()?,
+            writes: with_change(&self.writes, gained, lost)?,
+        })
+    }
+}
+
+impl TryCopy for PlacementRow {
+    fn copy(&self) -> Result<PlacementRow, Memory> {
+        Ok(PlacementRow {
+            right: self.right,
+            reads: self.reads.copy()?,
+            writes: self.writes.copy()?,
+        })
+    }
+}

@@ -1,0 +1,14 @@
+use Rattle.std.proofs.Common.{map, take}
+use Rattle.token_ring.specs.declared.book.RangeRow.{RangeRow}
+use Rattle.sequence_plans.proofs.DeltaBookLemmas.{replications_more, steps_more}
+use Rattle.sequence_plans.proofs.deltas.DeltaBooks.of_movement.Goals as goal
+
+pub loop-replication-preserved : goal.loop-replication-preserved
+loop-replication-preserved g c =
+    let loop = c.loop-replication in
+    let rows = c.args.ranges.now in
+    let row = c.loop-replication-item.result in
+    let pushed = c.in_ok-push.ensures in
+    steps_more (map (λ (r : RangeRow). r.replication) (take loop.replication-index rows)) row.replication c.args.image.now c.args.row.now loop.books.gain loop.books.swap loop.books.lose
+    c.in_ok-deltas.deltas _ _ _ _ loop.invariant c.in_ok-deltas.ensures (replications_more rows loop.replication-index row c.loop-replication-test.true c.loop-replication-item.is)
+    pushed.gain pushed.swap pushed.lose

@@ -1,0 +1,19 @@
+-- The replicas that a strategy places on a ring (of the code: no promise rests on these).
+use Rattle.std.specs.Prelude.{◌≡◌, ℕ, ℤ, List, [], ◌∷◌}
+use Rattle.cluster_terms.specs.Group.{place}
+use Rattle.cluster_terms.specs.Replication.{groups_of, whole_group}
+use Rattle.cluster_terms.specs.declared.node.NodeRow.{NodeRow}
+use Rattle.cluster_terms.specs.declared.replication.Replication.{Replication}
+use Rattle.cluster_terms.specs.declared.token.Pair.{Pair}
+use Rattle.topology_strategy.specs.GroupedRing.{placement_at}
+use Rattle.sequence_plans.specs.declared.placer.Placer.{Placer}
+use Rattle.sequence_plans.specs.declared.placer.Placer.TheVariants.{Simple, Topology}
+
+-- the replicas that a placer gives at a token
+abbrev pub placed_by : Placer → ℤ → List ℕ
+placed_by (Simple ring rf) x = place (whole_group rf ∷ []) x ring.now
+placed_by (Topology counted) x = placement_at counted x
+
+-- a placer gives the replicas of a replication on a ring
+abbrev pub PlacesOn : List Pair → List NodeRow → Replication → Placer → Type 0
+PlacesOn ring nodes replication placer = (x : ℤ) → placed_by placer x ≡ place (groups_of nodes replication) x ring

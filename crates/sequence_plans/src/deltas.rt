@@ -1,0 +1,141 @@
+//! The deltas of a movement.
+
+ghost use Rattle.std.specs.Prelude.{◌≡◌, [], ◌∷◌, ◌++◌, IfOk, OnOk};
+ghost use Rattle.std.specs.List.{AllByRecursion, Contains};
+ghost use Rattle.token_ring.specs.Ranges.{HaveTokens};
+ghost use Rattle.transformations.specs.Ranges.{in_ranges};
+ghost use Rattle.transformations.specs.Rings as spec;
+ghost use Rattle.transformations.specs.Valid.{IsSound};
+ghost use Rattle.sequence_plans.specs.DeltaParts.{AreBooks, AreExact};
+ghost use Rattle.sequence_plans.specs.MovementPlacers.{PlacesMovement};
+
+use crate::movement_rings::{MovementPlacers, MovementRings};
+use crate::row_sets::RowSets;
+use cluster_terms::{Memory, Replication, Steps, Token, TryCopy, rows_between};
+use node_directory::Directory;
+use placement_deltas::{Delta, DeltaBook, DeltaBookRow};
+use std::alloc::Global;
+use std::sync::ledger::Ledger;
+use token_ring::{RangeList, RangeRow};
+use transformations::{Image, SeqRow};
+
+/// The deltas of the steps of a movement, under one replication.
+#[derive(Drop)]
+struct Deltas {
+    gain: Delta,
+    swap: Delta,
+    lose: Delta,
+}
+
+/// The deltas of the steps of a movement, under each replication.
+#[derive(Drop)]
+pub struct DeltaBooks {
+    pub gain: DeltaBook,
+    pub swap: DeltaBook,
+    pub lose: DeltaBook,
+}
+
+/// The deltas of a movement under one replication. Two walks for each row between cuts that is in its ranges.
+fn deltas_under<L: Ledger>(
+    alloc: Global,
+    image: &Image,
+    row: &SeqRow,
+    replication: &Replication,
+    placers: &MovementPlacers,
+    ranges: &RangeList,
+    cuts: &[Token],
+    walks: &mut Steps<L>,
+) -> Result<Deltas, Memory>
+    requires sound { IsSound image.now }
+    requires moves { Contains image.now.sequences row.now }
+    requires placers { PlacesMovement image.now row.now replication.now placers.now }
+    requires ranges { HaveTokens (in_ranges image.now replication.now row.now) ranges.now }
+    requires cuts { cuts.now ≡ spec.cuts image.now }
+    ensures { IfOk result (AreExact image.now row.now replication.now) }
+{
+    let rows = rows_between(alloc, cuts)?;
+    let sets = RowSets::of_rows(alloc, placers, ranges, rows.as_slice(), walks)?;
+    Ok(Deltas {
+        gain: Delta::between(alloc, cuts, &sets.none, &sets.gained)?,
+        swap: Delta::between(alloc, cuts, &sets.before, &sets.after)?,
+        lose: Delta::between(alloc, cuts, &sets.lost, &sets.none)?,
+    })
+}
+
+impl DeltaBooks {
+    /// No replication yet.
+    fn empty(alloc: Global) -> DeltaBooks
+        ensures { result ≡ record { gain = []; swap = []; lose = [] } }
+    {
+        DeltaBooks {
+            gain: DeltaBook::empty(alloc),
+            swap: DeltaBook::empty(alloc),
+            lose: DeltaBook::empty(alloc),
+        }
+    }
+
+    /// Adds the deltas under one more replication.
+    fn push(&mut self, replication: &Replication, deltas: Deltas) -> Result<(), Memory>
+        ensures gain { OnOk result (self.new.gain
+            ≡ self.old.gain ++ record { replication = replication.now; delta = deltas.gain } ∷ []) }
+        ensures swap { OnOk result (self.new.swap
+            ≡ self.old.swap ++ record { replication = replication.now; delta = deltas.swap } ∷ []) }
+        ensures lose { OnOk result (self.new.lose
+            ≡ self.old.lose ++ record { replication = replication.now; delta = deltas.lose } ∷ []) }
+    {
+        self.gain.push(DeltaBookRow {
+            replication: replication.copy()?,
+            delta: deltas.gain,
+        })?;
+        self.swap.push(DeltaBookRow {
+            replication: replication.copy()?,
+            delta: deltas.swap,
+        })?;
+        self.lose.push(DeltaBookRow {
+            replication: replication.copy()?,
+            delta: deltas.lose,
+        })?;
+        Ok(())
+    }
+
+    /// The deltas of a movement of an image, under the replication of each row of its ranges. The directory must hold
+    /// the nodes of the image. `Err` means that memory ran out. Two walks for each row between cuts that is in its
+    /// ranges, under each replication.
+    pub fn of_movement<L: Ledger>(
+        alloc: Global,
+        image: &Image,
+        row: &SeqRow,
+        dir: &Directory,
+        ranges: &[RangeRow],
+        cuts: &[Token],
+        walks: &mut Steps<L>,
+    ) -> Result<DeltaBooks, Memory>
+        requires sound { IsSound image.now }
+        requires moves { Contains image.now.sequences row.now }
+        requires nodes { dir.now.rows ≡ image.now.nodes }
+        requires ranges { AllByRecursion (λ r. HaveTokens (in_ranges image.now r.replication row.now) r.ranges) ranges.now }
+        requires cuts { cuts.now ≡ spec.cuts image.now }
+        ensures { IfOk result (AreBooks image.now row.now ranges.now) }
+    {
+        let rings = MovementRings::new(alloc, image, row)?;
+        let mut books = DeltaBooks::empty(alloc);
+        for RangeRow {
+            replication,
+            ranges,
+        } in ranges {
+            let placers = rings.placers(alloc, image, row, dir, replication)?;
+            let deltas = deltas_under(
+                alloc,
+                image,
+                row,
+                replication,
+                &placers,
+                ranges,
+                cuts,
+                walks,
+            )?;
+            books.push(replication, deltas)?;
+        }
+        Ok(books)
+    }
+}

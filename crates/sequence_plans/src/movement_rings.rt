@@ -1,0 +1,61 @@
+ghost use Rattle.std.specs.Prelude.{◌≡◌, IfOk};
+ghost use Rattle.std.specs.List.{Contains};
+ghost use Rattle.transformations.specs.Valid.{IsSound};
+ghost use Rattle.sequence_plans.specs.MovementPlacers.{AreMovementRings, PlacesMovement};
+
+use crate::placer::Placer;
+use cluster_terms::{Memory, Replication};
+use node_directory::Directory;
+use std::alloc::Global;
+use token_ring::Ring;
+use transformations::{Image, SeqRow, ring_with_movement};
+
+/// The low ring of an image, and the low ring with one movement applied.
+#[derive(Drop)]
+pub struct MovementRings {
+    pub before: Ring,
+    pub after: Ring,
+}
+
+/// The placers of one replication on the rings of a movement.
+#[derive(Drop)]
+pub struct MovementPlacers<'a> {
+    pub before: Placer<'a>,
+    pub after: Placer<'a>,
+}
+
+impl MovementRings {
+    /// The rings of a movement of an image. `Err` means that memory ran out. For n pairs of the ring, of which the
+    /// movement takes out k, the cost is about n log n and at most n·k comparisons.
+    pub fn new(alloc: Global, image: &Image, row: &SeqRow) -> Result<MovementRings, Memory>
+        requires sound { IsSound image.now }
+        requires moves { Contains image.now.sequences row.now }
+        ensures { IfOk result (AreMovementRings image.now row.now) }
+    {
+        let after = ring_with_movement(alloc, image, row)?;
+        Ok(MovementRings {
+            before: Ring::from_distinct(alloc, image.tokens.as_slice())?,
+            after: Ring::from_distinct(alloc, after.as_slice())?,
+        })
+    }
+
+    /// The placers of a replication on these rings. The directory must hold the nodes of the image. `Err` means that
+    /// memory ran out.
+    pub fn placers<'a>(
+        &'a self,
+        alloc: Global,
+        image: &Image,
+        row: &SeqRow,
+        dir: &'a Directory,
+        replication: &'a Replication,
+    ) -> Result<MovementPlacers<'a>, Memory>
+        requires rings { AreMovementRings image.now row.now self.now }
+        requires nodes { dir.now.rows ≡ image.now.nodes }
+        ensures { IfOk result (PlacesMovement image.now row.now replication.now) }
+    {
+        Ok(MovementPlacers {
+            before: Placer::new(alloc, &self.before, dir, replication)?,
+            after: Placer::new(alloc, &self.after, dir, replication)?,
+        })
+    }
+}

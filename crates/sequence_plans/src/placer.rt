@@ -1,0 +1,57 @@
+ghost use Rattle.std.specs.Prelude.{◌≡◌, ◌+◌, IfOk};
+ghost use Rattle.sequence_plans.specs.Placers.{PlacesOn, placed_by};
+
+use cluster_terms::{Memory, Replication, Rf, Steps, Token};
+use node_directory::Directory;
+use node_sets::NodeSet;
+use std::alloc::Global;
+use std::sync::ledger::Ledger;
+use token_ring::Ring;
+use topology_strategy::CountedRing;
+
+/// A ring, with the strategy that places replicas on it.
+#[derive(Drop)]
+pub enum Placer<'a> {
+    /// SimpleStrategy, with its factor.
+    Simple(&'a Ring, Rf),
+    /// NetworkTopologyStrategy, with its datacenters counted.
+    Topology(CountedRing<'a>),
+}
+
+impl<'a> Placer<'a> {
+    /// The placer of a replication on a ring. `Err` means that memory ran out.
+    ///
+    /// Cost: for NetworkTopologyStrategy, one pass over the ring for each datacenter that the replication names.
+    pub fn new(
+        alloc: Global,
+        ring: &'a Ring,
+        dir: &'a Directory,
+        replication: &'a Replication,
+    ) -> Result<Placer<'a>, Memory>
+        ensures { IfOk result (PlacesOn ring.now dir.now.rows replication.now) }
+    {
+        match replication {
+            Replication::Simple(rf) => Ok(Placer::Simple(ring, *rf)),
+            Replication::Topology(factors) => {
+                let counted = CountedRing::new(alloc, ring, dir, factors)?;
+                Ok(Placer::Topology(counted))
+            }
+        }
+    }
+
+    /// The replicas at a token. `Err` means that memory ran out. Counts one step of `walks`, even on an error.
+    pub fn place<L: Ledger>(
+        &self,
+        alloc: Global,
+        at: Token,
+        walks: &mut Steps<L>,
+    ) -> Result<NodeSet, Memory>
+        ensures placement { IfOk result (λ nodes. nodes ≡ placed_by self.now at) }
+        ensures counted { walks.new ≡ walks.old + 1 }
+    {
+        match self {
+            Placer::Simple(ring, rf) => simple_strategy::replicas(alloc, ring, *rf, at, walks),
+            Placer::Topology(counted) => counted.replicas(at, walks),
+        }
+    }
+}

@@ -1,0 +1,3 @@
+-- The cuts that commands lead to.
+pub mod CutMembers
+pub mod CutsFollowed
