@@ -1,13 +1,16 @@
 pub mod CancelLemmas
+pub mod DeltasAcross
 pub mod FirstEnds
-pub mod ImageDirectory
 pub mod ImageRings
 pub mod LockLemmas
 pub mod LockRefusals
 pub mod MovementPlaces
+pub mod NodeLemmas
+pub mod PairMerge
 pub mod PermitOutcomes
 pub mod PlanLemmas
 pub mod PrepareLemmas
 pub mod ResumeLemmas
 pub mod RunningLemmas
 pub mod StepLemmas
+pub mod placement_maps

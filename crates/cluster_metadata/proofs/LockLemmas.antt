@@ -52,7 +52,7 @@ any_without f r (q ∷ rs) = by (same_replication r q) refl (any_without f r rs)
     by false e rest = later (f r) (f q) (list_any f (filter (λ p. not (same_replication r p)) rs)) (list_any f rs) rest
 
 -- a test of replications finds one exactly where a keyspace has one
-any_replications : (f : Replication → Bool) (ks : List KeyspaceRow) → list_any f (replications_of ks) ≡ list_any (λ k. f k.replication) ks
+pub any_replications : (f : Replication → Bool) (ks : List KeyspaceRow) → list_any f (replications_of ks) ≡ list_any (λ k. f k.replication) ks
 any_replications f [] = refl
 any_replications f (k ∷ ks) = any_without f k.replication (replications_of ks) ∙ ap (λ b. f k.replication || b) (any_replications f ks)
 

@@ -99,26 +99,26 @@ at_index (y ∷ ys) zero x within here = ap (λ z. Some z) (sym here)
 at_index (y ∷ ys) (suc i) x within here = at_index ys i x (omega arith) here
 
 -- what is found stands at the first place of its kind, and there is such a place
-pub found_at : (p : SeqRow → Bool) (rows : List SeqRow) (at : ℕ) → position p rows ≡ Some at → slice_get rows at ≡ find p rows
+pub found_at : {X : Type 0} (p : X → Bool) (rows : List X) (at : ℕ) → position p rows ≡ Some at → slice_get rows at ≡ find p rows
 found_at p rows at h = by (nat_lt (position_or_len p rows) (length rows)) h
   where
     by : (b : Bool) → cond b (Some (position_or_len p rows)) None ≡ Some at → slice_get rows at ≡ find p rows
     by true h = (let same : position_or_len p rows ≡ at = cc h in rw (← same) (sym (find_at p rows)))
     by false h = absurd (none-some at h)
 
-pub found_within : (p : SeqRow → Bool) (rows : List SeqRow) (at : ℕ) → position p rows ≡ Some at → at < length rows
+pub found_within : {X : Type 0} (p : X → Bool) (rows : List X) (at : ℕ) → position p rows ≡ Some at → at < length rows
 found_within p rows at h = by (nat_lt (position_or_len p rows) (length rows)) refl h
   where
     by : (b : Bool) → nat_lt (position_or_len p rows) (length rows) ≡ b → cond b (Some (position_or_len p rows)) None ≡ Some at → at < length rows
     by true e h = (let same : position_or_len p rows ≡ at = cc h in grind (arith, nat_tests))
     by false e h = absurd (none-some at h)
 
-pub some_place : (p : SeqRow → Bool) (rows : List SeqRow) → IsSome (find p rows) → position p rows ≢ None
-some_place p rows some none = by (nat_lt (position_or_len p rows) (length rows)) refl none
+pub some_place : {X : Type 0} (p : X → Bool) (rows : List X) → IsSome (find p rows) → position p rows ≢ None
+some_place {X} p rows some none = by (nat_lt (position_or_len p rows) (length rows)) refl none
   where
     by : (b : Bool) → nat_lt (position_or_len p rows) (length rows) ≡ b → cond b (Some (position_or_len p rows)) None ≡ None → ⊥
     by true e h = none-some (position_or_len p rows) (sym h)
     by false e h =
         let over : length rows ≤ position_or_len p rows = grind (arith, nat_tests) in
         let missing : find p rows ≡ None = find_at p rows ∙ beyond rows (position_or_len p rows) over in
-        absurd (true≢false (sym (subst (λ (o : Option SeqRow). IsSome o) missing some)))
+        absurd (true≢false (sym (subst (λ (o : Option X). IsSome o) missing some)))

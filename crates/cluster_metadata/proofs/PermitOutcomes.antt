@@ -1,17 +1,21 @@
 -- What the ranges of the movements and the quorums say of a valid image, and of the one that a permit leads to.
-use Rattle.std.proofs.Common.{◌≡◌, true, ◌∙◌, subst, sym}
+use Rattle.std.proofs.Common.{◌≡◌, ◌<◌, true, None, ◌∙◌, subst, sym}
+use Rattle.transformations.proofs.cut_changes.CutsFollowed.{cuts_followed}
+use Rattle.transformations.proofs.deltas.ChangedByCommands.{changes_by_deltas}
 use Rattle.transformations.proofs.quorums.AdjacentLemmas.{meet_next}
 use Rattle.transformations.proofs.histories.HistoryMeetings.{next_replications}
 use Rattle.transformations.proofs.ranges.OutcomeLemmas.{are_outcomes, placed_by_outcomes, placed_by_ranges}
 use Rattle.transformations.proofs.ranges.RangesKept.{ranges_kept}
 use Rattle.transformations.proofs.histories.ValidLemmas.{valid_next}
-use Rattle.transformations.specs.History.{next_image}
+use Rattle.transformations.specs.History.{is_command, most_epochs, next_image}
 use Rattle.transformations.specs.Meeting.{HaveReplications, QuorumsMeet, makes_movement_epoch}
 use Rattle.transformations.specs.Ranges.{AreOutcomes, ArePlacedByOutcomes, KeepsRanges, PlacedByRanges}
+use Rattle.transformations.specs.Refusals.{refusal_of}
 use Rattle.transformations.specs.Valid.{IsValid}
 use Rattle.transformations.specs.declared.command.Command.{Command}
 use Rattle.transformations.specs.declared.image.Image.{Image}
-use Rattle.cluster_metadata.specs.Change.{changed}
+use Rattle.cluster_metadata.specs.Change.{IsChange, changed}
+use Rattle.cluster_metadata.specs.CutDeltas.{ActsByDelta, CutsMove}
 use Rattle.cluster_metadata.specs.Permission.{IsPermitted}
 use Rattle.cluster_metadata.specs.declared.change.Change.{Change}
 
@@ -23,6 +27,10 @@ rings image valid = are_outcomes image valid.sound
 
 pub placements : (image : Image) → IsValid image → ArePlacedByOutcomes image
 placements image valid = placed_by_outcomes image valid.sound
+
+-- the image that a change leads to is valid, if the change is that of a command that is accepted
+pub valid_changed : (image : Image) (c : Command) (change : Change) → IsValid image → is_command c ≡ true → refusal_of image c ≡ None → image.epoch < most_epochs → IsChange image c change → IsValid (changed image change)
+valid_changed image c change valid formed accepted room makes = subst IsValid (sym makes.made) (valid_next image c valid formed accepted room)
 
 module _ (image after : Image) (c : Command) (change : Change) (permitted : IsPermitted image c change) (made : after ≡ changed image change) (valid : IsValid image) where
   leads : next_image image c ≡ after
@@ -41,3 +49,10 @@ module _ (image after : Image) (c : Command) (change : Change) (permitted : IsPe
   pub quorums_meet : HaveReplications image → makes_movement_epoch c ≡ true → QuorumsMeet image after
   quorums_meet have moves =
       subst (λ i. QuorumsMeet image i) leads (meet_next image c valid have permitted.formed permitted.accepted moves permitted.room)
+
+  -- it changes the reads and the writes by its delta, and the cuts by the movement that begins or ends
+  pub acts_by_delta : makes_movement_epoch c ≡ true → ActsByDelta image after c
+  acts_by_delta moves = subst (λ i. ActsByDelta image i c) leads (changes_by_deltas image c valid permitted.formed permitted.accepted moves)
+
+  pub cuts_move : makes_movement_epoch c ≡ true → CutsMove image after c
+  cuts_move moves = subst (λ i. CutsMove image i c) leads (cuts_followed image c valid.sound permitted.formed permitted.accepted moves)

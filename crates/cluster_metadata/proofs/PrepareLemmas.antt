@@ -11,8 +11,9 @@ use Rattle.transformations.specs.declared.command.Command.{Command}
 use Rattle.transformations.specs.declared.command.Command.TheVariants.{Register, Unregister, UnsafeJoin, Keyspace, DropKeyspace, PrepareJoin, PrepareMove, PrepareLeave, PrepareReplace, Step, Cancel}
 use Rattle.transformations.specs.declared.image.Image.{Image}
 use Rattle.transformations.specs.declared.sequence.SeqRow.{SeqRow}
-use Rattle.cluster_metadata.specs.Change.{Begins, IsChange}
+use Rattle.cluster_metadata.specs.Change.{Begins, BeginsWith, FitsNodes, IsChange, Suits}
 use Rattle.cluster_metadata.specs.declared.change.Change.{Change}
+use Rattle.cluster_metadata.specs.declared.change.Change.TheVariants.{Begun}
 
 -- its node has no other movement
 pub prepared_new : (image : Image) (c : Command) (row : SeqRow) → IsSound image → is_command c ≡ true → early_refusal_of image c ≡ None → prepared_by image.tokens c ≡ Some row
@@ -34,9 +35,25 @@ prepared_begun image (DropKeyspace name) row h = absurd (none-some row h)
 prepared_begun image (Step g kind n) row h = absurd (none-some row h)
 prepared_begun image (Cancel n) row h = absurd (none-some row h)
 
+-- a change that begins it changes no node
+begins_fitting : (image : Image) (row : SeqRow) (change : Change) → BeginsWith row change → FitsNodes image change
+begins_fitting image row (Begun at plan after) begins = tt
+begins_fitting image row _ begins = absurd begins
+
 -- so a change that begins it is the command's
+begins_with : (image : Image) (c : Command) (row : SeqRow) → prepared_by image.tokens c ≡ Some row → (change : Change) → BeginsWith row change → Suits image c change
+begins_with image c row h (Begun at plan after) begins = h ∙ ap (λ (s : SeqRow). Some s) (sym begins)
+begins_with image c row h _ begins = absurd begins
+
 pub prepares : (image : Image) (c : Command) (row : SeqRow) → prepared_by image.tokens c ≡ Some row → {E : Type 0} (result : Result Change E) → IfOk result (Begins image row) → IfOk result (IsChange image c)
-prepares image c row h (Ok change) begin = record { made = begin.made ∙ prepared_begun image c row h; follows = begin.follows; deltas = begin.deltas }
+prepares image c row h (Ok change) begin =
+    record {
+      made = begin.made ∙ prepared_begun image c row h;
+      nodes = begins_fitting image row change begin.begins;
+      follows = begin.follows;
+      deltas = begin.deltas;
+      suits = begins_with image c row h change begin.begins;
+    }
 prepares image c row h (Err e) begin = begin
 
 -- and it makes no keyspace

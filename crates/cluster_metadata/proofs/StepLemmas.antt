@@ -1,5 +1,5 @@
 -- What an accepted step says of the movements, and the changes that steps make.
-use Rattle.std.proofs.Common.{◌≡◌, ℕ, ◌+◌, ◌<◌, ◌≤◌, Bool, true, false, not, true≢false, ◌&&◌, ◌==◌, List, [], ◌∷◌, length, map, get_or, set, Option, Some, None, IsSome, is_some, option_map, option_and_then, refl, sym, ap, ◌∙◌}
+use Rattle.std.proofs.Common.{◌≡◌, ℕ, ◌+◌, ◌<◌, ◌≤◌, Bool, true, false, not, true≢false, ◌&&◌, ◌==◌, List, [], ◌∷◌, length, map, get_or, set, Option, Some, None, IfSome, IsSome, is_some, option_map, option_and_then, refl, sym, ap, ◌∙◌}
 use Rattle.std.proofs.lemmas.Bool.Decides.{Decides-eqb}
 use Rattle.std.specs.List.{insert, remove, slice_get}
 use Rattle.std.specs.List.Sorted.{IsStrictlySortedBy}
@@ -26,7 +26,9 @@ use Rattle.transformations.specs.declared.sequence.SeqRow.{SeqRow}
 use Rattle.cluster_metadata.proofs.PlanLemmas.{deltas_elsewhere}
 use Rattle.cluster_metadata.proofs.MovementPlaces.{at_index, others_at, stepped_at}
 use Rattle.cluster_metadata.specs.Change.{Begins, IsChange, in_phase}
+use Rattle.cluster_metadata.specs.Nodes.{IsLeftRow, nodes_left}
 use Rattle.cluster_metadata.specs.declared.change.Change.TheVariants.{Begun, Started, Mid, Finished}
+use Rattle.cluster_metadata.specs.declared.leaving.LeftRow.{LeftRow}
 
 -- ---- where no refusal comes
 
@@ -48,7 +50,7 @@ pub begins : (image : Image) (at : ℕ) (plan : Plan) (after : List SeqRow) → 
     → put by_node plan.row image.sequences ≡ insert image.sequences at plan.row → HasDeltas image plan → Begins image plan.row (Begun at plan after)
 begins image at plan after prepared within made place deltas =
     let with_rows : List SeqRow → Image = λ rows. record image { epoch = image.epoch + 1; sequences = rows } in
-    record { made = ap with_rows (made ∙ sym place); follows = (prepared, within, made); deltas = deltas_elsewhere image (image.epoch + 1) after plan deltas }
+    record { made = ap with_rows (made ∙ sym place); follows = (prepared, within, made); deltas = deltas_elsewhere image (image.epoch + 1) after plan deltas; begins = refl }
 
 -- ---- the movement that takes a step
 
@@ -106,7 +108,7 @@ module _ (image : Image) (n : ℕ) (at : ℕ) (s : SeqRow) (up : IsStrictlySorte
   unfolding next_image
   started kind goal.Start row is h made =
       let was = before_step image goal.Start kind n s h found in
-      record { made = after phase.Started row made; follows = (back phase.Prepared phase.Started row was made, ap (λ (r : SeqRow). r.phase) made); deltas = tt }
+      record { made = after phase.Started row made; nodes = tt; follows = (back phase.Prepared phase.Started row was made, ap (λ (r : SeqRow). r.phase) made); deltas = tt; suits = place }
   started kind goal.Mid row is h made = cc
   started kind goal.Finish row is h made = cc
 
@@ -114,24 +116,26 @@ module _ (image : Image) (n : ℕ) (at : ℕ) (s : SeqRow) (up : IsStrictlySorte
   unfolding next_image
   half_way kind goal.Mid row is h made =
       let was = before_step image goal.Mid kind n s h found in
-      record { made = after phase.Mid row made; follows = (back phase.Started phase.Mid row was made, ap (λ (r : SeqRow). r.phase) made); deltas = tt }
+      record { made = after phase.Mid row made; nodes = tt; follows = (back phase.Started phase.Mid row was made, ap (λ (r : SeqRow). r.phase) made); deltas = tt; suits = place }
   half_way kind goal.Start row is h made = cc
   half_way kind goal.Finish row is h made = cc
 
-  pub done : (kind : Kind) (g : Goal) (nodes : List NodeRow) (ring : List Pair) (rows : List SeqRow) → g ≡ goal.Finish → early_refusal_of image (Step g kind n) ≡ None → nodes ≡ with_left image.nodes (leaver s) → ring ≡ ring_after image.tokens s
-      → rows ≡ others image.sequences n → IsChange image (Step g kind n) (Finished at nodes ring rows)
+  pub done : (kind : Kind) (g : Goal) (left : Option LeftRow) (ring : List Pair) (rows : List SeqRow) → g ≡ goal.Finish → early_refusal_of image (Step g kind n) ≡ None → nodes_left image.nodes left ≡ with_left image.nodes (leaver s)
+      → IfSome left (IsLeftRow image.nodes) → ring ≡ ring_after image.tokens s → rows ≡ others image.sequences n → IsChange image (Step g kind n) (Finished at left ring rows)
   unfolding next_image
-  done kind goal.Finish nodes ring rows is h marked made left =
+  done kind goal.Finish left ring rows is h marked fits made rest =
       let was = before_step image goal.Finish kind n s h found in
-      let without : rows ≡ remove image.sequences at = left ∙ others_at n image.sequences at s up stands own in
+      let without : rows ≡ remove image.sequences at = rest ∙ others_at n image.sequences at s up stands own in
       let none_own : others image.sequences s.node ≡ remove image.sequences at = others_at s.node image.sequences at s up stands ((Decides-eqb s.node s.node).1 refl) in
       let ended : List NodeRow → List Pair → List SeqRow → Image = λ k r l. record image { epoch = image.epoch + 1; nodes = k; tokens = r; sequences = l } in
       let last : Option SeqRow → Image = λ o. let a : Image = finished image o in record a { epoch = image.epoch + 1 } in
       record {
         made = ap (λ k. ended k ring rows) marked ∙ ap (λ r. ended (with_left image.nodes (leaver s)) r rows) made
             ∙ ap (ended (with_left image.nodes (leaver s)) (ring_after image.tokens s)) (without ∙ sym none_own) ∙ ap last (sym found);
+        nodes = fits;
         follows = (ap (option_map (λ (q : SeqRow). q.phase)) stands ∙ ap (λ (p : Phase). Some p) was, without);
         deltas = tt;
+        suits = place;
       }
-  done kind goal.Start nodes ring rows is h marked made left = cc
-  done kind goal.Mid nodes ring rows is h marked made left = cc
+  done kind goal.Start left ring rows is h marked fits made rest = cc
+  done kind goal.Mid left ring rows is h marked fits made rest = cc

@@ -1,30 +1,37 @@
 -- The changes that commands make in an image.
 -- Of the code, but for `directory_of`, which `Metadata::directory` promises: no promise rests on the others.
-use Rattle.std.specs.Prelude.{◌≡◌, ℕ, ◌+◌, ◌≤◌, false, List, length, slice_set, Option, Some, None, option_map}
+use Rattle.std.specs.Prelude.{◌≡◌, ℕ, ◌+◌, ◌≤◌, false, List, [], ◌∷◌, ◌++◌, length, slice_set, Some, option_map, IfSome, IsSome}
 use Rattle.std.specs.List.{insert, remove, slice_get}
-use Rattle.node_directory.specs.Directory.{Registry}
+use Rattle.cluster_terms.specs.NodeRow.{row_of}
+use Rattle.node_directory.specs.Directory.{Registry, other_rows}
 use Rattle.placement_deltas.specs.declared.plan.Plan.{Plan}
 use Rattle.sequence_plans.specs.Deltas.{HasDeltas}
 use Rattle.transformations.specs.History.{begun, next_image}
+use Rattle.transformations.specs.Refusals.{prepared_by}
 use Rattle.transformations.specs.Rings.{is_mid}
+use Rattle.transformations.specs.Steps.{movement_of}
 use Rattle.transformations.specs.declared.command.Command.{Command}
+use Rattle.transformations.specs.declared.command.Command.TheVariants.{Register, Unregister, UnsafeJoin, Keyspace, DropKeyspace, Step, Cancel}
 use Rattle.transformations.specs.declared.image.Image.{Image}
+use Rattle.transformations.specs.declared.sequence.Goal.TheVariants as goal
 use Rattle.transformations.specs.declared.sequence.Phase.{Phase}
 use Rattle.transformations.specs.declared.sequence.Phase.TheVariants as phase
 use Rattle.transformations.specs.declared.sequence.SeqRow.{SeqRow}
+use Rattle.cluster_metadata.specs.Nodes.{IsLeftRow, IsNew, nodes_left}
 use Rattle.cluster_metadata.specs.declared.change.Change.{Change}
-use Rattle.cluster_metadata.specs.declared.change.Change.TheVariants.{Nodes, Tokens, Keyspaces, Begun, Started, Mid, Finished, Ended, BroughtBack}
+use Rattle.cluster_metadata.specs.declared.change.Change.TheVariants.{Registered, Unregistered, Tokens, Keyspaces, Begun, Started, Mid, Finished, Ended, BroughtBack}
 
 -- the image after a change; each change adds one epoch
 abbrev pub changed : Image → Change → Image
-changed image (Nodes nodes next) = record image { epoch = image.epoch + 1; next = next; nodes = nodes }
+changed image (Registered node) = record image { epoch = image.epoch + 1; next = node.next; nodes = image.nodes ++ node.row ∷ [] }
+changed image (Unregistered n) = record image { epoch = image.epoch + 1; nodes = other_rows image.nodes n }
 changed image (Tokens tokens) = record image { epoch = image.epoch + 1; tokens = tokens }
 changed image (Keyspaces keyspaces) = record image { epoch = image.epoch + 1; keyspaces = keyspaces }
 changed image (Begun at plan sequences) = record image { epoch = image.epoch + 1; sequences = sequences }
 changed image (Started at row) = record image { epoch = image.epoch + 1; sequences = slice_set image.sequences at row }
 changed image (Mid at row) = record image { epoch = image.epoch + 1; sequences = slice_set image.sequences at row }
-changed image (Finished at nodes tokens sequences) =
-    record image { epoch = image.epoch + 1; nodes = nodes; tokens = tokens; sequences = sequences }
+changed image (Finished at left tokens sequences) =
+    record image { epoch = image.epoch + 1; nodes = nodes_left image.nodes left; tokens = tokens; sequences = sequences }
 changed image (Ended at sequences) = record image { epoch = image.epoch + 1; sequences = sequences }
 changed image (BroughtBack at row) = record image { epoch = image.epoch + 1; sequences = slice_set image.sequences at row }
 
@@ -40,40 +47,73 @@ StandsAt rows at p = option_map (λ s. s.phase) (slice_get rows at) ≡ Some p
 abbrev pub StandsBeforeMid : List SeqRow → ℕ → Type 0
 StandsBeforeMid rows at = option_map (λ s. is_mid s.phase) (slice_get rows at) ≡ Some false
 
--- a change fits the movements in flight before it. The row of a new movement's plan is inserted at its index. For a step,
--- the same row is at this index, at the phase before; for the way back, it is there at MID. A movement that is finished is
--- at MID and is removed. A movement that is given up isn't at MID and is removed
+-- a change fits the movements in flight before it. The row of a new movement's plan is inserted at its index. For a
+-- step, the same row is at this index, at the phase before; for the way back, it is there at MID. A movement that is
+-- finished is at MID and is removed. A movement that is given up isn't at MID and is removed
 abbrev pub Follows : List SeqRow → Change → Type 0
 Follows before (Begun at plan after) = (plan.row.phase ≡ phase.Prepared) × (at ≤ length before) × (after ≡ insert before at plan.row)
 Follows before (Started at row) = (slice_get before at ≡ Some (in_phase phase.Prepared row)) × (row.phase ≡ phase.Started)
 Follows before (Mid at row) = (slice_get before at ≡ Some (in_phase phase.Started row)) × (row.phase ≡ phase.Mid)
-Follows before (Finished at nodes tokens after) = StandsAt before at phase.Mid × (after ≡ remove before at)
+Follows before (Finished at left tokens after) = StandsAt before at phase.Mid × (after ≡ remove before at)
 Follows before (Ended at after) = StandsBeforeMid before at × (after ≡ remove before at)
 Follows before (BroughtBack at row) = (slice_get before at ≡ Some (in_phase phase.Mid row)) × (row.phase ≡ phase.Started)
 Follows before _ = Unit {0}
+
+-- a change fits the nodes before it: a node that is registered is new, and a node that is removed or leaves is registered
+abbrev pub FitsNodes : Image → Change → Type 0
+FitsNodes image (Registered node) = IsNew image.nodes image.next node
+FitsNodes image (Unregistered n) = IsSome (row_of image.nodes n)
+FitsNodes image (Finished at left tokens after) = IfSome left (IsLeftRow image.nodes)
+FitsNodes image _ = Unit {0}
 
 -- the plan of a new movement has its deltas, in the image that the change leads to
 abbrev pub BringsDeltas : Image → Change → Type 0
 BringsDeltas image (Begun at plan after) = HasDeltas (changed image (Begun at plan after)) plan
 BringsDeltas image _ = Unit {0}
 
--- a change leads from an image to the next one
-pub record LeadsTo (image next : Image) (change : Change) : Type 0 where
-  pub made : changed image change ≡ next
+-- the movement of a node stands at this index
+abbrev pub StandsFor : Image → ℕ → ℕ → Type 0
+StandsFor image n at = slice_get image.sequences at ≡ movement_of image n
+
+-- the kind of change that a command makes. A movement that begins is the one that the command prepares, and a movement
+-- that a step or a cancel changes is that of its node
+abbrev pub Suits : Image → Command → Change → Type 0
+Suits image c (Begun at plan after) = prepared_by image.tokens c ≡ Some plan.row
+Suits image (Register name dc rack) (Registered node) = Unit {0}
+Suits image (Unregister n) (Unregistered m) = Unit {0}
+Suits image (UnsafeJoin n tokens) (Tokens pairs) = Unit {0}
+Suits image (Keyspace name r) (Keyspaces rows) = Unit {0}
+Suits image (DropKeyspace name) (Keyspaces rows) = Unit {0}
+Suits image (Step goal.Start kind n) (Started at row) = StandsFor image n at
+Suits image (Step goal.Mid kind n) (Mid at row) = StandsFor image n at
+Suits image (Step goal.Finish kind n) (Finished at left tokens after) = StandsFor image n at
+Suits image (Cancel n) (Ended at after) = StandsFor image n at
+Suits image (Cancel n) (BroughtBack at row) = StandsFor image n at
+Suits image _ _ = ⊥
+
+-- a change is the change of this command
+pub record IsChange (image : Image) (command : Command) (change : Change) : Type 0 where
+  pub made : changed image change ≡ next_image image command
+  pub nodes : FitsNodes image change
   pub follows : Follows image.sequences change
   pub deltas : BringsDeltas image change
+  pub suits : Suits image command change
 
--- a change is the change of this command; and it begins the movement of this row
-abbrev pub IsChange : Image → Command → Change → Type 0
-IsChange image command change = LeadsTo image (next_image image command) change
+-- a change begins the movement of this row
+abbrev pub BeginsWith : SeqRow → Change → Type 0
+BeginsWith row (Begun at plan after) = plan.row ≡ row
+BeginsWith row _ = ⊥
 
-abbrev pub Begins : Image → SeqRow → Change → Type 0
-Begins image row change = LeadsTo image (begun image row) change
+pub record Begins (image : Image) (row : SeqRow) (change : Change) : Type 0 where
+  pub made : changed image change ≡ begun image row
+  pub follows : Follows image.sequences change
+  pub deltas : BringsDeltas image change
+  pub begins : BeginsWith row change
 
 -- the plans of the movements in flight after a change, from those before it
 abbrev pub plans_after : List Plan → Change → List Plan
 plans_after plans (Begun at plan sequences) = insert plans at plan
-plans_after plans (Finished at nodes tokens sequences) = remove plans at
+plans_after plans (Finished at left tokens sequences) = remove plans at
 plans_after plans (Ended at sequences) = remove plans at
 plans_after plans _ = plans
 
@@ -82,11 +122,6 @@ abbrev pub grown_to : Change → ℕ
 grown_to (Begun at plan sequences) = length sequences
 grown_to _ = 0
 
--- the directory of an image's nodes; and the directory after a change that comes with new nodes
+-- the directory of an image's nodes
 abbrev pub directory_of : Image → Registry
 directory_of image = record { rows = image.nodes; next = image.next }
-
-abbrev pub directory_after : Image → Change → Option Registry
-directory_after image (Nodes nodes next) = Some (record { rows = nodes; next = next })
-directory_after image (Finished at nodes tokens sequences) = Some (record { rows = nodes; next = image.next })
-directory_after image _ = None

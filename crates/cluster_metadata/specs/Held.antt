@@ -5,14 +5,17 @@ use Rattle.transformations.specs.Meeting.{HaveReplications}
 use Rattle.transformations.specs.Valid.{IsValid}
 use Rattle.transformations.specs.declared.image.Image.{Image}
 use Rattle.cluster_metadata.specs.Change.{directory_of}
+use Rattle.cluster_metadata.specs.Maps.{AreMaps}
 use Rattle.cluster_metadata.specs.Running.{HaveDeltas, IsRunning}
+use Rattle.cluster_metadata.specs.declared.map_row.MapRow.{MapRow}
 use Rattle.cluster_metadata.specs.declared.running.Running.{Running}
 
--- the image is valid, each of its keyspaces has a replication, and there are the directory of its nodes and the values
--- of its movements. The plan of each movement has the movement's deltas in this image
-pub record IsHeld (image : Image) (dir : Registry) (values : List Running) : Type 0 where
+-- the image is valid, each of its keyspaces has a replication, and there are the directory of its nodes, its placement
+-- maps, and the values of its movements. The plan of each movement has the movement's deltas in this image
+pub record IsHeld (image : Image) (dir : Registry) (book : List MapRow) (values : List Running) : Type 0 where
   pub valid : IsValid image
   pub replications : HaveReplications image
   pub directory : dir ≡ directory_of image
+  pub maps : AreMaps image book
   pub running : IsRunning image.sequences values
   pub deltas : HaveDeltas image values

@@ -1,6 +1,13 @@
 pub mod Change
+pub mod CutDeltas
 pub mod Held
 pub mod Locks
+pub mod MapBasis
+pub mod MapChanges
+pub mod MapSteps
+pub mod Maps
+pub mod Nodes
 pub mod Permission
 pub mod Running
 pub mod Served
+pub mod Turns

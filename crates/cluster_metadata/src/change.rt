@@ -1,15 +1,18 @@
-use cluster_terms::{NodeRows, PairList};
+use crate::leaving::LeftRow;
+use crate::new_node::NewNode;
+use cluster_terms::{NodeId, PairList};
 use placement_deltas::Plan;
 use transformations::{KeyspaceRows, SeqRow, SeqRows};
 
 /// The change that a command makes in an image, beside the epoch. It has the new version of each list that changes, or
-/// of the row of one movement. `at` is the index of this movement among the movements.
+/// of the row of one node or one movement. `at` is the index of this movement among the movements.
 #[derive(Drop)]
 pub enum Change {
-    /// The new nodes, and the id of the next node that is registered.
-    Nodes {
-        nodes: NodeRows,
-        next: u32,
+    /// A node is registered.
+    Registered(NewNode),
+    /// A node is removed.
+    Unregistered {
+        node: NodeId,
     },
     /// The pairs of the new ring.
     Tokens(PairList),
@@ -31,10 +34,11 @@ pub enum Change {
         at: usize,
         row: SeqRow,
     },
-    /// A movement is finished: the nodes (one may have left by it), the ring after it, and the other movements.
+    /// A movement is finished: the row of the node that has left by it, if any, the ring after it, and the other
+    /// movements.
     Finished {
         at: usize,
-        nodes: NodeRows,
+        left: Option<LeftRow>,
         tokens: PairList,
         sequences: SeqRows,
     },

@@ -1,12 +1,10 @@
 //! The change that a command makes in an image that accepts it.
 
-ghost use Rattle.std.specs.Prelude.{◌≡◌, ◌<◌, ◌^◌, ◌-◌, ◌==◌, true, not, None, filter, IfOk, OnOk};
-ghost use Rattle.std.specs.List.Sorted.{IsStrictlySortedBy};
+ghost use Rattle.std.specs.Prelude.{◌≡◌, ◌<◌, ◌^◌, ◌-◌, true, not, None, filter, IfOk, OnOk};
 ghost use Rattle.std.specs.Str.{bytes_eq};
 ghost use Rattle.cluster_terms.specs.Replication.{IsReplication};
 ghost use Rattle.transformations.specs.History.{is_command};
 ghost use Rattle.transformations.specs.Meeting.{HasReplication};
-ghost use Rattle.transformations.specs.Orders.{by_node};
 ghost use Rattle.transformations.specs.Refusals.{early_refusal_of, prepared_by, refusal_of};
 ghost use Rattle.transformations.specs.Valid.{IsSound};
 ghost use Rattle.transformations.specs.declared.command.Command.TheVariants as command;
@@ -16,54 +14,31 @@ ghost use Rattle.cluster_metadata.specs.Permission.{AdmitsUnless};
 use crate::admit_fault::AdmitFault;
 use crate::cancelling::cancel;
 use crate::change::Change;
+use crate::new_node::{NewNode, new_row};
+use crate::pairs::with_pairs;
 use crate::preparing::{prepare, row_prepared};
 use crate::stepping::step;
-use cluster_terms::{
-    Memory, Name, NodeId, NodeRow, NodeRows, Replication, Steps, TokenList, TryCopy,
-};
+use cluster_terms::{Memory, Name, NodeId, Replication, Steps, TokenList, TryCopy};
 use sequence_rows::pairs_with;
 use std::alloc::Global;
 use std::sync::ledger::Ledger;
 use transformations::{Command, Image, KeyspaceRow, KeyspaceRows};
 
 /// The change that adds a node under the next id.
-#[tactic(auto, unfolding(transformations::specs::History::next_image))]
-fn register(image: &Image, name: &Name, dc: &Name, rack: &Name) -> Result<Change, Memory>
-    requires { image.now.next < 2 ^ 32 - 1 }
+#[tactic(auto, using(crate::proofs::NodeLemmas::free_name, crate::proofs::NodeLemmas::registers))]
+fn register(
+    alloc: Global,
+    image: &Image,
+    name: &Name,
+    dc: &Name,
+    rack: &Name,
+) -> Result<Change, Memory>
+    requires next { image.now.next < 2 ^ 32 - 1 }
+    requires accepted { early_refusal_of image.now (command.Register name.now dc.now rack.now) ≡ None }
     ensures { IfOk result (IsChange image.now (command.Register name.now dc.now rack.now)) }
 {
-    let mut nodes = image.nodes.copy()?;
-    nodes.push(NodeRow {
-        id: NodeId(image.next),
-        name: name.copy()?,
-        dc: dc.copy()?,
-        rack: rack.copy()?,
-        left: false,
-    })?;
-    Ok(Change::Nodes {
-        nodes,
-        next: image.next + 1,
-    })
-}
-
-/// Keeps the rows of the other nodes.
-fn remove_node(rows: &mut NodeRows, node: NodeId)
-    ensures { rows.new ≡ filter (λ row. not (row.id == node)) rows.old }
-{
-    rows.retain(|row| row.id != node);
-}
-
-/// The change that removes a node.
-#[tactic(auto, unfolding(transformations::specs::History::next_image))]
-fn unregister(image: &Image, node: NodeId) -> Result<Change, Memory>
-    ensures { IfOk result (IsChange image.now (command.Unregister node)) }
-{
-    let mut nodes = image.nodes.copy()?;
-    remove_node(&mut nodes, node);
-    Ok(Change::Nodes {
-        nodes,
-        next: image.next,
-    })
+    let row = new_row(image.next, name, dc, rack)?;
+    Ok(Change::Registered(NewNode::of_row(alloc, image, row)?))
 }
 
 /// The change that gives tokens to a node at once, without a movement.
@@ -77,8 +52,7 @@ fn unsafe_join(
     ensures { IfOk result (IsChange image.now (command.UnsafeJoin node tokens.now)) }
 {
     let pairs = pairs_with(alloc, node, tokens.as_slice())?;
-    let mut ring = image.tokens.copy()?;
-    ring.put_all(pairs.as_slice())?;
+    let ring = with_pairs(alloc, image.tokens.as_slice(), pairs.as_slice())?;
     Ok(Change::Tokens(ring))
 }
 
@@ -116,15 +90,15 @@ fn drop_keyspace(image: &Image, name: &Name) -> Result<Change, Memory>
 /// The change of a command that prepares no movement.
 fn settled(alloc: Global, image: &Image, cmd: &Command) -> Result<Change, Memory>
     requires next { image.now.next < 2 ^ 32 - 1 }
-    requires movements { IsStrictlySortedBy by_node image.now.sequences }
+    requires sound { IsSound image.now }
     requires early { early_refusal_of image.now cmd.now ≡ None }
     requires settled { prepared_by image.now.tokens cmd.now ≡ None }
     ensures change { IfOk result (IsChange image.now cmd.now) }
     ensures replicated { OnOk result (HasReplication cmd.now) }
 {
     match cmd {
-        Command::Register { name, dc, rack } => register(image, name, dc, rack),
-        Command::Unregister { node } => unregister(image, *node),
+        Command::Register { name, dc, rack } => register(alloc, image, name, dc, rack),
+        Command::Unregister { node } => Ok(Change::Unregistered { node: *node }),
         Command::UnsafeJoin { node, tokens } => unsafe_join(alloc, image, *node, tokens),
         Command::Keyspace { name, replication } => set_keyspace(image, name, replication),
         Command::DropKeyspace { name } => drop_keyspace(image, name),

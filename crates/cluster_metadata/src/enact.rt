@@ -1,13 +1,18 @@
-//! Makes a change in an image and in the values of its movements in flight. Nothing here allocates memory.
+//! Makes a change in an image, in its directory and in the values of its movements in flight. Nothing here allocates
+//! memory.
 
 ghost use Rattle.std.specs.Prelude.{◌≡◌, ◌+◌, ◌<◌, ◌≤◌, ◌^◌, ◌-◌, length, map, slice_set, vec_capacity, vec_len, MatchOption};
 ghost use Rattle.std.specs.List.{insert, remove};
 ghost use Rattle.transformations.specs.declared.sequence.Phase.TheVariants as phase;
-ghost use Rattle.cluster_metadata.specs.Change.{Follows, StandsAt, StandsBeforeMid, changed, grown_to, plans_after};
+ghost use Rattle.cluster_metadata.specs.Change.{FitsNodes, Follows, StandsAt, StandsBeforeMid, changed, directory_of, grown_to, plans_after};
+ghost use Rattle.cluster_metadata.specs.MapChanges.{maps_after};
 ghost use Rattle.cluster_metadata.specs.Running.{IsRunning, plan_of};
 ghost use Rattle.cluster_metadata.specs.declared.change.Change.TheVariants as change;
 
 use crate::change::Change;
+use crate::map_book::MapBook;
+use crate::map_change::MapChange;
+use crate::nodes::{mark_left, register, unregister};
 use crate::running::Running;
 use node_directory::Directory;
 use placement_deltas::Plan;
@@ -121,32 +126,42 @@ fn bring_back(sequences: &mut SeqRows, running: &mut Vec<Running>, at: usize, ro
     sequences.replace(at, row);
 }
 
-/// Replaces the directory if the change comes with a new one.
-pub fn renew(directory: &mut Directory, left: Option<Directory>)
-    ensures { MatchOption left (directory.new ≡ directory.old) (λ d. directory.new ≡ d) }
+/// Changes the placement maps.
+pub fn exchange(maps: &mut MapBook, change: MapChange)
+    ensures { maps.new ≡ maps_after change maps.old }
 {
-    if let Some(left) = left {
-        *directory = left;
+    match change {
+        MapChange::Keep => {}
+        MapChange::Anew(next) => *maps = next,
+        MapChange::Sets(changes) => maps.exchange(changes),
     }
 }
 
-/// Makes a change in an image and in the values of its movements. `room` is memory for the values if a movement begins.
-pub fn make(image: &mut Image, running: &mut Vec<Running>, change: Change, mut room: Vec<Running>)
+/// Makes a change in an image, in its directory and in the values of its movements. `room` is memory for the values if a
+/// movement begins.
+pub fn make(
+    image: &mut Image,
+    directory: &mut Directory,
+    running: &mut Vec<Running>,
+    change: Change,
+    mut room: Vec<Running>,
+)
     requires epochs { image.old.epoch < 2 ^ 64 - 1 }
+    requires directory { directory.old ≡ directory_of image.old }
+    requires nodes { FitsNodes image.old change }
     requires running { IsRunning image.old.sequences running.old.items }
     requires follows { Follows image.old.sequences change }
     requires empty { vec_len room ≡ 0 }
     requires room { grown_to change ≤ vec_capacity room }
     ensures made { image.new ≡ changed image.old change }
+    ensures directory { directory.new ≡ directory_of image.new }
     ensures running { IsRunning image.new.sequences running.new.items }
     ensures plans { map plan_of running.new.items ≡ plans_after (map plan_of running.old.items) change }
 {
     image.epoch += 1;
     match change {
-        Change::Nodes { nodes, next } => {
-            image.nodes = nodes;
-            image.next = next;
-        }
+        Change::Registered(node) => register(image, directory, node),
+        Change::Unregistered { node } => unregister(image, directory, node),
         Change::Tokens(tokens) => image.tokens = tokens,
         Change::Keyspaces(keyspaces) => image.keyspaces = keyspaces,
         Change::Begun {
@@ -161,12 +176,12 @@ pub fn make(image: &mut Image, running: &mut Vec<Running>, change: Change, mut r
         Change::Mid { at, row } => mid(&mut image.sequences, running, at, row),
         Change::Finished {
             at,
-            nodes,
+            left,
             tokens,
             sequences,
         } => {
             finish(image.sequences.as_slice(), running, at);
-            image.nodes = nodes;
+            mark_left(image, directory, left);
             image.tokens = tokens;
             image.sequences = sequences;
         }

@@ -1,12 +1,21 @@
 //! Which node has left once a movement is done.
 
-ghost use Rattle.std.specs.Prelude.{◌≡◌, map, IfOk};
+ghost use Rattle.std.specs.Prelude.{◌≡◌, ◌==◌, map, position, IfOk, IfSome};
 ghost use Rattle.cluster_terms.specs.NodeRow.{marked};
 ghost use Rattle.transformations.specs.Steps.{first_node, leaver, with_left};
+ghost use Rattle.transformations.specs.Valid.{IsSound};
+ghost use Rattle.cluster_metadata.specs.Nodes as spec;
 
 use cluster_terms::{Memory, NodeId, NodeRow, NodeRows, Pair, TryCopy};
 use std::alloc::Global;
-use transformations::{Kind, SeqRow};
+use transformations::{Image, Kind, SeqRow};
+
+/// The row of a node that leaves, marked as left, and its index among the nodes.
+#[derive(Drop)]
+pub struct LeftRow {
+    pub at: usize,
+    pub row: NodeRow,
+}
 
 /// The node of the first pair. Returns `None` if there is no pair.
 fn first_node(pairs: &[Pair]) -> Option<NodeId>
@@ -59,5 +68,42 @@ pub fn with_left(alloc: Global, rows: &NodeRows, leaver: Option<NodeId>) -> Resu
     match leaver {
         Some(node) => all_marked(alloc, rows.as_slice(), node),
         None => rows.copy(),
+    }
+}
+
+/// The node that leaves with a row.
+pub fn left_node(left: &Option<LeftRow>) -> Option<NodeId>
+    ensures { result ≡ spec.left_node left.now }
+{
+    match left {
+        Some(left) => Some(left.row.id),
+        None => None,
+    }
+}
+
+/// The index of a node's row. Returns `None` if and only if the node is not registered.
+fn found_at(nodes: &[NodeRow], node: NodeId) -> Option<usize>
+    ensures { result ≡ position (λ row. row.id == node) nodes.now }
+{
+    nodes.iter().position(|row| row.id == node)
+}
+
+/// The row of the leaver, marked as left. Returns `None` if no row changes: there is no leaver, or it is not registered.
+pub fn left_row(image: &Image, leaver: Option<NodeId>) -> Result<Option<LeftRow>, Memory>
+    requires { IsSound image.now }
+    ensures nodes { IfOk result (λ left. spec.nodes_left image.now.nodes left ≡ with_left image.now.nodes leaver) }
+    ensures row { IfOk result (λ left. IfSome left (spec.IsLeftRow image.now.nodes)) }
+{
+    let Some(node) = leaver else {
+        return Ok(None);
+    };
+    let nodes = image.nodes.as_slice();
+    match found_at(nodes, node) {
+        Some(at) => {
+            let mut row = nodes[at].copy()?;
+            row.left = true;
+            Ok(Some(LeftRow { at, row }))
+        }
+        None => Ok(None),
     }
 }

@@ -1,22 +1,34 @@
-ghost use Rattle.std.specs.Prelude.{◌≡◌, ◌<◌, ◌≤◌, true, None, length, option_map, IfErr, IfOk, IfSome, IsSome, IsTrue};
+ghost use Rattle.std.specs.Prelude.{◌≡◌, ◌*◌, ◌-◌, ◌<◌, ◌≤◌, ◌^◌, ℤ, true, false, None, length, option_map, IfErr, IfOk, IfSome, IsSome, IsTrue};
+ghost use Rattle.std.specs.List.{All};
 ghost use Rattle.std.specs.Option.{option_copied};
+ghost use Rattle.std.specs.Ordering.{int_eq};
+ghost use Rattle.std.specs.Set.{is_member};
+ghost use Rattle.cluster_terms.specs.Row.{rows_between};
+ghost use Rattle.cluster_terms.specs.declared.replication.Replication.{Replication};
+ghost use Rattle.transformations.specs.CutSteps.{SameAcross};
 ghost use Rattle.transformations.specs.History.{empty_image, is_command, most_epochs, next_image};
 ghost use Rattle.transformations.specs.Meeting.{HaveReplications, QuorumsExistTogether, QuorumsMeet, ReadsAreWritten, makes_movement_epoch};
 ghost use Rattle.transformations.specs.Refusals.{early_refusal_of, prepared_by, refusal_of};
+ghost use Rattle.transformations.specs.Rings.{cuts, writes_at};
 ghost use Rattle.transformations.specs.Valid.{IsValid};
 ghost use Rattle.cluster_metadata.specs.Change.{directory_of};
+ghost use Rattle.cluster_metadata.specs.CutDeltas.{ActsByDelta, CutsMove, DeltasSameAcross};
+ghost use Rattle.cluster_metadata.specs.Maps.{AreMaps, placement_rows};
 ghost use Rattle.cluster_metadata.specs.Running.{HaveDeltas, IsRunning};
 ghost use Rattle.cluster_metadata.specs.Served as spec;
 
 use crate::admit_fault::AdmitFault;
-use crate::enact::{make, renew};
+use crate::enact::{exchange, make};
 use crate::image_fault::ImageFault;
+use crate::keyspaces::keyspace_of;
+use crate::map_book::MapBook;
+use crate::maps::{find_map, maps_of};
 use crate::permit::{Permit, permit_for};
-use crate::placement::{keyspace_of, served_by};
 use crate::running::{Running, close_all, resume_all};
 use cluster_terms::{Memory, Name, Replication, SmallList, Steps, Token, TryCopy};
 use node_directory::Directory;
 use node_sets::NodeSet;
+use range_placements::PlacementMap;
 use std::alloc::Global;
 use std::marker::Model;
 use std::sync::ledger::Ledger;
@@ -36,6 +48,7 @@ pub struct Metadata {
     alloc: Global,
     image: Image,
     directory: Directory,
+    maps: MapBook,
     running: Vec<Running>,
 }
 
@@ -47,19 +60,21 @@ impl Model for Metadata {
 
     ghost view = { λ m. m.image };
 
-    ghost invariant = { λ m. IsHeld m.image m.directory m.running.items };
+    ghost invariant = { λ m. IsHeld m.image m.directory m.maps m.running.items };
 }
 
-/// The directory of a valid image, and the values of its movements in flight, each with its plan.
-fn parts_of(alloc: Global, image: &Image) -> Result<(Directory, Vec<Running>), Memory>
+/// The directory of a valid image, its placement maps, and the values of its movements in flight, each with its plan.
+fn parts_of(alloc: Global, image: &Image) -> Result<(Directory, MapBook, Vec<Running>), Memory>
     requires { IsValid image.now }
     ensures directory { IfOk result (λ parts. parts.0 ≡ directory_of image.now) }
-    ensures running { IfOk result (λ parts. IsRunning image.now.sequences parts.1.items) }
-    ensures deltas { IfOk result (λ parts. HaveDeltas image.now parts.1.items) }
+    ensures maps { IfOk result (λ parts. AreMaps image.now parts.1) }
+    ensures running { IfOk result (λ parts. IsRunning image.now.sequences parts.2.items) }
+    ensures deltas { IfOk result (λ parts. HaveDeltas image.now parts.2.items) }
 {
     let directory = Directory::from_valid(alloc, image.nodes.as_slice(), image.next)?;
+    let maps = maps_of(alloc, image, &directory, &MapBook::empty(alloc))?;
     let running = resume_all(alloc, image)?;
-    Ok((directory, running))
+    Ok((directory, maps, running))
 }
 
 impl Metadata {
@@ -83,6 +98,7 @@ impl Metadata {
             alloc,
             image,
             directory,
+            maps: MapBook::empty(alloc),
             running: Vec::new(alloc),
         })
     }
@@ -93,6 +109,8 @@ impl Metadata {
     /// Cost: a copy of the nodes, and a plan for each movement in flight, as `sequence_plans::plan` makes it. For m
     /// movements and r replications, this is m copies of the image and m·m·r calls of `ring_reach::reached`. Each plan
     /// also walks rings: under each replication, two walks for each row between cuts that is in its movement's ranges.
+    /// Under each replication, the placement maps take three rings of all pairs, and three walks for each row between
+    /// cuts; without movements, one ring and one walk.
     pub fn from_image(alloc: Global, image: Image) -> Result<Metadata, (Image, ImageFault)>
         requires valid { IsValid image }
         requires replications { HaveReplications image }
@@ -100,10 +118,11 @@ impl Metadata {
         ensures handed_back { IfErr result (λ e. e.0 ≡ image) }
     {
         match parts_of(alloc, &image) {
-            Ok((directory, running)) => Ok(Metadata {
+            Ok((directory, maps, running)) => Ok(Metadata {
                 alloc,
                 image,
                 directory,
+                maps,
                 running,
             }),
             Err(Memory) => Err((image, ImageFault::Memory)),
@@ -142,13 +161,22 @@ impl Metadata {
     /// last. `Locked` shows the least node whose movement shares a token with the new movement, in the ranges of both
     /// under one keyspace, and the right end of the first row that they share.
     ///
-    /// Cost: a copy of each list that the command changes, or of the row of the movement that takes a step. A command
-    /// that prepares no movement calls no strategy and counts no walk.
+    /// Cost: a copy of each list that the command changes, or of the row of the movement that takes a step. The nodes
+    /// aren't copied: a register, an unregister and a finish change one row of the image and of the directory. A
+    /// register takes memory for twice the nodes, which stays unused if they have memory to spare. A command that
+    /// prepares no movement counts no walk.
     ///
     /// If the command prepares a movement, its plan is made: the image is copied, and the ranges of all movements are
-    /// found anew. For m movements with the new one and r replications, `ring_reach::reached` is called m·r times. Under
-    /// each replication, two walks are counted for each row between cuts that is in the ranges of the new movement. See
-    /// `sequence_plans::plan`. `Locked` is the only refusal that comes after walks.
+    /// found anew. For m movements with the new one and r replications, `ring_reach::reached` is called m·r times.
+    /// Under each replication, two walks are counted for each row between cuts that is in the ranges of the new
+    /// movement. See `sequence_plans::plan`. `Locked` is the only refusal that comes after walks.
+    ///
+    /// The placement maps stay if a node is registered or unregistered. A start, the step half way and a cancel half way
+    /// make new sets for the rows that the deltas of the movement change, and search the delta for each row. If a
+    /// movement begins or ends, the maps and the image are copied and the tokens sorted, for the cuts of the next image,
+    /// and each row takes two binary searches. An unsafe join places the maps anew: under each replication, one walk for
+    /// each row between the cuts of the next image, which `walks` doesn't count. A command on keyspaces places that of a
+    /// new replication, and copies the others, or keeps all if the replications stay.
     ///
     /// Under each keyspace, a token is in the ranges of at most one movement. Whichever movements are done or given up,
     /// the placement at a token depends only on the movements that have it in their ranges. Reads and writes are
@@ -170,7 +198,15 @@ impl Metadata {
         ensures rings { AreOutcomes self.now }
         ensures placements { ArePlacedByOutcomes self.now }
     {
-        permit_for(self.alloc, &self.image, cmd, walks)
+        permit_for(
+            self.alloc,
+            &self.image,
+            &self.directory,
+            &self.maps,
+            self.running.as_slice(),
+            cmd,
+            walks,
+        )
     }
 
     /// Carries out the permit's command and returns the new epoch. It can't be refused and allocates no memory: it
@@ -182,6 +218,14 @@ impl Metadata {
     /// If the command makes a movement epoch, each write quorum of the image before shares a replica with each read
     /// quorum of the image after, and the other way round. This holds for QUORUM at every token under every keyspace,
     /// and for LOCAL_QUORUM in each datacenter that its replication names.
+    ///
+    /// Such a command changes the reads and the writes by its delta, and the cuts by the movement that begins or ends.
+    /// After every command, the reads and the writes at a token that is no cut are those at the token after it, and
+    /// each movement in flight gains and loses the same nodes at both. So a token at which its delta changes is a cut
+    /// as long as the movement is in flight.
+    ///
+    /// Cost: a register adds one row to the nodes and to the directory, and moves the others only if there is no memory
+    /// to spare. An unregister moves the rows after the removed one. A finish changes one row in place.
     pub fn enact(&mut self, permit: Permit) -> u64
         requires { permit.image ≡ self.old }
         ensures image { self.new ≡ next_image self.old permit.command }
@@ -192,16 +236,23 @@ impl Metadata {
         ensures placements { ArePlacedByOutcomes self.new }
         ensures ranges { KeepsRanges self.old self.new }
         ensures meets { makes_movement_epoch permit.command ≡ true → QuorumsMeet self.old self.new }
+        ensures acts { makes_movement_epoch permit.command ≡ true → ActsByDelta self.old self.new permit.command }
+        ensures cuts { makes_movement_epoch permit.command ≡ true → CutsMove self.old self.new permit.command }
+        ensures across { (r : Replication) (t : ℤ) → is_member int_eq (cuts self.new) t ≡ false
+            → SameAcross self.new r t }
+        ensures live { (r : Replication) (t : ℤ) → is_member int_eq (cuts self.new) t ≡ false
+            → All (λ s. DeltasSameAcross self.new r s t) self.new.sequences }
     {
         let Permit {
             change,
             room,
-            directory,
+            maps,
             image: _,
             command: _,
         } = permit;
-        renew(&mut self.directory, directory);
-        make(&mut self.image, &mut self.running, change, room);
+        exchange(&mut self.maps, maps);
+        let (image, directory) = (&mut self.image, &mut self.directory);
+        make(image, directory, &mut self.running, change, room);
         self.image.epoch
     }
 
@@ -212,32 +263,59 @@ impl Metadata {
     /// Each node that is read is written, and at most 1,024 nodes are written. Each write quorum of the image shares a
     /// replica with each of its read quorums, and a write quorum exists if and only if a read quorum does.
     ///
-    /// `Err` means that memory ran out. Cost: each call builds three rings. It copies and sorts the pairs three times,
-    /// and walks each ring once. For n pairs, of which movements take out k, it also makes up to 2·n·k comparisons.
-    pub fn replicas(
+    /// Takes no memory. Cost: a comparison with each keyspace and each replication, and a binary search in the
+    /// placement map, whose comparisons `steps` counts. For n rows between the cuts of the image, 2^steps is at most
+    /// 2 n.
+    pub fn replicas<L: Ledger>(
         &self,
-        alloc: Global,
         keyspace: &Name,
         t: Token,
-    ) -> Result<Option<(NodeSet, NodeSet)>, Memory>
-        ensures sets { IfOk result (λ found. found ≡ spec.served self.now keyspace.now t) }
-        ensures few { IfOk result (λ found. IfSome found (λ sets. length sets.1 ≤ 1024)) }
+        steps: &mut Steps<L>,
+    ) -> Option<(&NodeSet, &NodeSet)>
+        ensures sets { option_map (λ sets. (sets.0.now, sets.1.now)) result ≡ spec.served self.now keyspace.now t }
+        ensures few { IfSome result (λ sets. length sets.1.now ≤ 1024) }
+        ensures itself { QuorumsMeet self.now self.now }
+        ensures together { QuorumsExistTogether self.now }
+        ensures written { ReadsAreWritten self.now }
+        ensures rises { steps.old ≤ steps.new }
+        ensures bound { 2 ^ (steps.new - steps.old) ≤ 2 * length (rows_between (cuts self.now)) }
+    {
+        match self.map(keyspace) {
+            Some(map) => Some(map.at(t, steps)),
+            None => None,
+        }
+    }
+
+    /// The placement map of a keyspace: for each row between the cuts of the image, the nodes that are read and the
+    /// nodes that are written. Returns `None` if and only if no keyspace has this name.
+    ///
+    /// Takes no memory. Cost: a comparison with each keyspace and each replication.
+    pub fn placements(&self, keyspace: &Name) -> Option<&PlacementMap>
+        ensures { option_copied result ≡ option_map (λ row. placement_rows self.now row.replication)
+            (spec.keyspace_of self.now keyspace.now) }
+    {
+        self.map(keyspace)
+    }
+
+    /// The placement map of a keyspace. The contract also says what holds of the placements of all keyspaces.
+    fn map(&self, keyspace: &Name) -> Option<&PlacementMap>
+        ensures found { option_copied result ≡ option_map (λ row. placement_rows self.now row.replication)
+            (spec.keyspace_of self.now keyspace.now) }
+        ensures few { (r : Replication) (x : ℤ) → length (writes_at self.now r x) ≤ 1024 }
         ensures itself { QuorumsMeet self.now self.now }
         ensures together { QuorumsExistTogether self.now }
         ensures written { ReadsAreWritten self.now }
     {
         match self.keyspace(keyspace) {
-            None => Ok(None),
-            Some(row) => {
-                let (image, dir) = (&self.image, &self.directory);
-                Ok(Some(served_by(alloc, image, dir, &row.replication, t)?))
-            }
+            Some(row) => find_map(&self.maps, &row.replication),
+            None => None,
         }
     }
 
-    /// The keyspace with this name. The contract also says what holds of the quorums of all keyspaces.
+    /// The keyspace with this name. The contract also says what holds of the placements of all keyspaces.
     fn keyspace(&self, name: &Name) -> Option<&KeyspaceRow>
         ensures found { option_copied result ≡ spec.keyspace_of self.now name.now }
+        ensures few { (r : Replication) (x : ℤ) → length (writes_at self.now r x) ≤ 1024 }
         ensures itself { QuorumsMeet self.now self.now }
         ensures together { QuorumsExistTogether self.now }
         ensures written { ReadsAreWritten self.now }
@@ -269,6 +347,7 @@ impl Metadata {
             alloc: _,
             image: _,
             directory: _,
+            maps: _,
             running,
         } = self;
         close_all(running);

@@ -1,13 +1,18 @@
 ghost use Rattle.std.specs.Prelude.{◌≡◌, ◌<◌, ◌≤◌, None, IfOk, IsSome, IsTrue, vec_capacity, vec_len};
 ghost use Rattle.transformations.specs.History.{is_command, most_epochs};
 ghost use Rattle.transformations.specs.Refusals.{early_refusal_of, prepared_by, refusal_of};
-ghost use Rattle.transformations.specs.Valid.{IsSound, IsValid};
-ghost use Rattle.cluster_metadata.specs.Change.{changed, directory_after, grown_to};
+ghost use Rattle.transformations.specs.Valid.{IsValid};
+ghost use Rattle.cluster_metadata.specs.Change.{grown_to};
+ghost use Rattle.cluster_metadata.specs.Maps.{AreMaps};
+ghost use Rattle.cluster_metadata.specs.Running.{HaveDeltas, IsRunning};
 ghost use Rattle.cluster_metadata.specs.Permission.{AdmitsUnless};
 
 use crate::admit_fault::AdmitFault;
 use crate::change::Change;
 use crate::changes::change_of;
+use crate::map_book::MapBook;
+use crate::map_change::MapChange;
+use crate::map_changes::maps_for;
 use crate::running::Running;
 use cluster_terms::{Memory, Steps};
 use node_directory::Directory;
@@ -28,23 +33,6 @@ fn room_for(alloc: Global, change: &Change) -> Result<Vec<Running>, Memory>
     Ok(Vec::with_capacity(alloc, count)?)
 }
 
-/// The directory after a change. Returns `None` if the change comes with no list of nodes.
-fn directory_for(alloc: Global, image: &Image, change: &Change) -> Result<Option<Directory>, Memory>
-    requires { IsSound (changed image.now change.now) }
-    ensures { IfOk result (λ found. found ≡ directory_after image.now change.now) }
-{
-    match change {
-        Change::Nodes { nodes, next } => {
-            Ok(Some(Directory::from_valid(alloc, nodes.as_slice(), *next)?))
-        }
-        Change::Finished { nodes, .. } => {
-            let directory = Directory::from_valid(alloc, nodes.as_slice(), image.next)?;
-            Ok(Some(directory))
-        }
-        _ => Ok(None),
-    }
-}
-
 /// The permission to enact a command in an image that accepts it. Contracts see it as this image and this command. It
 /// holds the memory that the command needs.
 ///
@@ -52,14 +40,15 @@ fn directory_for(alloc: Global, image: &Image, change: &Change) -> Result<Option
 pub struct Permit {
     pub(crate) change: Change,
     pub(crate) room: Vec<Running>,
-    pub(crate) directory: Option<Directory>,
+    pub(crate) maps: MapChange,
     pub(crate) image: Snapshot<Image>,
     pub(crate) command: Snapshot<Command>,
 }
 
 impl Model for Permit {
     ghost use Rattle.std.specs.Prelude.{◌≡◌, ◌≤◌, vec_capacity, vec_len};
-    ghost use Rattle.cluster_metadata.specs.Change.{directory_after, grown_to};
+    ghost use Rattle.cluster_metadata.specs.Change.{grown_to};
+    ghost use Rattle.cluster_metadata.specs.MapChanges.{BringsMaps};
     ghost use Rattle.cluster_metadata.specs.Permission.{Permission, IsPermitted};
 
     ghost Value = { Permission };
@@ -68,7 +57,7 @@ impl Model for Permit {
 
     ghost invariant = { λ p. IsPermitted p.image.value p.command.value p.change × (vec_len p.room ≡ 0)
         × (grown_to p.change ≤ vec_capacity p.room)
-        × (p.directory ≡ directory_after p.image.value p.change) };
+        × BringsMaps p.image.value p.change p.maps };
 }
 
 impl Permit {
@@ -77,7 +66,7 @@ impl Permit {
         let Permit {
             change: _,
             room,
-            directory: _,
+            maps: _,
             image: _,
             command: _,
         } = self;
@@ -89,10 +78,17 @@ impl Permit {
 pub(crate) fn permit_for<L: Ledger>(
     alloc: Global,
     image: &Image,
+    directory: &Directory,
+    maps: &MapBook,
+    running: &[Running],
     cmd: &Command,
     walks: &mut Steps<L>,
 ) -> Result<Permit, AdmitFault>
     requires valid { IsValid image.now }
+    requires nodes { directory.now.rows ≡ image.now.nodes }
+    requires maps { AreMaps image.now maps.now }
+    requires running { IsRunning image.now.sequences running.now }
+    requires deltas { HaveDeltas image.now running.now }
     requires room { image.now.epoch < most_epochs }
     requires formed { IsTrue (is_command cmd.now) }
     ensures permit { IfOk result (λ permit. permit ≡ record { image = image.now; command = cmd.now }) }
@@ -104,12 +100,12 @@ pub(crate) fn permit_for<L: Ledger>(
         return Err(AdmitFault::Refused(refusal));
     }
     let change = change_of(alloc, image, cmd, walks)?;
-    let directory = directory_for(alloc, image, &change)?;
+    let maps = maps_for(alloc, image, directory, maps, running, &change)?;
     let room = room_for(alloc, &change)?;
     Ok(Permit {
         change,
         room,
-        directory,
+        maps,
         image: Snapshot::of(image),
         command: Snapshot::of(cmd),
     })

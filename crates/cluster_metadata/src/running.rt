@@ -5,8 +5,10 @@ ghost use Rattle.transformations.specs.Valid.{IsSound};
 ghost use Rattle.transformations.specs.declared.sequence.Phase.TheVariants as phase;
 ghost use Rattle.sequence_plans.specs.Deltas.{HasDeltas};
 ghost use Rattle.cluster_metadata.specs.Running.{HaveDeltas, IsRunning, phase_of, plan_of, movement_row};
+ghost use Rattle.cluster_metadata.specs.Turns.{undoing};
 
 use crate::stepping::at_phase;
+use crate::turn::Turn;
 use cluster_terms::{Memory, Steps};
 use placement_deltas::Plan;
 use sequence_core::{Mid, Prepared, Seq, Started};
@@ -31,6 +33,28 @@ impl Running {
         ensures phase { phase_of result ≡ phase.Prepared }
     {
         Running::Prepared(Seq::begin(plan))
+    }
+
+    /// The plan with which the movement was prepared.
+    pub fn plan(&self) -> &Plan
+        ensures { result.now ≡ plan_of self.now }
+    {
+        match self {
+            Running::Prepared(seq) => seq.plan(),
+            Running::Started(seq) => seq.plan(),
+            Running::Mid(seq) => seq.plan(),
+        }
+    }
+
+    /// The turn that undoes the last step of the movement.
+    pub fn undoing(&self) -> Turn
+        ensures { result ≡ undoing (phase_of self.now) }
+    {
+        match self {
+            Running::Prepared(_) => Turn::Keep,
+            Running::Started(_) => Turn::WritesBack,
+            Running::Mid(_) => Turn::ReadsBack,
+        }
     }
 
     /// The value of a movement at any phase, from its plan.

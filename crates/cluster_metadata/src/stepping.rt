@@ -2,16 +2,16 @@
 
 ghost use Rattle.std.specs.Prelude.{◌≡◌, ◌<◌, ◌==◌, not, None, filter, find, length, position, IfOk, IsSome};
 ghost use Rattle.std.specs.List.{slice_get};
-ghost use Rattle.std.specs.List.Sorted.{IsStrictlySortedBy};
 ghost use Rattle.cluster_terms.specs.Pair.{has_pair, without_pairs};
-ghost use Rattle.transformations.specs.Orders.{by_node};
 ghost use Rattle.transformations.specs.Refusals.{early_refusal_of};
 ghost use Rattle.transformations.specs.Steps as spec;
+ghost use Rattle.transformations.specs.Valid.{IsSound};
 ghost use Rattle.transformations.specs.declared.command.Command.TheVariants as command;
 ghost use Rattle.cluster_metadata.specs.Change.{IsChange, in_phase};
 
 use crate::change::Change;
-use crate::leaving::{leaver, with_left};
+use crate::leaving::{leaver, left_row};
+use crate::pairs::with_pairs;
 use cluster_terms::{Memory, NodeId, Pair, PairList, TryCopy};
 use std::alloc::Global;
 use transformations::{Goal, Image, Kind, Phase, SeqRow, SeqRows};
@@ -40,13 +40,12 @@ fn remove_pairs(ring: &mut PairList, gone: &PairList)
 }
 
 /// The ring after a movement is done: without its outgoing pairs, and with its incoming pairs.
-fn ring_after(image: &Image, row: &SeqRow) -> Result<PairList, Memory>
+fn ring_after(alloc: Global, image: &Image, row: &SeqRow) -> Result<PairList, Memory>
     ensures { IfOk result (λ ring. ring ≡ spec.ring_after image.now.tokens row.now) }
 {
     let mut ring = image.tokens.copy()?;
     remove_pairs(&mut ring, &row.out_pairs);
-    ring.put_all(row.in_pairs.as_slice())?;
-    Ok(ring)
+    with_pairs(alloc, ring.as_slice(), row.in_pairs.as_slice())
 }
 
 /// The movements of the other nodes.
@@ -94,7 +93,7 @@ pub fn step(
     kind: Kind,
     node: NodeId,
 ) -> Result<Change, Memory>
-    requires movements { IsStrictlySortedBy by_node image.now.sequences }
+    requires sound { IsSound image.now }
     requires accepted { early_refusal_of image.now (command.Step goal kind node) ≡ None }
     ensures { IfOk result (IsChange image.now (command.Step goal kind node)) }
 {
@@ -112,8 +111,8 @@ pub fn step(
         }),
         Goal::Finish => Ok(Change::Finished {
             at,
-            nodes: with_left(alloc, &image.nodes, leaver(row))?,
-            tokens: ring_after(image, row)?,
+            left: left_row(image, leaver(row))?,
+            tokens: ring_after(alloc, image, row)?,
             sequences: others(image, node)?,
         }),
     }

@@ -4,6 +4,7 @@ ghost use Rattle.std.specs.List.{insert};
 ghost use Rattle.std.specs.List.Retain.{IsFiltered};
 
 use crate::memory::Memory;
+use crate::room::Room;
 use crate::token::{Pair, Token};
 use std::alloc::Global;
 use std::marker::Model;
@@ -86,6 +87,32 @@ impl<T> SmallList<T> {
         match self.items.insert(at, item) {
             Ok(()) => Ok(()),
             Err(failed) => Err((failed.value, Memory)),
+        }
+    }
+
+    /// Adds an item at the end. If the list has no memory to spare, its items move into the room. Takes no memory.
+    pub fn push_in(&mut self, item: T, room: Room<T>)
+        requires { length self.old < room }
+        ensures { self.new ≡ self.old ++ item ∷ [] }
+    {
+        room.give(&mut self.items);
+        match self.items.push(item) {
+            Ok(()) => {}
+            Err(_) => unreachable!(),
+        }
+    }
+
+    /// Inserts an item at position `at`, which is at most the length, and moves each later item. If the list has no
+    /// memory to spare, its items move into the room. Takes no memory.
+    pub fn insert_in(&mut self, at: usize, item: T, room: Room<T>)
+        requires place { at ≤ length self.old }
+        requires room { length self.old < room }
+        ensures { self.new ≡ insert self.old at item }
+    {
+        room.give(&mut self.items);
+        match self.items.insert(at, item) {
+            Ok(()) => {}
+            Err(_) => unreachable!(),
         }
     }
 

@@ -6,6 +6,7 @@ ghost use Rattle.node_directory.specs.Directory.{is_directory, node_named, place
 ghost use Rattle.node_directory.specs.Kept.{IsPlaceOf};
 
 use crate::kept::{by_name, ids_ascend, push_copy};
+use crate::room::DirectoryRoom;
 use cluster_terms::{Memory, Name, NodeId, NodeRow, TryCopy};
 use indexmap::IndexMap;
 use std::alloc::Global;
@@ -112,6 +113,33 @@ impl Directory {
                 Err((name, dc, rack, Memory))
             }
         }
+    }
+
+    /// Registers a node as `register` does, with the memory of a room for this name and for more nodes than are
+    /// registered. Takes no memory. If the directory has no memory to spare, its rows move into the room.
+    pub fn register_in(&mut self, name: Name, dc: Name, rack: Name, room: DirectoryRoom) -> NodeId
+        requires free { node_named self.old.rows name ≡ None }
+        requires ids { self.old.next < u32.MAX }
+        requires name { room.name ≡ name }
+        requires room { length self.old.rows < room.count }
+        ensures id { result ≡ self.old.next }
+        ensures registry { self.new ≡ registered self.old name dc rack }
+    {
+        let key = room.give(&mut self.nodes);
+        let id = NodeId(self.next);
+        let row = NodeRow {
+            id,
+            name,
+            dc,
+            rack,
+            left: false,
+        };
+        match self.nodes.insert(key, row) {
+            Ok(_) => {}
+            Err(_) => unreachable!(),
+        }
+        self.next += 1;
+        id
     }
 
     /// Removes the row of a registered node. Its id is not used again. The cost is a move of each later row.

@@ -4,10 +4,12 @@
 pub mod directory;
 mod kept;
 mod members;
+pub mod room;
 mod shape;
 mod tally;
 
 pub use directory::Directory;
 pub use members::Members;
+pub use room::DirectoryRoom;
 pub use shape::{Shape, shape_of};
 pub use tally::{Tally, has_rack};

@@ -1,3 +1,4 @@
+pub mod Exchanges
 mod Halving
 pub mod MapChanges
 pub mod MapCuts

@@ -5,9 +5,11 @@ ghost use Rattle.cluster_terms.specs.Arc.{IsToken, greatest_token};
 ghost use Rattle.cluster_terms.specs.Ascending.{put};
 ghost use Rattle.cluster_terms.specs.Row.{last_token};
 ghost use Rattle.placement_deltas.specs.Deltas.{EndAtCuts, delta_at};
+ghost use Rattle.range_placements.specs.Exchanging.{exchanged};
 ghost use Rattle.range_placements.specs.Placements.{HasSameSides, IsPlacementMap, cuts_of, is_cut_of, merged_rows, map_at, reads_changed, right_ends, split_rows, writes_changed};
 
 use crate::placement_row::{PlacementRow, PlacementRows};
+use crate::row_changes::RowChanges;
 use cluster_terms::{Memory, RightEnd, Steps, Token, TryCopy};
 use node_sets::NodeSet;
 use placement_deltas::Delta;
@@ -194,6 +196,14 @@ impl PlacementMap {
             rows.push(row.with_writes(delta)?)?;
         }
         Ok(PlacementMap { rows })
+    }
+
+    /// Exchanges the sets of some rows for new ones. Their ranges stay. An index past the last row changes nothing.
+    /// Takes no memory. The cost is a move of each new set.
+    pub fn exchange(&mut self, changes: RowChanges)
+        ensures { self.new ≡ exchanged changes self.old }
+    {
+        changes.make(&mut self.rows);
     }
 }
 

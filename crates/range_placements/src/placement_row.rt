@@ -20,8 +20,8 @@ pub struct PlacementRow {
 /// The rows of a placement map.
 pub type PlacementRows = Vec<PlacementRow>;
 
-/// The set with the gained nodes and without the lost nodes.
-fn with_change(set: &NodeSet, gained: &NodeSet, lost: &NodeSet) -> Result<NodeSet, Memory>
+/// A set of nodes without the nodes that it loses, and with those that it gains. `Err` means that memory ran out.
+pub fn with_change(set: &NodeSet, gained: &NodeSet, lost: &NodeSet) -> Result<NodeSet, Memory>
     ensures { IfOk result (λ other. other ≡ with_change set.now gained.now lost.now) }
 {
     if gained.is_empty() && lost.is_empty() {

@@ -1,6 +1,7 @@
 pub mod EndLemmas
 pub mod MappedItems
 pub mod MarkLemmas
+pub mod MergeLemmas
 pub mod NodeAt
 pub mod PassLemmas
 pub mod ReachedLemmas

@@ -1,7 +1,14 @@
 -- A sweep, token by token.
-use Rattle.std.proofs.Common.{◌≡◌, ℕ, suc, zero, ◌<◌, Bool, false, ◌||◌, ℤ, List, [], ◌∷◌, ◌++◌, length, get_or, take, drop, set, refl, ap, ◌∙◌, arith}
-use Rattle.ring_reach.specs.Sweep.{Course, after_token, swept, lacking, either}
+use Rattle.std.proofs.Common.{◌≡◌, ℕ, suc, zero, ◌<◌, Bool, false, ◌||◌, ℤ, List, [], ◌∷◌, ◌++◌, length, get_or, take, drop, set, Option, Some, None, refl, ap, ◌∙◌, arith}
+use Rattle.cluster_terms.specs.Group.{Group}
+use Rattle.node_directory.proofs.TallyLemmas.{met_all_full}
 use Rattle.node_directory.specs.Tally.{Tallied, lacks}
+use Rattle.ring_reach.specs.Sweep.{Course, met_at, after_token, swept, lacking, either}
+
+-- a tally that lacks nothing stays as it is, whatever node has the token
+pub met_at_full : (g : Group) (node : Option ℕ) (tally : Tallied) → lacks tally ≡ false → met_at g node tally ≡ tally
+met_at_full g None tally full = refl
+met_at_full g (Some n) tally full = met_all_full g (n ∷ []) tally full
 
 module _ (c : Course) where
   -- the last of some tokens is passed first

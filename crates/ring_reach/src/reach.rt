@@ -24,7 +24,7 @@ use token_ring::{RangeList, Ring};
 /// The bounds of the ranges are tokens of fixed or moved pairs. Outside the ranges, two rings between the fixed ring
 /// and the widest set of pairs place a token alike if they differ only in moved pairs.
 ///
-/// For `k` moved pairs and a ring of `n` pairs, sorting the tokens costs about `(n + k) log (n + k)`. Each group costs
+/// For `k` moved pairs and a ring of `n` pairs, putting the tokens in order costs about `n + k log k`. Each group costs
 /// about `n + k` times the factor, and a search for each of the `n + k` tokens. A group without a node of a moved pair
 /// costs only `k` look-ups.
 pub fn reached(

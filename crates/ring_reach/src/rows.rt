@@ -1,9 +1,13 @@
 ghost use Rattle.std.specs.Prelude.{◌≡◌, ◌++◌, length, map, IfOk, OnOk};
 ghost use Rattle.std.specs.List.{AllByRecursion};
+ghost use Rattle.std.specs.List.Sorted.{IsStrictlySortedBy};
+ghost use Rattle.std.specs.Ordering.{int_cmp};
 ghost use Rattle.cluster_terms.specs.Arc.{IsToken};
+ghost use Rattle.cluster_terms.specs.Ascending.{put_all};
 ghost use Rattle.cluster_terms.specs.Pair.{tokens_of};
 ghost use Rattle.cluster_terms.specs.Replication.{groups_of};
 ghost use Rattle.cluster_terms.specs.Row as spec;
+ghost use Rattle.token_ring.specs.Ring.{IsRing};
 ghost use Rattle.ring_reach.specs.Change.{reaches_any};
 ghost use Rattle.ring_reach.specs.Moved.{AreEnds, HaveSameTokens};
 ghost use Rattle.ring_reach.specs.Sweep.{either};
@@ -13,6 +17,7 @@ use crate::token_set::TokenSet;
 use cluster_terms::{Memory, Name, Pair, Replication, Rf, Token, rows_between};
 use node_directory::{Directory, Members};
 use std::alloc::Global;
+use std::cmp::Ordering;
 
 /// Adds the tokens of the pairs.
 fn push_tokens(tokens: &mut Vec<Token>, pairs: &[Pair]) -> Result<(), Memory>
@@ -24,14 +29,49 @@ fn push_tokens(tokens: &mut Vec<Token>, pairs: &[Pair]) -> Result<(), Memory>
     Ok(())
 }
 
-/// The tokens of both lists of pairs.
+/// The tokens of a ring's pairs and other ascending tokens, in ascending order, each once. The cost is one pass over
+/// both.
+fn merged(alloc: Global, pairs: &[Pair], others: &[Token]) -> Result<Vec<Token>, Memory>
+    requires pairs { IsRing pairs.now }
+    requires others { IsStrictlySortedBy int_cmp others.now }
+    ensures { IfOk result (λ all. all.items ≡ put_all int_cmp (tokens_of pairs.now) others.now) }
+{
+    let mut all = Vec::with_capacity(alloc, pairs.len() + others.len())?;
+    let (mut i, mut j) = (0, 0);
+    while i < pairs.len() && j < others.len() {
+        let (pair, other) = (pairs[i], others[j]);
+        match pair.token.cmp(&other) {
+            Ordering::Less => {
+                all.push(pair.token)?;
+                i += 1;
+            }
+            Ordering::Equal => {
+                all.push(pair.token)?;
+                i += 1;
+                j += 1;
+            }
+            Ordering::Greater => {
+                all.push(other)?;
+                j += 1;
+            }
+        }
+    }
+    push_tokens(&mut all, &pairs[i..])?;
+    all.extend_from_slice(&others[j..])?;
+    Ok(all)
+}
+
+/// The tokens of a ring's pairs and of other pairs. The cost is about n + k log k for n pairs in the ring and k other
+/// pairs.
 pub fn tokens_of_both(alloc: Global, pairs: &[Pair], more: &[Pair]) -> Result<TokenSet, Memory>
+    requires { IsRing pairs.now }
     ensures { IfOk result (λ set. HaveSameTokens set (tokens_of pairs.now ++ tokens_of more.now)) }
 {
-    let mut tokens = Vec::with_capacity(alloc, pairs.len() + more.len())?;
-    push_tokens(&mut tokens, pairs)?;
+    let mut tokens = Vec::with_capacity(alloc, more.len())?;
     push_tokens(&mut tokens, more)?;
-    Ok(TokenSet::from_tokens(tokens))
+    let others = TokenSet::from_tokens(tokens);
+    let all = merged(alloc, pairs, others.as_slice())?;
+    Ok(TokenSet::from_ascending(all))
 }
 
 /// The last tokens of the rows between ascending cuts.

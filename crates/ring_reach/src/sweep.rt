@@ -32,12 +32,17 @@ fn node_at(ring: &Ring, t: Token) -> Option<NodeId>
 }
 
 impl<'a> Sweep<'a> {
-    /// Passes one token: a token that comes or goes empties the tally, and at any other token its fixed node is met.
+    /// Passes one token: a token that comes or goes empties the tally, and at any other token its fixed node is met. A
+    /// tally that lacks neither nodes nor racks is left as it is, without a search in the ring.
+    #[tactic(auto, using(crate::proofs::PassLemmas::met_at_full))]
     fn pass(&self, t: Token, tally: &mut Tally<'a>) -> Result<(), Memory>
         ensures { OnOk result (tally.new ≡ spec.after_token (spec.course_of self.now) t tally.old) }
     {
         if self.moved.has(t) {
             tally.clear();
+            return Ok(());
+        }
+        if !tally.lacks() {
             return Ok(());
         }
         match node_at(self.fixed, t) {
@@ -97,8 +102,9 @@ impl<'a> Sweep<'a> {
     /// token that comes or goes. Earlier marks stay. If all tokens stay, marks no token.
     ///
     /// If memory runs out, some tokens may be marked.
-    /// A token costs a search in the ring, a search among the tokens that come or go, a look-up in the directory, and a
-    /// look at no more nodes and racks than there are to be replicas.
+    /// A token costs a search among the tokens that come or go. While the tally lacks nodes or racks, a token also
+    /// costs a search in the ring, a look-up in the directory, and a look at no more nodes and racks than there are to
+    /// be replicas.
     pub fn mark(
         &self,
         alloc: Global,

@@ -9,6 +9,7 @@ use Rattle.cluster_terms.specs.declared.row.TokenRange.{TokenRange}
 use Rattle.cluster_terms.specs.declared.token.Pair.{Pair}
 use Rattle.cluster_terms.specs.declared.token.RightEnd.{RightEnd}
 use Rattle.cluster_terms.specs.declared.token.RightEnd.TheVariants.{At, Max}
+use Rattle.range_placements.specs.declared.placement_row.PlacementRow.{PlacementRow}
 use Rattle.transformations.specs.Rings.{reads_at, writes_at, cuts}
 use Rattle.transformations.specs.States.{node_tokens, state_of_row}
 use Rattle.transformations.specs.declared.image.Image.{Image}
@@ -136,6 +137,19 @@ unfoldable pub place_text : Image → KeyspaceRow → List ℕ
 place_text image keyspace =
     let rows = rows_between (cuts image) in
     place_head image.epoch keyspace.name (length rows) ++ flat_map (placed_row_text image keyspace.replication) rows
+
+-- a row of a placement map that begins after this token, or with the least token
+abbrev pub map_row_text : Option ℤ → PlacementRow → List ℕ
+map_row_text left row = placed_text (record { left = left; right = row.right }) row.reads row.writes
+
+-- the rows of a placement map from this end on: a row begins where the row before it ends
+abbrev pub map_rows_text : Option ℤ → List PlacementRow → List ℕ
+map_rows_text left [] = []
+map_rows_text left (row ∷ rows) = map_row_text left row ++ map_rows_text (Some (last_token row.right)) rows
+
+-- the placements of a keyspace by its placement map: a head with the number of rows, and the rows
+abbrev pub map_text : ℕ → List ℕ → List PlacementRow → List ℕ
+map_text epoch keyspace rows = place_head epoch keyspace (length rows) ++ map_rows_text None rows
 
 -- the answer to a quorum query: its word, the epoch, how many replicas a read needs, the read replicas, and the same
 -- for writes

@@ -19,7 +19,7 @@ pub use answers::{epoch_text, no_epoch_text, no_text, ok_text, refused_text};
 pub use grammar::parse_line;
 pub use nodes::nodes_text;
 pub use number::one_spelling;
-pub use placements::{place_head_text, placed_text};
+pub use placements::place_text;
 pub use refusals::refusal_text;
 pub use script_line::{ScriptLine, Target};
 pub use sets::sets_text;

@@ -1,56 +1,73 @@
-//! The placements of a keyspace: a head, and the rows between the cuts.
+//! The placements of a keyspace: a head, and a line for each row of its placement map.
 
-ghost use Rattle.std.specs.Prelude.{◌≡◌, ◌++◌, codes, take, length, OnOk};
+ghost use Rattle.std.specs.Prelude.{◌≡◌, ◌++◌, codes, take, length, None, OnOk};
 ghost use Rattle.script_lang.specs.Texts as spec;
 
 use crate::lists::list_text;
 use crate::shown::{Shown, labelled};
-use cluster_terms::{ByteText, Memory, Name, NodeId, RightEnd, Token, TokenRange};
-use node_sets::NodeSet;
+use cluster_terms::{ByteText, Memory, Name, NodeId, RightEnd, Token};
+use range_placements::{PlacementMap, PlacementRow};
 
-/// Adds the head of the placements of a keyspace, with the number of rows. If memory runs out, `out` still begins with
-/// its old content.
-pub fn place_head_text(
+/// Adds the placements of a keyspace, which has this placement map: a head with the number of rows, and a line for each
+/// row. A row begins where the row before it ends. If memory runs out, `out` still begins with its old content.
+pub fn place_text(
     epoch: u64,
     keyspace: &Name,
-    rows: usize,
+    map: &PlacementMap,
     out: &mut ByteText,
 ) -> Result<(), Memory>
+    ensures added { OnOk result (out.new ≡ out.old ++ spec.map_text epoch keyspace.now map.now) }
+    ensures kept { take (length out.old) out.new ≡ out.old }
+{
+    let rows = map.rows();
+    add_head(epoch, keyspace, rows.len() as u64, out)?;
+    add_rows(rows, out)
+}
+
+// Adds the head, with the number of rows.
+fn add_head(epoch: u64, keyspace: &Name, rows: u64, out: &mut ByteText) -> Result<(), Memory>
     ensures added { OnOk result (out.new ≡ out.old ++ spec.place_head epoch keyspace.now rows) }
     ensures kept { take (length out.old) out.new ≡ out.old }
 {
     labelled(b"PLACE ", &epoch, out)?;
     labelled(b" ", keyspace, out)?;
-    labelled(b" ", &(rows as u64), out)?;
+    labelled(b" ", &rows, out)?;
     out.extend(b"\n")
 }
 
-/// Adds the line of a row, with its read replicas and its write replicas. If memory runs out, `out` still begins with
-/// its old content.
-#[tactic(auto, unfolding(crate::specs::Texts::placed_text))]
-pub fn placed_text(
-    row: &TokenRange,
-    reads: &NodeSet,
-    writes: &NodeSet,
-    out: &mut ByteText,
-) -> Result<(), Memory>
-    ensures added { OnOk result (out.new ≡ out.old ++ spec.placed_text row.now reads.now writes.now) }
+// Adds the lines of the rows.
+fn add_rows(rows: &[PlacementRow], out: &mut ByteText) -> Result<(), Memory>
+    ensures added { OnOk result (out.new ≡ out.old ++ spec.map_rows_text None rows.now) }
     ensures kept { take (length out.old) out.new ≡ out.old }
 {
-    add_ends(row, out)?;
-    add_nodes(reads.ids(), writes.ids(), out)
+    let mut left = None;
+    for row in rows {
+        add_row(left, row, out)?;
+        left = Some(row.last_token());
+    }
+    Ok(())
+}
+
+// Adds the line of a row that begins after this token, or with the least token.
+#[tactic(auto, unfolding(crate::specs::Texts::placed_text))]
+fn add_row(left: Option<Token>, row: &PlacementRow, out: &mut ByteText) -> Result<(), Memory>
+    ensures added { OnOk result (out.new ≡ out.old ++ spec.map_row_text left row.now) }
+    ensures kept { take (length out.old) out.new ≡ out.old }
+{
+    add_ends(left, row.right, out)?;
+    add_nodes(row.reads.ids(), row.writes.ids(), out)
 }
 
 // Adds the ends of a row.
-fn add_ends(row: &TokenRange, out: &mut ByteText) -> Result<(), Memory>
+fn add_ends(left: Option<Token>, right: RightEnd, out: &mut ByteText) -> Result<(), Memory>
     ensures added { OnOk result (out.new ≡ out.old
-        ++ (codes "(" ++ spec.left_text row.now.left ++ codes "," ++ spec.right_text row.now.right)) }
+        ++ (codes "(" ++ spec.left_text left ++ codes "," ++ spec.right_text right)) }
     ensures kept { take (length out.old) out.new ≡ out.old }
 {
     out.extend(b"(")?;
-    add_left(row.left, out)?;
+    add_left(left, out)?;
     out.extend(b",")?;
-    row.right.show(out)
+    right.show(out)
 }
 
 fn add_left(left: Option<Token>, out: &mut ByteText) -> Result<(), Memory>

@@ -7,11 +7,9 @@ pub mod Loading
 pub mod LogFiles
 pub mod Machine
 pub mod Outcome
-pub mod Placers
 pub mod Replay
 pub mod ReplayPrefix
 pub mod Replays
-pub mod Rings
 pub mod Run
 pub mod Runs
 pub mod Shown

@@ -3,7 +3,7 @@
 ghost use Rattle.std.specs.Prelude.{◌≡◌, ◌++◌, length, take, OnOk};
 ghost use Rattle.tcm_session.specs.Machine as spec;
 
-use crate::place_text::place_text;
+use crate::place_text::placements_text;
 use crate::quorum_text::{local_text, quorum_text};
 use cluster_metadata::Metadata;
 use cluster_terms::{ByteText, Memory, Name, Token};
@@ -34,9 +34,9 @@ pub fn answer_from(
     ensures kept { take (length out.old) out.new ≡ out.old }
 {
     match query {
-        Query::Place(keyspace) => place_text(alloc, metadata, keyspace, out),
+        Query::Place(keyspace) => placements_text(metadata, keyspace, out),
         Query::Nodes => nodes_text(alloc, metadata.as_image(), out),
-        Query::Quorum(keyspace, t) => quorum_text(alloc, metadata, keyspace, *t, out),
+        Query::Quorum(keyspace, t) => quorum_text(metadata, keyspace, *t, out),
         Query::Local(keyspace, dc, t) => local_text(alloc, metadata, keyspace, dc, *t, out),
     }
 }

@@ -16,7 +16,6 @@ use cluster_terms::{ByteText, Memory};
 use script_lang::{labelled, nodes_text};
 use std::alloc::Global;
 use tcm_edges::Store;
-use transformations::KeyspaceRow;
 
 /// Adds the number of lines, and the follower's epoch.
 fn epoch_text(replay: &Replay, out: &mut ByteText) -> Result<(), Memory>
@@ -48,17 +47,12 @@ fn head_text(replay: &Replay, out: &mut ByteText) -> Result<(), Memory>
     waiting_text(replay, out)
 }
 
-/// Adds the placements of these keyspaces.
-fn places_text(
-    alloc: Global,
-    metadata: &Metadata,
-    keyspaces: &[KeyspaceRow],
-    out: &mut ByteText,
-) -> Result<(), Memory>
-    ensures { OnOk result (out.new ≡ out.old ++ flat_map (texts.place_text metadata.now) keyspaces.now) }
+/// Adds the placements of all keyspaces, ascending by name.
+fn places_text(metadata: &Metadata, out: &mut ByteText) -> Result<(), Memory>
+    ensures { OnOk result (out.new ≡ out.old ++ flat_map (texts.place_text metadata.now) metadata.now.keyspaces) }
 {
-    for keyspace in keyspaces {
-        placements_text(alloc, metadata, &keyspace.name, &keyspace.replication, out)?;
+    for keyspace in metadata.as_image().keyspaces.as_slice() {
+        placements_text(metadata, &keyspace.name, out)?;
     }
     Ok(())
 }
@@ -69,10 +63,9 @@ fn report_text(alloc: Global, replay: &Replay, out: &mut ByteText) -> Result<(),
     ensures { OnOk result (out.new ≡ out.old ++ spec.report_text replay.now) }
 {
     let metadata = replay.follower.metadata();
-    let image = metadata.as_image();
     head_text(replay, out)?;
-    nodes_text(alloc, image, out)?;
-    places_text(alloc, metadata, image.keyspaces.as_slice(), out)
+    nodes_text(alloc, metadata.as_image(), out)?;
+    places_text(metadata, out)
 }
 
 /// The end of a replay at the end of its files. Fails only if memory runs out.

@@ -1,6 +1,8 @@
-ghost use Rattle.std.specs.Prelude.{◌≡◌, [], ◌∷◌, not, IfOk, MatchOption};
+ghost use Rattle.std.specs.Prelude.{◌≡◌, ◌<ℤ◌, ◌≤ℤ◌, ◌≤◌, [], ◌∷◌, length, not, IfOk, IsTrue, MatchOption};
 ghost use Rattle.std.specs.List.{list_any};
+ghost use Rattle.std.specs.List.Sorted.{IsPartitionPoint, IsStrictlySortedBy};
 ghost use Rattle.std.specs.Ordering.{int_eq};
+ghost use Rattle.transformations.specs.Orders.{by_token};
 ghost use Rattle.transformations.specs.Refusals.{may_move_or_leave, has_keyspace, in_sequence, may_join, may_be_removed, is_registered, is_taken, keyspaces_full, name_taken, no_keyspace, no_node, no_sequence, nodes_full, not_idle, first_of, early_refusal_of, refused_if, token_taken, tokens_full, wrong_state, wrong_step};
 ghost use Rattle.transformations.specs.States.{node_state};
 ghost use Rattle.transformations.specs.declared.command.Command.TheVariants as command;
@@ -157,21 +159,64 @@ fn is_brought(sequences: &[SeqRow], token: Token) -> bool
         .any(|row| has_token(row.in_pairs.as_slice(), token))
 }
 
-/// Whether a token is in the ring, or a movement in flight brings it.
-fn is_taken(image: &Image, token: Token) -> bool
-    ensures { result ≡ is_taken image.now token }
+/// Whether the tokens strictly ascend.
+fn ascend(pairs: &[Pair]) -> bool
+    ensures { IsTrue result → IsStrictlySortedBy by_token pairs.now }
 {
-    has_token(image.tokens.as_slice(), token) || is_brought(image.sequences.as_slice(), token)
+    pairs.is_sorted_by(|a, b| a.token < b.token)
 }
 
-/// `TokenTaken` with the first of these tokens that is taken. For k tokens, the cost is at most k passes over the pairs
-/// of the ring and those that movements bring.
+/// The number of pairs below token `t` in an ascending list.
+fn count_below(pairs: &[Pair], t: Token) -> usize
+    requires { IsStrictlySortedBy by_token pairs.now }
+    ensures bound { result ≤ length pairs.now }
+    ensures split { IsPartitionPoint (λ p. p.token <ℤ t) (λ p. t ≤ℤ p.token) pairs.now result }
+{
+    pairs.partition_point(|pair| pair.token < t)
+}
+
+/// Whether a pair in an ascending list has this token. The cost is a binary search.
+fn finds(pairs: &[Pair], token: Token) -> bool
+    requires { IsStrictlySortedBy by_token pairs.now }
+    ensures { result ≡ list_any (λ p. int_eq p.token token) pairs.now }
+{
+    let below = count_below(pairs, token);
+    below < pairs.len() && pairs[below].token == token
+}
+
+/// Whether a pair in a list has this token. `ascending` tells that the tokens of the list are known to ascend. Then the
+/// cost is a binary search, and otherwise a pass over the list.
+fn is_in_ring(pairs: &[Pair], ascending: bool, token: Token) -> bool
+    requires { IsTrue ascending → IsStrictlySortedBy by_token pairs.now }
+    ensures { result ≡ list_any (λ p. int_eq p.token token) pairs.now }
+{
+    if ascending {
+        finds(pairs, token)
+    } else {
+        has_token(pairs, token)
+    }
+}
+
+/// Whether a token is in the ring, or a movement in flight brings it. `ascending` tells that the tokens of the ring are
+/// known to ascend.
+fn is_taken(image: &Image, ascending: bool, token: Token) -> bool
+    requires { IsTrue ascending → IsStrictlySortedBy by_token image.now.tokens }
+    ensures { result ≡ is_taken image.now token }
+{
+    is_in_ring(image.tokens.as_slice(), ascending, token)
+        || is_brought(image.sequences.as_slice(), token)
+}
+
+/// `TokenTaken` with the first of these tokens that is taken. For k tokens, the cost is at most one pass over the pairs
+/// of the ring, then k binary searches in them if their tokens ascend and k passes over them if not, and k passes over
+/// the pairs that movements bring.
 fn token_taken(image: &Image, tokens: &[Token]) -> Option<Refusal>
     ensures { result ≡ token_taken image.now tokens.now }
 {
+    let ascending = ascend(image.tokens.as_slice());
     tokens
         .iter()
-        .find(|token| is_taken(image, **token))
+        .find(|token| is_taken(image, ascending, **token))
         .map(|token| Refusal::TokenTaken(*token))
 }
 
@@ -402,9 +447,10 @@ fn prepare_replace(image: &Image, node: NodeId, gone: NodeId) -> Result<Option<R
 /// that is to be moved has 2^32 tokens or more.
 ///
 /// Cost: a search for a node or a keyspace is one pass over the rows. For k tokens of a command, the search for a token
-/// that is taken is at most k passes over the pairs of the ring and those that movements bring. `PrepareLeave` sorts
-/// the nodes with tokens once. Each of them costs one pass over the rows for each keyspace that names the datacenter of
-/// the node that is to leave.
+/// that is taken is at most one pass over the pairs of the ring, then k binary searches in them if their tokens ascend
+/// and k passes over them if not, and k passes over the pairs that movements bring. `PrepareLeave` sorts the nodes with
+/// tokens once. Each of them costs one pass over the rows for each keyspace that names the datacenter of the node that
+/// is to leave.
 #[tactic(auto, unfolding(crate::specs::Refusals::early_refusal_of))]
 pub fn early_refusal(
     alloc: Global,

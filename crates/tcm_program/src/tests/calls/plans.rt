@@ -21,48 +21,37 @@ use std::sync::ledger::{Blank, Ledger};
 use std::test::Fail;
 use transformations::{Command, Image, Phase, SeqRow};
 
-/// Movements at each phase, and what follows; and a movement beside keyspaces of two replications, with tokens at the
-/// ends of the ring.
-const LINES: [Script; 2] = [
-    (
-        "three phases",
-        "commit 20 prepare-join 9 50\n\
-            commit 21 prepare-move 3 250\n\
-            commit 22 prepare-leave 5\n\
-            commit 23 start-move 3\n\
-            commit 24 start-leave 5\n\
-            commit 25 mid-leave 5\n\
-            commit 26 finish-leave 5\n\
-            commit 27 mid-move 3\n\
-            commit 28 start-join 9\n\
-            commit 29 cancel 3\n",
-        "",
-    ),
-    (
-        "two replications",
-        "commit 1 register a dc1 r1\n\
-            commit 2 register b dc1 r2\n\
-            commit 3 register c dc2 r1\n\
-            commit 4 register d dc2 r2\n\
-            commit 5 register e dc1 r1\n\
-            commit 6 unsafe-join 1 -9223372036854775808\n\
-            commit 7 unsafe-join 2 0\n\
-            commit 8 unsafe-join 3 50\n\
-            commit 9 unsafe-join 4 9223372036854775807\n\
-            commit 10 keyspace k1 simple 2\n\
-            commit 11 keyspace k2 topology dc1:1 dc2:1\n\
-            commit 12 keyspace k3 simple 2\n\
-            commit 13 prepare-join 5 -100 100\n",
-        "",
-    ),
-];
+/// Movements at each phase, and what follows.
+const THREE_PHASES: &str = "commit 20 prepare-join 9 50\n\
+        commit 21 prepare-move 3 250\n\
+        commit 22 prepare-leave 5\n\
+        commit 23 start-move 3\n\
+        commit 24 start-leave 5\n\
+        commit 25 mid-leave 5\n\
+        commit 26 finish-leave 5\n\
+        commit 27 mid-move 3\n\
+        commit 28 start-join 9\n\
+        commit 29 cancel 3\n";
 
-/// The opening of a script, its table, its name, an epoch, and for each movement at this epoch its node and its deltas.
-const CASES: [(&str, &[Script], &str, u16, &str); 8] = [
+/// A movement beside keyspaces of two replications, with tokens at the ends of the ring.
+const TWO_REPLICATIONS: &str = "commit 1 register a dc1 r1\n\
+        commit 2 register b dc1 r2\n\
+        commit 3 register c dc2 r1\n\
+        commit 4 register d dc2 r2\n\
+        commit 5 register e dc1 r1\n\
+        commit 6 unsafe-join 1 -9223372036854775808\n\
+        commit 7 unsafe-join 2 0\n\
+        commit 8 unsafe-join 3 50\n\
+        commit 9 unsafe-join 4 9223372036854775807\n\
+        commit 10 keyspace k1 simple 2\n\
+        commit 11 keyspace k2 topology dc1:1 dc2:1\n\
+        commit 12 keyspace k3 simple 2\n\
+        commit 13 prepare-join 5 -100 100\n";
+
+/// The letter of a script, an epoch, and for each movement at this epoch its node and its deltas.
+const CASES: [(u8, u16, &str); 8] = [
     (
-        NOTHING,
-        &joins::FROM_NOTHING,
-        "two-joins",
+        b'j',
         21,
         "node 9\n\
             gain\n\
@@ -100,9 +89,7 @@ const CASES: [(&str, &[Script], &str, u16, &str); 8] = [
             max + -\n",
     ),
     (
-        NOTHING,
-        &joins::FROM_NOTHING,
-        "two-joins",
+        b'j',
         25,
         "node 9\n\
             gain\n\
@@ -123,9 +110,7 @@ const CASES: [(&str, &[Script], &str, u16, &str); 8] = [
             max + -3\n",
     ),
     (
-        SIX,
-        &locks::ON_SIX,
-        "leave-widens",
+        b'w',
         14,
         "node 2\n\
             gain\n\
@@ -144,9 +129,7 @@ const CASES: [(&str, &[Script], &str, u16, &str); 8] = [
             max + -2\n",
     ),
     (
-        RACKS,
-        &racks::ON_RACKS,
-        "usual-cluster",
+        b'u',
         17,
         "node 7\n\
             gain\n\
@@ -181,9 +164,7 @@ const CASES: [(&str, &[Script], &str, u16, &str); 8] = [
             max + -\n",
     ),
     (
-        RACKS,
-        &racks::ON_RACKS,
-        "usual-cluster",
+        b'u',
         24,
         "node 8\n\
             gain\n\
@@ -218,9 +199,7 @@ const CASES: [(&str, &[Script], &str, u16, &str); 8] = [
             max + -\n",
     ),
     (
-        FOUR,
-        &steps::ON_FOUR,
-        "move-started",
+        b'm',
         13,
         "node 2\n\
             gain\n\
@@ -243,9 +222,7 @@ const CASES: [(&str, &[Script], &str, u16, &str); 8] = [
             max + -\n",
     ),
     (
-        EIGHT,
-        &LINES,
-        "three phases",
+        b'p',
         25,
         "node 3\n\
             gain\n\
@@ -288,9 +265,7 @@ const CASES: [(&str, &[Script], &str, u16, &str); 8] = [
             max + -\n",
     ),
     (
-        NOTHING,
-        &LINES,
-        "two replications",
+        b'r',
         13,
         "node 5\n\
             gain\n\
@@ -357,6 +332,18 @@ fn lines_of(scripts: &'static [Script], name: &str) -> Result<&'static str, Fail
         }
     }
     Err("no script has this name")?
+}
+
+/// The opening and the lines of the script that a letter stands for.
+fn script_of(letter: u8) -> Result<(&'static str, &'static str), Fail> {
+    match letter {
+        b'j' => Ok((NOTHING, lines_of(&joins::FROM_NOTHING, "two-joins")?)),
+        b'w' => Ok((SIX, lines_of(&locks::ON_SIX, "leave-widens")?)),
+        b'u' => Ok((RACKS, lines_of(&racks::ON_RACKS, "usual-cluster")?)),
+        b'm' => Ok((FOUR, lines_of(&steps::ON_FOUR, "move-started")?)),
+        b'p' => Ok((EIGHT, THREE_PHASES)),
+        _ => Ok((NOTHING, TWO_REPLICATIONS)),
+    }
 }
 
 fn apply(metadata: &mut Metadata, command: &Command) -> Result<(), Fail>
@@ -436,42 +423,48 @@ fn plans_text(alloc: Global, image: &Image) -> Result<String, Fail>
     Ok(text)
 }
 
-/// The deltas of each movement at an epoch.
+/// The deltas of each movement of a script at an epoch.
 fn shown_at(
     alloc: Global,
     metadata: &mut Metadata,
-    opening: &str,
-    lines: &str,
+    letter: u8,
     epoch: u16,
 ) -> Result<String, Fail> {
+    let (opening, lines) = script_of(letter)?;
     commit_to(alloc, metadata, opening, epoch)?;
     commit_to(alloc, metadata, lines, epoch)?;
     plans_text(alloc, metadata.as_image())
+}
+
+/// Compares the deltas of the movements of a script at an epoch with those wanted.
+fn shows<A: Abort>(
+    rt: &A,
+    alloc: Global,
+    letter: u8,
+    epoch: u16,
+    wanted: &str,
+) -> Result<(), Fail> {
+    let mut metadata = Metadata::empty(alloc)?;
+    let shown = shown_at(alloc, &mut metadata, letter, epoch);
+    metadata.close();
+    let shown = shown?;
+    assert_eq!(rt; shown.as_str(), wanted, "at {epoch}");
+    Ok(())
 }
 
 #[test]
 fn deltas_of_movements(rt: HostRuntime) -> Result<(), Fail> {
     let alloc = rt.alloc();
     for case in &CASES {
-        let (opening, scripts, name, epoch, wanted) = *case;
-        let lines = lines_of(scripts, name)?;
-        let mut metadata = Metadata::empty(alloc)?;
-        let shown = shown_at(alloc, &mut metadata, opening, lines, epoch);
-        metadata.close();
-        let shown = shown?;
-        assert_eq!(rt; shown.as_str(), wanted, "{name} at {epoch}");
+        let (letter, epoch, wanted) = *case;
+        shows(&rt, alloc, letter, epoch, wanted)?;
     }
     Ok(())
 }
 
 /// The movements of an image go on to the end of the lines.
-fn go_on<A: Abort>(
-    rt: &A,
-    alloc: Global,
-    metadata: &mut Metadata,
-    lines: &str,
-) -> Result<(), Fail> {
-    commit_to(alloc, metadata, lines, 29)?;
+fn go_on<A: Abort>(rt: &A, alloc: Global, metadata: &mut Metadata) -> Result<(), Fail> {
+    commit_to(alloc, metadata, THREE_PHASES, 29)?;
     let mut text = ByteText::empty(alloc);
     nodes_text(alloc, metadata.as_image(), &mut text)?;
     assert_eq!(rt; text.as_slice(), AT_THE_END.as_bytes());
@@ -480,12 +473,11 @@ fn go_on<A: Abort>(
 
 /// Metadata with the image of other metadata at which movements stand at each phase.
 fn resumed<A: Abort>(rt: &A, alloc: Global, metadata: &mut Metadata) -> Result<(), Fail> {
-    let lines = LINES[0].1;
     commit_to(alloc, metadata, EIGHT, 25)?;
-    commit_to(alloc, metadata, lines, 25)?;
+    commit_to(alloc, metadata, THREE_PHASES, 25)?;
     match Metadata::from_image(alloc, metadata.image()?) {
         Ok(mut other) => {
-            let tested = go_on(rt, alloc, &mut other, lines);
+            let tested = go_on(rt, alloc, &mut other);
             other.close();
             tested
         }

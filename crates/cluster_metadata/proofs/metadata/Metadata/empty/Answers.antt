@@ -10,6 +10,7 @@ invariant_of-result c =
       valid = rw (c.empty.ensures, c.empty-2.ensures, c.empty-3.ensures, c.empty-4.ensures) valid_empty;
       replications = rw c.empty-3.ensures tt;
       directory = rw c.empty.ensures c.in_ok-directory.ensures;
+      maps = rw (c.empty-5.ensures, c.empty-2.ensures, c.empty-3.ensures, c.empty-4.ensures) (record { replications = refl; placements = tt });
       running = running;
       deltas = rw c.new.ensures.items tt;
     }

@@ -1,10 +1,13 @@
-use Rattle.std.proofs.Common.{◌≡◌, subst}
-use Rattle.transformations.specs.Meeting.{QuorumsMeet}
+use Rattle.std.proofs.Common.{◌≡◌, true, subst, sym}
+use Rattle.transformations.proofs.cut_changes.CutsFollowed.{same_across}
+use Rattle.transformations.specs.Meeting.{QuorumsMeet, makes_movement_epoch}
 use Rattle.transformations.specs.Ranges.{KeepsRanges}
 use Rattle.transformations.specs.Valid.{IsValid}
-use Rattle.cluster_metadata.proofs.ImageDirectory.{renewed}
-use Rattle.cluster_metadata.proofs.PermitOutcomes.{keeps_ranges, placed, placements, quorums_meet, replications_kept, rings, valid_after}
+use Rattle.cluster_metadata.proofs.DeltasAcross.{deltas_across}
+use Rattle.cluster_metadata.proofs.PermitOutcomes.{acts_by_delta, cuts_move, keeps_ranges, placed, placements, quorums_meet, replications_kept, rings, valid_after}
 use Rattle.cluster_metadata.proofs.PlanLemmas.{deltas_held}
+use Rattle.cluster_metadata.specs.CutDeltas.{ActsByDelta, CutsMove}
+use Rattle.cluster_metadata.specs.Maps.{AreMaps}
 use Rattle.cluster_metadata.proofs.metadata.Metadata.enact.Goals as goal
 
 -- the image that is made is valid
@@ -18,12 +21,13 @@ pub invariant_of-self : goal.invariant_of-self
 invariant_of-self c =
     let same : c.permit.inside.image.value ≡ c.self.inside.image = cc in
     let permitted = rw same at c.permit.invariant.0 in
-    let left = rw same at c.permit.invariant.3 in
-    let directory = renewed c.self.inside.image _ _ _ _ left c.self.invariant.directory c.renew.ensures in
+    let brings = rw same at c.permit.invariant.3 in
+    let maps = subst (AreMaps _) (sym c.exchange.ensures) (brings c.self.inside.maps c.self.invariant.maps) in
     record {
       valid = valid c;
       replications = replications_kept c.self.inside.image c.make.new.image _ _ permitted c.make.ensures.made c.self.invariant.valid c.self.invariant.replications;
-      directory = rw c.make.ensures.made directory;
+      directory = c.make.ensures.directory;
+      maps = rw c.make.ensures.made maps;
       running = c.make.ensures.running;
       deltas = deltas_held c.self.inside.image c.make.new.image _ _ _ _ permitted c.make.ensures.made c.self.invariant.valid c.self.invariant.running c.self.invariant.deltas
           (valid c).sound.movements c.make.ensures.running c.make.ensures.plans;
@@ -55,3 +59,25 @@ returns-clause-meets c =
     let command : c.permit.inside.command.value ≡ c.args.permit.command = cc in
     λ moves. subst (λ i. QuorumsMeet i c.make.new.image) c.self.view_is
     (quorums_meet c.self.inside.image c.make.new.image _ _ permitted c.make.ensures.made c.self.invariant.valid c.self.invariant.replications (rw command moves))
+
+pub returns-clause-acts : goal.returns-clause-acts
+returns-clause-acts c =
+    let same : c.permit.inside.image.value ≡ c.self.inside.image = cc in
+    let command : c.permit.inside.command.value ≡ c.args.permit.command = cc in
+    let permitted = rw (same, command) at c.permit.invariant.0 in
+    subst (λ i. makes_movement_epoch c.args.permit.command ≡ true → ActsByDelta i c.make.new.image c.args.permit.command) c.self.view_is
+    (acts_by_delta c.self.inside.image c.make.new.image _ _ permitted c.make.ensures.made c.self.invariant.valid)
+
+pub returns-clause-cuts : goal.returns-clause-cuts
+returns-clause-cuts c =
+    let same : c.permit.inside.image.value ≡ c.self.inside.image = cc in
+    let command : c.permit.inside.command.value ≡ c.args.permit.command = cc in
+    let permitted = rw (same, command) at c.permit.invariant.0 in
+    subst (λ i. makes_movement_epoch c.args.permit.command ≡ true → CutsMove i c.make.new.image c.args.permit.command) c.self.view_is
+    (cuts_move c.self.inside.image c.make.new.image _ _ permitted c.make.ensures.made c.self.invariant.valid)
+
+pub returns-clause-across : goal.returns-clause-across
+returns-clause-across c = same_across _
+
+pub returns-clause-live : goal.returns-clause-live
+returns-clause-live c = deltas_across _

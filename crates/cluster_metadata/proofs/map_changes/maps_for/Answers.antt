@@ -1,0 +1,104 @@
+use Rattle.std.proofs.Common.{◌≡◌, length, refl, ap, sym, ◌∙◌, subst}
+use Rattle.cluster_terms.specs.Row.{rows_between}
+use Rattle.placement_deltas.specs.declared.plan.Plan.{Plan}
+use Rattle.sequence_plans.specs.Deltas.{gained_by, no_nodes}
+use Rattle.transformations.specs.Rings.{cuts}
+use Rattle.cluster_metadata.proofs.placement_maps.ChangeSteps.{back_at, back_moves, begun_deltas, begun_moves, ended_at, ended_moves, finished_at, finished_moves, mid_at, mid_moves, registered_stays, started_at, started_moves, unregistered_stays}
+use Rattle.cluster_metadata.proofs.placement_maps.ExchangedMaps.{made_anew, made_from}
+use Rattle.cluster_metadata.proofs.placement_maps.TurnedMaps.{back_maps, begin_maps, end_maps, finish_maps, mid_maps, nodes_maps, start_maps}
+use Rattle.cluster_metadata.specs.Change.{changed}
+use Rattle.cluster_metadata.specs.Maps.{AreMaps}
+use Rattle.cluster_metadata.specs.MapChanges.{each_exchanged}
+use Rattle.cluster_metadata.specs.Running.{phase_of, plan_of}
+use Rattle.cluster_metadata.specs.Turns.{each_map, recut_rows, turned_rows, undoing}
+use Rattle.cluster_metadata.specs.declared.change.Change.TheVariants.{Begun}
+use Rattle.cluster_metadata.specs.declared.map_change.MapChange.TheVariants.{Anew, Sets}
+use Rattle.cluster_metadata.specs.declared.turn.Turn.{Turn}
+use Rattle.cluster_metadata.specs.declared.turn.Turn.TheVariants as turn
+use Rattle.cluster_metadata.proofs.map_changes.maps_for.Goals as goal
+
+pub returns-in-Registered : goal.returns-in-Registered
+returns-in-Registered c book are =
+    nodes_maps c.args.image.now (changed c.args.image.now c.args.change.now) (registered_stays c.args.image.now c.args.change.now _ c.in-Registered.is c.requires.steps) book are
+
+pub returns-in-Unregistered : goal.returns-in-Unregistered
+returns-in-Unregistered c book are =
+    nodes_maps c.args.image.now (changed c.args.image.now c.args.change.now) (unregistered_stays c.args.image.now c.args.change.now _ c.in-Unregistered.is c.requires.steps) book are
+
+pub returns-in_ok-next-in-Begun : goal.returns-in_ok-next-in-Begun
+returns-in_ok-next-in-Begun c =
+    let image = c.args.image.now in
+    let change = c.args.change.now in
+    let b = c.in-Begun in
+    made_anew image change (Anew c.in_ok-next-in-Begun.next) c.in_ok-next-in-Begun.next (λ book. refl)
+    (subst (AreMaps (changed image change)) (sym c.in_ok-next-in-Begun.ensures.maps)
+    (begin_maps image (changed image change) c.args.maps.now (gained_by (changed image (Begun b.at b.plan b.sequences)) b.plan.row) no_nodes b.plan.gain c.requires.maps (begun_deltas image change b.at b.sequences b.plan b.is c.requires.brings).gains
+    c.in_ok-next-in-Begun.ensures.tokens (begun_moves image change b.at b.sequences b.plan b.is c.requires.steps)))
+
+pub returns-in_ok-turned_book-in-Started : goal.returns-in_ok-turned_book-in-Started
+returns-in_ok-turned_book-in-Started c =
+    let image = c.args.image.now in
+    let change = c.args.change.now in
+    let maps = c.args.maps.now in
+    let s = c.in-Started in
+    let sets = c.in_ok-turned_book-in-Started.field-0.items in
+    let turned : length maps ≡ length (plan_of c.index-running-at.result).gain → each_exchanged sets maps ≡ each_map (turned_rows turn.Writes) maps (plan_of c.index-running-at.result).gain =
+    subst (λ (p : Plan). length maps ≡ length p.gain → each_exchanged sets maps ≡ each_map (turned_rows turn.Writes) maps p.gain) c.plan.ensures c.in_ok-turned_book-in-Started.ensures in
+    made_from image change (Sets c.in_ok-turned_book-in-Started.field-0) maps c.requires.maps
+    (start_maps image maps c.args.running.now s.at c.index-running-at.result _ c.requires.maps c.requires.running c.requires.deltas (started_at image change s.at s.row s.is c.requires.follows) c.index-running-at.is (changed image change) sets
+    turned (started_moves image change s.at s.row s.is c.requires.steps))
+
+pub returns-in_ok-turned_book-in-Mid : goal.returns-in_ok-turned_book-in-Mid
+returns-in_ok-turned_book-in-Mid c =
+    let image = c.args.image.now in
+    let change = c.args.change.now in
+    let maps = c.args.maps.now in
+    let s = c.in-Mid in
+    let sets = c.in_ok-turned_book-in-Mid.field-0.items in
+    let turned : length maps ≡ length (plan_of c.index-running-at-in-Mid.result).swap → each_exchanged sets maps ≡ each_map (turned_rows turn.Reads) maps (plan_of c.index-running-at-in-Mid.result).swap =
+    subst (λ (p : Plan). length maps ≡ length p.swap → each_exchanged sets maps ≡ each_map (turned_rows turn.Reads) maps p.swap) c.plan-in-Mid.ensures c.in_ok-turned_book-in-Mid.ensures in
+    made_from image change (Sets c.in_ok-turned_book-in-Mid.field-0) maps c.requires.maps
+    (mid_maps image maps c.args.running.now s.at c.index-running-at-in-Mid.result _ c.requires.maps c.requires.running c.requires.deltas (mid_at image change s.at s.row s.is c.requires.follows) c.index-running-at-in-Mid.is (changed image change) sets
+    turned (mid_moves image change s.at s.row s.is c.requires.steps))
+
+pub returns-in_ok-turned_book-in-BroughtBack : goal.returns-in_ok-turned_book-in-BroughtBack
+returns-in_ok-turned_book-in-BroughtBack c =
+    let image = c.args.image.now in
+    let change = c.args.change.now in
+    let maps = c.args.maps.now in
+    let s = c.in-BroughtBack in
+    let sets = c.in_ok-turned_book-in-BroughtBack.field-0.items in
+    let turned : length maps ≡ length (plan_of c.index-running-at-in-BroughtBack.result).swap → each_exchanged sets maps ≡ each_map (turned_rows turn.ReadsBack) maps (plan_of c.index-running-at-in-BroughtBack.result).swap =
+    subst (λ (p : Plan). length maps ≡ length p.swap → each_exchanged sets maps ≡ each_map (turned_rows turn.ReadsBack) maps p.swap) c.plan-in-BroughtBack.ensures c.in_ok-turned_book-in-BroughtBack.ensures in
+    made_from image change (Sets c.in_ok-turned_book-in-BroughtBack.field-0) maps c.requires.maps
+    (back_maps image maps c.args.running.now s.at c.index-running-at-in-BroughtBack.result _ c.requires.maps c.requires.running c.requires.deltas (back_at image change s.at s.row s.is c.requires.follows) c.index-running-at-in-BroughtBack.is (changed image change) sets
+    turned (back_moves image change s.at s.row s.is c.requires.steps))
+
+pub returns-in_ok-next-in-Finished : goal.returns-in_ok-next-in-Finished
+returns-in_ok-next-in-Finished c =
+    let image = c.args.image.now in
+    let change = c.args.change.now in
+    let s = c.in-Finished in
+    let found = finished_at image change s.at s.sequences s.left s.tokens s.is c.requires.follows in
+    let made =
+    c.in_ok-next-in-Finished.ensures.maps ∙ ap (λ (p : Plan). each_map (recut_rows turn.Writes (rows_between (cuts (changed image change)))) c.args.maps.now p.lose) c.plan-in-Finished.ensures in
+    made_anew image change (Anew c.in_ok-next-in-Finished.next) c.in_ok-next-in-Finished.next (λ book. refl)
+    (subst (AreMaps (changed image change)) (sym made)
+    (finish_maps image c.args.maps.now c.args.running.now s.at c.index-running-at-in-Finished.result found.row c.requires.maps c.requires.running c.requires.deltas found.here c.index-running-at-in-Finished.is (changed image change)
+    c.in_ok-next-in-Finished.ensures.tokens (finished_moves image change s.at s.sequences s.left s.tokens s.is c.requires.steps)))
+
+pub returns-in_ok-next-in-Ended : goal.returns-in_ok-next-in-Ended
+returns-in_ok-next-in-Ended c =
+    let image = c.args.image.now in
+    let change = c.args.change.now in
+    let s = c.in-Ended in
+    let found = ended_at image change s.at s.sequences s.is c.requires.follows in
+    let ranges = rows_between (cuts (changed image change)) in
+    let made =
+    c.in_ok-next-in-Ended.ensures.maps
+    ∙ ap (λ (t : Turn). each_map (recut_rows t ranges) c.args.maps.now c.plan-in-Ended.result.now.gain) c.undoing-turn.ensures
+    ∙ ap (λ (p : Plan). each_map (recut_rows (undoing (phase_of c.index-running-at-in-Ended.result)) ranges) c.args.maps.now p.gain) c.plan-in-Ended.ensures in
+    made_anew image change (Anew c.in_ok-next-in-Ended.next) c.in_ok-next-in-Ended.next (λ book. refl)
+    (subst (AreMaps (changed image change)) (sym made)
+    (end_maps image c.args.maps.now c.args.running.now s.at c.index-running-at-in-Ended.result found.row c.requires.maps c.requires.running c.requires.deltas found.here c.index-running-at-in-Ended.is (changed image change) found.holds
+    c.in_ok-next-in-Ended.ensures.tokens (ended_moves image change s.at s.sequences s.is c.requires.steps)))

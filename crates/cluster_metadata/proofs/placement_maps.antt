@@ -1,0 +1,10 @@
+-- The placement maps of images: what they say at each token, and how changes lead from the maps of an image to those of
+-- the next.
+pub mod ChangeMoves
+pub mod ChangeSteps
+pub mod ExchangedMaps
+pub mod IdleMaps
+pub mod ImageMaps
+pub mod MapBooks
+pub mod TurnedMaps
+pub mod TurnedSets

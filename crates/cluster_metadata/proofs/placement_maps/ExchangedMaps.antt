@@ -1,0 +1,81 @@
+-- The placement maps of the image that a change leads to.
+use Rattle.std.proofs.Common.{◌≡◌, ℕ, ℤ, List, [], ◌∷◌, length, map, refl, sym, ap, ◌∙◌, subst}
+use Rattle.std.proofs.lemmas.List.{length-map}
+use Rattle.std.specs.List.{AllByRecursion}
+use Rattle.cluster_terms.specs.declared.replication.Replication.{Replication}
+use Rattle.cluster_terms.specs.declared.token.Pair.{Pair}
+use Rattle.placement_deltas.specs.declared.book.DeltaBookRow.{DeltaBookRow}
+use Rattle.sequence_plans.specs.Deltas.{AreDeltas}
+use Rattle.sequence_plans.specs.Replications.{replications_of}
+use Rattle.transformations.specs.Rings.{reads_at, writes_at}
+use Rattle.transformations.specs.declared.image.Image.{Image}
+use Rattle.transformations.specs.declared.keyspace.KeyspaceRow.{KeyspaceRow}
+use Rattle.cluster_metadata.specs.Change.{changed}
+use Rattle.cluster_metadata.specs.MapChanges.{BringsMaps, maps_after}
+use Rattle.cluster_metadata.specs.Maps.{AreMaps, IsMapOf, placement_rows}
+use Rattle.cluster_metadata.specs.declared.change.Change.{Change}
+use Rattle.cluster_metadata.specs.declared.change.Change.TheVariants.{Keyspaces, Tokens}
+use Rattle.cluster_metadata.specs.declared.map_change.MapChange.{MapChange}
+use Rattle.cluster_metadata.specs.declared.map_change.MapChange.TheVariants.{Keep}
+use Rattle.cluster_metadata.specs.declared.map_row.MapRow.{MapRow}
+
+-- ---- an image has one book of maps
+
+one_book : (image : Image) (rs : List Replication) (one other : List MapRow) → map (λ (row : MapRow). row.replication) one ≡ rs → map (λ (row : MapRow). row.replication) other ≡ rs
+    → AllByRecursion (IsMapOf image) one → AllByRecursion (IsMapOf image) other → one ≡ other
+one_book image rs [] [] mine theirs have has = refl
+one_book image [] (row ∷ one) [] mine theirs have has = cc mine
+one_book image (r ∷ rs) (row ∷ one) [] mine theirs have has = cc theirs
+one_book image [] [] (row ∷ other) mine theirs have has = cc theirs
+one_book image (r ∷ rs) [] (row ∷ other) mine theirs have has = cc mine
+one_book image [] (row ∷ one) (next ∷ other) mine theirs have has = cc mine
+one_book image (r ∷ rs) (row ∷ one) (next ∷ other) mine theirs have has =
+    let under : row.replication ≡ next.replication = cc (mine, theirs) in
+    let placed : row.map ≡ next.map = have.0.0 ∙ ap (placement_rows image) under ∙ sym has.0.0 in
+    let rest = one_book image rs one other (cc mine) (cc theirs) have.1 has.1 in
+    λ i. (record { replication = under i; map = placed i }) ∷ rest i
+
+pub same_book : (image : Image) (one other : List MapRow) → AreMaps image one → AreMaps image other → one ≡ other
+same_book image one other mine theirs = one_book image (replications_of image.keyspaces) one other mine.replications theirs.replications mine.placements theirs.placements
+
+-- ---- what a change brings
+
+-- maps that are made for a change are those of the image after it
+pub made_anew : (image : Image) (change : Change) (maps : MapChange) (next : List MapRow) → ((book : List MapRow) → maps_after maps book ≡ next) → AreMaps (changed image change) next → BringsMaps image change maps
+made_anew image change maps next leads are book was = subst (AreMaps (changed image change)) (sym (leads book)) are
+
+-- and so are those to which the image's own maps lead
+pub made_from : (image : Image) (change : Change) (maps : MapChange) (own : List MapRow) → AreMaps image own → AreMaps (changed image change) (maps_after maps own) → BringsMaps image change maps
+made_from image change maps own has are book was = subst (λ b. AreMaps (changed image change) (maps_after maps b)) (same_book image own book has was) are
+
+-- as many deltas as maps
+pub same_count : (image : Image) (book : List MapRow) (deltas : List DeltaBookRow) (gained lost : Replication → ℤ → List ℕ) → AreMaps image book → AreDeltas (replications_of image.keyspaces) gained lost deltas → length book ≡ length deltas
+same_count image book deltas gained lost are exact =
+    sym (length-map book (λ (row : MapRow). row.replication)) ∙ ap length (are.replications ∙ sym exact.rows) ∙ length-map deltas (λ (row : DeltaBookRow). row.replication)
+
+-- without keyspaces there are no maps, and new tokens bring none
+pub no_maps : (image : Image) (change : Change) (pairs : List Pair) → change ≡ Tokens pairs → image.keyspaces ≡ [] → BringsMaps image change Keep
+no_maps image change pairs is none book are = subst (λ c. AreMaps (changed image c) book) (sym is) (by book are)
+  where
+    by : (book : List MapRow) → AreMaps image book → AreMaps (changed image (Tokens pairs)) book
+    by [] are = record { replications = are.replications; placements = tt }
+    by (row ∷ book) are = cc (are.replications ∙ ap replications_of none)
+
+-- a change of the keyspaces keeps the maps of replications
+pub known_maps : (image : Image) (change : Change) (rows : List KeyspaceRow) (book : List MapRow) → change ≡ Keyspaces rows → AreMaps image book → AllByRecursion (IsMapOf (changed image change)) book
+unfolding reads_at writes_at
+known_maps image change rows book is are = subst (λ c. AllByRecursion (IsMapOf (changed image c)) book) (sym is) (each book are.placements)
+  where
+    each : (book : List MapRow) → AllByRecursion (IsMapOf image) book → AllByRecursion (IsMapOf (changed image (Keyspaces rows))) book
+    each [] all = tt
+    each (row ∷ book) all = ((all.0.0, all.0.1), each book all.1)
+
+-- where the keyspaces change and their replications stay, so do the maps
+pub kept_maps : (image : Image) (change : Change) (rows : List KeyspaceRow) (own : List MapRow) → change ≡ Keyspaces rows → AreMaps image own → map (λ (row : MapRow). row.replication) own ≡ replications_of rows
+    → BringsMaps image change Keep
+kept_maps image change rows own is has fits =
+    made_from image change Keep own has
+    (record {
+      replications = fits ∙ ap (λ c. replications_of (changed image c).keyspaces) (sym is);
+      placements = known_maps image change rows own is has;
+    })

@@ -1,0 +1,33 @@
+-- The placement maps after a change.
+-- Of the code: no promise rests on these.
+use Rattle.std.specs.Prelude.{ℕ, zero, suc, List, [], ◌∷◌}
+use Rattle.range_placements.specs.Exchanging.{exchanged}
+use Rattle.range_placements.specs.declared.row_changes.RowChange.{RowChange}
+use Rattle.transformations.specs.declared.image.Image.{Image}
+use Rattle.cluster_metadata.specs.Change.{changed}
+use Rattle.cluster_metadata.specs.Maps.{AreMaps}
+use Rattle.cluster_metadata.specs.declared.change.Change.{Change}
+use Rattle.cluster_metadata.specs.declared.map_change.MapChange.{MapChange}
+use Rattle.cluster_metadata.specs.declared.map_change.MapChange.TheVariants.{Keep, Anew, Sets}
+use Rattle.cluster_metadata.specs.declared.map_row.MapRow.{MapRow}
+
+-- a book with new sets in the map at an index, and with new sets in each map
+abbrev pub exchanged_at : ℕ → List RowChange → List MapRow → List MapRow
+exchanged_at n changes [] = []
+exchanged_at zero changes (row ∷ book) = record { replication = row.replication; map = exchanged changes row.map } ∷ book
+exchanged_at (suc n) changes (row ∷ book) = row ∷ exchanged_at n changes book
+
+abbrev pub each_exchanged : List (List RowChange) → List MapRow → List MapRow
+each_exchanged [] book = book
+each_exchanged (changes ∷ all) [] = []
+each_exchanged (changes ∷ all) (row ∷ book) = record { replication = row.replication; map = exchanged changes row.map } ∷ each_exchanged all book
+
+-- the maps after such a change
+abbrev pub maps_after : MapChange → List MapRow → List MapRow
+maps_after Keep book = book
+maps_after (Anew next) book = next
+maps_after (Sets changes) book = each_exchanged changes.items book
+
+-- the maps of the image before a change become those of the image after it
+abbrev pub BringsMaps : Image → Change → MapChange → Type 0
+BringsMaps image change maps = (book : List MapRow) → AreMaps image book → AreMaps (changed image change) (maps_after maps book)

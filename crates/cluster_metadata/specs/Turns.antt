@@ -1,0 +1,64 @@
+-- Placement maps that are changed by the deltas of a movement. Of the code: no promise rests on these.
+use Rattle.std.specs.Prelude.{◌≡◌, ℕ, ℤ, List, [], ◌∷◌, ◌++◌, length, map}
+use Rattle.cluster_terms.specs.Row.{last_token}
+use Rattle.cluster_terms.specs.declared.row.TokenRange.{TokenRange}
+use Rattle.cluster_terms.specs.declared.token.RightEnd.{RightEnd}
+use Rattle.placement_deltas.specs.Deltas.{delta_at}
+use Rattle.placement_deltas.specs.declared.book.DeltaBookRow.{DeltaBookRow}
+use Rattle.placement_deltas.specs.declared.delta_row.DeltaRow.{DeltaRow}
+use Rattle.range_placements.specs.Changing.{row_changed, rows_changed}
+use Rattle.range_placements.specs.Exchanging.{exchanged}
+use Rattle.range_placements.specs.Placements.{IsPlacementMap, map_at, reads_changed, writes_changed}
+use Rattle.range_placements.specs.declared.placement_row.PlacementRow.{PlacementRow}
+use Rattle.range_placements.specs.declared.row_changes.RowChange.{RowChange}
+use Rattle.transformations.specs.declared.sequence.Phase.{Phase}
+use Rattle.transformations.specs.declared.sequence.Phase.TheVariants.{Prepared, Started, Mid}
+use Rattle.cluster_metadata.specs.declared.map_row.MapRow.{MapRow}
+use Rattle.cluster_metadata.specs.declared.turn.Turn.{Turn}
+use Rattle.cluster_metadata.specs.declared.turn.Turn.TheVariants.{Keep, Reads, Writes, ReadsBack, WritesBack}
+
+-- the reads and the writes of a token, changed by the nodes that the movement gains and those that it loses
+abbrev pub turned : Turn → List ℕ × List ℕ → List ℕ × List ℕ → List ℕ × List ℕ
+turned Keep placement change = placement
+turned Reads placement change = reads_changed placement change
+turned Writes placement change = writes_changed placement change
+turned ReadsBack placement change = reads_changed placement (change.1, change.0)
+turned WritesBack placement change = writes_changed placement (change.1, change.0)
+
+-- the turn that undoes the last step of a movement at this phase
+abbrev pub undoing : Phase → Turn
+undoing Prepared = Keep
+undoing Started = WritesBack
+undoing Mid = ReadsBack
+
+-- a row with this right end, the reads and the writes
+abbrev pub row_to : RightEnd → List ℕ × List ℕ → PlacementRow
+row_to right placement = record { right = right; reads = placement.0; writes = placement.1 }
+
+-- the row of a range, with the reads and the writes of its last token; and ranges whose rows are a map
+abbrev pub row_with : (ℤ → List ℕ × List ℕ) → TokenRange → PlacementRow
+row_with placement range = row_to range.right (placement (last_token range.right))
+
+abbrev pub AreMapRanges : List TokenRange → Type 0
+AreMapRanges ranges = IsPlacementMap (map (row_with (λ x. ([], []))) ranges)
+
+-- the rows of a map, changed by a delta; and those of other ranges, with the same changes at their last tokens
+abbrev pub turned_rows : Turn → List PlacementRow → List DeltaRow → List PlacementRow
+turned_rows turn rows delta = rows_changed (turned turn) delta rows
+
+-- new sets are added for the row at an index, where the delta changes it: whatever rows stand beside it
+abbrev pub AddsTurned : Turn → List DeltaRow → ℕ → PlacementRow → List RowChange → List RowChange → Type 0
+AddsTurned turn delta at row before after =
+    (done rest : List PlacementRow) → length done ≡ at → exchanged after (done ++ row ∷ rest) ≡ exchanged before (done ++ row_changed (turned turn) delta row ∷ rest)
+
+abbrev pub turned_at : Turn → List PlacementRow → List DeltaRow → ℤ → List ℕ × List ℕ
+turned_at turn rows delta x = turned turn (map_at rows x) (delta_at delta x)
+
+abbrev pub recut_rows : Turn → List TokenRange → List PlacementRow → List DeltaRow → List PlacementRow
+recut_rows turn ranges rows delta = map (row_with (turned_at turn rows delta)) ranges
+
+-- a book with each map changed by the delta beside it
+abbrev pub each_map : (List PlacementRow → List DeltaRow → List PlacementRow) → List MapRow → List DeltaBookRow → List MapRow
+each_map change [] deltas = []
+each_map change (row ∷ book) [] = []
+each_map change (row ∷ book) (delta ∷ deltas) = record { replication = row.replication; map = change row.map delta.delta } ∷ each_map change book deltas

@@ -1,0 +1,75 @@
+//! The placement maps of images without movements: the same nodes are read and written, and each row is placed once.
+
+ghost use Rattle.std.specs.Prelude.{◌≡◌, [], map, IfOk, OnOk};
+ghost use Rattle.std.specs.List.{AllByRecursion};
+ghost use Rattle.cluster_terms.specs.Arc.{IsToken};
+ghost use Rattle.transformations.specs.Rings as rings;
+ghost use Rattle.transformations.specs.Valid.{IsValid};
+ghost use Rattle.cluster_metadata.specs.MapBasis.{row_placed_once};
+ghost use Rattle.cluster_metadata.specs.Maps.{placement_rows};
+
+use cluster_terms::{Memory, Replication, Steps, TokenRange, TryCopy, rows_between};
+use node_directory::Directory;
+use range_placements::{PlacementMap, PlacementRow, PlacementRows};
+use sequence_plans::Placer;
+use std::alloc::Global;
+use std::sync::ledger::Ledger;
+use token_ring::Ring;
+use transformations::{Image, cuts};
+
+/// A range with the nodes that are placed at its last token, which are read and written. One walk.
+fn row_once<L: Ledger>(
+    alloc: Global,
+    placer: &Placer,
+    range: &TokenRange,
+    walks: &mut Steps<L>,
+) -> Result<PlacementRow, Memory>
+    ensures { IfOk result (λ row. row ≡ row_placed_once placer.now range.now) }
+{
+    let nodes = placer.place(alloc, range.last_token(), walks)?;
+    Ok(PlacementRow {
+        right: range.right,
+        reads: nodes.copy()?,
+        writes: nodes,
+    })
+}
+
+/// The ranges with the nodes that are placed at their last tokens. One walk for each range.
+fn rows_once<L: Ledger>(
+    alloc: Global,
+    placer: &Placer,
+    ranges: &[TokenRange],
+    walks: &mut Steps<L>,
+) -> Result<PlacementRows, Memory>
+    ensures { IfOk result (λ rows. rows.items ≡ map (row_placed_once placer.now) ranges.now) }
+{
+    let mut rows = Vec::with_capacity(alloc, ranges.len())?;
+    for range in ranges {
+        rows.push(row_once(alloc, placer, range, walks)?)?;
+    }
+    Ok(rows)
+}
+
+/// The placement map of a replication in an image without movements. The directory must hold the nodes of the image.
+/// `Err` means that memory ran out. Cost: the ring is copied and sorted, and one walk for each row between cuts.
+#[tactic(auto, using(crate::proofs::ImageRings::low_tokens))]
+pub fn idle_map<L: Ledger>(
+    alloc: Global,
+    image: &Image,
+    directory: &Directory,
+    replication: &Replication,
+    walks: &mut Steps<L>,
+) -> Result<PlacementMap, Memory>
+    requires valid { IsValid image.now }
+    requires idle { image.now.sequences ≡ [] }
+    requires nodes { directory.now.rows ≡ image.now.nodes }
+    ensures map { IfOk result (λ map. map ≡ placement_rows image.now replication.now) }
+    ensures tokens { OnOk result (AllByRecursion IsToken (rings.cuts image.now)) }
+{
+    let cuts = cuts(alloc, image)?;
+    let ranges = rows_between(alloc, cuts.as_slice())?;
+    let ring = Ring::from_distinct(alloc, image.tokens.as_slice())?;
+    let placer = Placer::new(alloc, &ring, directory, replication)?;
+    let rows = rows_once(alloc, &placer, ranges.as_slice(), walks)?;
+    Ok(PlacementMap::from_rows(rows))
+}

@@ -1,0 +1,186 @@
+//! What a change does to the placement maps.
+
+ghost use Rattle.std.specs.Prelude.{◌≡◌, ◌-◌, ◌<◌, ◌^◌, IfOk, OnOk};
+ghost use Rattle.std.specs.List.{AllByRecursion};
+ghost use Rattle.cluster_terms.specs.Arc.{IsToken};
+ghost use Rattle.cluster_terms.specs.Row.{rows_between};
+ghost use Rattle.transformations.specs.Rings.{cuts};
+ghost use Rattle.transformations.specs.Valid.{IsValid};
+ghost use Rattle.cluster_metadata.specs.Change as spec;
+ghost use Rattle.cluster_metadata.specs.MapSteps.{MapSteps};
+ghost use Rattle.cluster_metadata.specs.MapChanges.{BringsMaps};
+ghost use Rattle.cluster_metadata.specs.Maps.{AreMaps, IsMapOf};
+ghost use Rattle.cluster_metadata.specs.Running.{HaveDeltas, IsRunning};
+ghost use Rattle.cluster_metadata.specs.Turns.{each_map, recut_rows};
+ghost use Rattle.cluster_metadata.specs.declared.change.Change.TheVariants as spec_change;
+
+use crate::change::Change;
+use crate::changed::changed;
+use crate::fitting::fits;
+use crate::map_book::MapBook;
+use crate::map_change::MapChange;
+use crate::maps::maps_of;
+use crate::running::Running;
+use crate::turn::Turn;
+use crate::turning::{recut_book, turned_book};
+use cluster_terms::{Memory, PairList, Rows, rows_between};
+use node_directory::Directory;
+use placement_deltas::DeltaBook;
+use std::alloc::Global;
+use transformations::{Image, KeyspaceRows, cuts};
+
+/// The placement maps of the image after a change. Those that are known are copied, and the others placed anew. The
+/// directory must hold the nodes of this image.
+fn placed_anew(
+    alloc: Global,
+    image: &Image,
+    directory: &Directory,
+    known: &MapBook,
+    change: &Change,
+) -> Result<MapChange, Memory>
+    requires epochs { image.now.epoch < 2 ^ 64 - 1 }
+    requires follows { spec.Follows image.now.sequences change.now }
+    requires valid { IsValid (spec.changed image.now change.now) }
+    requires nodes { directory.now.rows ≡ (spec.changed image.now change.now).nodes }
+    requires known { AllByRecursion (IsMapOf (spec.changed image.now change.now)) known.now }
+    ensures { IfOk result (BringsMaps image.now change.now) }
+{
+    let next = changed(alloc, image, change)?;
+    Ok(MapChange::Anew(maps_of(alloc, &next, directory, known)?))
+}
+
+/// What new tokens do to the placement maps: all are placed anew. Without a keyspace there is none.
+fn maps_on(
+    alloc: Global,
+    image: &Image,
+    directory: &Directory,
+    tokens: &PairList,
+    change: &Change,
+) -> Result<MapChange, Memory>
+    requires change { change.now ≡ spec_change.Tokens tokens.now }
+    requires epochs { image.now.epoch < 2 ^ 64 - 1 }
+    requires valid { IsValid (spec.changed image.now change.now) }
+    requires nodes { directory.now.rows ≡ image.now.nodes }
+    ensures { IfOk result (BringsMaps image.now change.now) }
+{
+    if image.keyspaces.as_slice().is_empty() {
+        return Ok(MapChange::Keep);
+    }
+    placed_anew(alloc, image, directory, &MapBook::empty(alloc), change)
+}
+
+/// What a change of the keyspaces does to the placement maps. They stay if the keyspaces have the same replications.
+fn maps_under(
+    alloc: Global,
+    image: &Image,
+    directory: &Directory,
+    maps: &MapBook,
+    keyspaces: &KeyspaceRows,
+    change: &Change,
+) -> Result<MapChange, Memory>
+    requires change { change.now ≡ spec_change.Keyspaces keyspaces.now }
+    requires epochs { image.now.epoch < 2 ^ 64 - 1 }
+    requires valid { IsValid (spec.changed image.now change.now) }
+    requires nodes { directory.now.rows ≡ image.now.nodes }
+    requires maps { AreMaps image.now maps.now }
+    ensures { IfOk result (BringsMaps image.now change.now) }
+{
+    if fits(maps.as_slice(), keyspaces.as_slice()) {
+        return Ok(MapChange::Keep);
+    }
+    placed_anew(alloc, image, directory, maps, change)
+}
+
+/// The ranges between the cuts of the image after a change.
+fn ranges_after(alloc: Global, image: &Image, change: &Change) -> Result<Rows, Memory>
+    requires epochs { image.now.epoch < 2 ^ 64 - 1 }
+    requires follows { spec.Follows image.now.sequences change.now }
+    ensures ranges { IfOk result (λ ranges. ranges ≡ rows_between (cuts (spec.changed image.now change.now))) }
+    ensures tokens { OnOk result (AllByRecursion IsToken (cuts (spec.changed image.now change.now))) }
+{
+    let next = changed(alloc, image, change)?;
+    let cuts = cuts(alloc, &next)?;
+    rows_between(alloc, cuts.as_slice())
+}
+
+/// The maps of the ranges between the cuts of the image after a change, with the sets changed by the deltas of a
+/// movement.
+fn recut_after(
+    alloc: Global,
+    image: &Image,
+    maps: &MapBook,
+    change: &Change,
+    turn: Turn,
+    deltas: &DeltaBook,
+) -> Result<MapBook, Memory>
+    requires epochs { image.now.epoch < 2 ^ 64 - 1 }
+    requires follows { spec.Follows image.now.sequences change.now }
+    ensures maps { IfOk result (λ next. next
+        ≡ each_map (recut_rows turn (rows_between (cuts (spec.changed image.now change.now)))) maps.now deltas.now) }
+    ensures tokens { OnOk result (AllByRecursion IsToken (cuts (spec.changed image.now change.now))) }
+{
+    let ranges = ranges_after(alloc, image, change)?;
+    recut_book(alloc, turn, maps, deltas, ranges.as_slice())
+}
+
+/// How a change changes the placement maps. The directory must hold the nodes of the image. `Err` means that memory ran
+/// out.
+///
+/// A change of nodes keeps the maps, and so does one of keyspaces that leaves their replications. New tokens place them
+/// anew, and new keyspaces those under new replications; the others are copied. If a
+/// movement begins or ends, the maps are copied, and the sets of each row are changed by the deltas of the movement.
+/// This needs the cuts of the next image, and so a copy of the image, and a sort of its tokens. All other changes give
+/// new sets to the rows that the deltas change.
+pub fn maps_for(
+    alloc: Global,
+    image: &Image,
+    directory: &Directory,
+    maps: &MapBook,
+    running: &[Running],
+    change: &Change,
+) -> Result<MapChange, Memory>
+    requires epochs { image.now.epoch < 2 ^ 64 - 1 }
+    requires follows { spec.Follows image.now.sequences change.now }
+    requires brings { spec.BringsDeltas image.now change.now }
+    requires valid { IsValid (spec.changed image.now change.now) }
+    requires nodes { directory.now.rows ≡ image.now.nodes }
+    requires maps { AreMaps image.now maps.now }
+    requires running { IsRunning image.now.sequences running.now }
+    requires deltas { HaveDeltas image.now running.now }
+    requires steps { MapSteps image.now change.now }
+    ensures { IfOk result (BringsMaps image.now change.now) }
+{
+    match change {
+        Change::Registered(_) => Ok(MapChange::Keep),
+        Change::Unregistered { .. } => Ok(MapChange::Keep),
+        Change::Tokens(tokens) => maps_on(alloc, image, directory, tokens, change),
+        Change::Keyspaces(rows) => maps_under(alloc, image, directory, maps, rows, change),
+        Change::Begun { plan, .. } => {
+            let next = recut_after(alloc, image, maps, change, Turn::Keep, &plan.gain)?;
+            Ok(MapChange::Anew(next))
+        }
+        Change::Started { at, .. } => {
+            let gain = &running[*at].plan().gain;
+            Ok(MapChange::Sets(turned_book(alloc, Turn::Writes, maps, gain)?))
+        }
+        Change::Mid { at, .. } => {
+            let swap = &running[*at].plan().swap;
+            Ok(MapChange::Sets(turned_book(alloc, Turn::Reads, maps, swap)?))
+        }
+        Change::Finished { at, .. } => {
+            let lose = &running[*at].plan().lose;
+            let next = recut_after(alloc, image, maps, change, Turn::Writes, lose)?;
+            Ok(MapChange::Anew(next))
+        }
+        Change::Ended { at, .. } => {
+            let movement = &running[*at];
+            let (turn, gain) = (movement.undoing(), &movement.plan().gain);
+            let next = recut_after(alloc, image, maps, change, turn, gain)?;
+            Ok(MapChange::Anew(next))
+        }
+        Change::BroughtBack { at, .. } => {
+            let swap = &running[*at].plan().swap;
+            Ok(MapChange::Sets(turned_book(alloc, Turn::ReadsBack, maps, swap)?))
+        }
+    }
+}

@@ -1,0 +1,57 @@
+//! A node that is registered.
+
+ghost use Rattle.std.specs.Prelude.{◌≡◌, ◌<◌, ◌^◌, ◌-◌, None, IfOk};
+ghost use Rattle.node_directory.specs.Directory.{node_named};
+ghost use Rattle.cluster_metadata.specs.Nodes as spec;
+
+use cluster_terms::{Memory, Name, NodeId, NodeRow, Room, TryCopy};
+use node_directory::DirectoryRoom;
+use std::alloc::Global;
+use transformations::Image;
+
+/// A node that is registered: its row for the image, a copy of it for the directory, the id of the node after it, and
+/// memory for both rows.
+#[derive(Drop)]
+pub struct NewNode {
+    pub row: NodeRow,
+    pub entry: NodeRow,
+    pub next: u32,
+    pub nodes: Room<NodeRow>,
+    pub directory: DirectoryRoom,
+}
+
+/// The row of a new node.
+pub fn new_row(id: u32, name: &Name, dc: &Name, rack: &Name) -> Result<NodeRow, Memory>
+    ensures { IfOk result (λ row. row ≡ spec.new_row id name.now dc.now rack.now) }
+{
+    Ok(NodeRow {
+        id: NodeId(id),
+        name: name.copy()?,
+        dc: dc.copy()?,
+        rack: rack.copy()?,
+        left: false,
+    })
+}
+
+impl NewNode {
+    /// The new node of a row, with memory for twice the nodes of the image. The memory is used only if the image or the
+    /// directory has none to spare. `Err` means that memory ran out.
+    pub fn of_row(alloc: Global, image: &Image, row: NodeRow) -> Result<NewNode, Memory>
+        requires next { image.now.next < 2 ^ 32 - 1 }
+        requires row { row ≡ spec.new_row image.now.next row.name row.dc row.rack }
+        requires free { node_named image.now.nodes row.name ≡ None }
+        ensures new { IfOk result (spec.IsNew image.now.nodes image.now.next) }
+        ensures row { IfOk result (λ node. node.row ≡ row) }
+    {
+        let count = 2 * image.nodes.as_slice().len() + 1;
+        let nodes = Room::for_items(alloc, count)?;
+        let directory = DirectoryRoom::for_node(alloc, &row.name, count)?;
+        Ok(NewNode {
+            entry: row.copy()?,
+            row,
+            next: image.next + 1,
+            nodes,
+            directory,
+        })
+    }
+}

@@ -1,0 +1,69 @@
+//! Changes one node in an image and in its directory. Nothing here allocates memory.
+
+ghost use Rattle.std.specs.Prelude.{◌≡◌, ◌==◌, not, filter, IfSome, IsSome};
+ghost use Rattle.cluster_terms.specs.NodeRow.{row_of};
+ghost use Rattle.cluster_metadata.specs.Change.{directory_of};
+ghost use Rattle.cluster_metadata.specs.Nodes.{IsLeftRow, IsNew, with_node, with_node_left, without_node};
+
+use crate::leaving::LeftRow;
+use crate::new_node::NewNode;
+use cluster_terms::{NodeId, NodeRow, NodeRows};
+use node_directory::Directory;
+use transformations::Image;
+
+/// Registers a node.
+pub fn register(image: &mut Image, directory: &mut Directory, node: NewNode)
+    requires directory { directory.old ≡ directory_of image.old }
+    requires node { IsNew image.old.nodes image.old.next node }
+    ensures image { image.new ≡ with_node image.old node }
+    ensures directory { directory.new ≡ directory_of image.new }
+{
+    let NewNode {
+        row,
+        entry,
+        next,
+        nodes,
+        directory: room,
+    } = node;
+    let NodeRow {
+        id: _,
+        name,
+        dc,
+        rack,
+        left: _,
+    } = entry;
+    image.nodes.push_in(row, nodes);
+    image.next = next;
+    let _id = directory.register_in(name, dc, rack, room);
+}
+
+/// Keeps the rows of the other nodes.
+pub fn remove_node(rows: &mut NodeRows, node: NodeId)
+    ensures { rows.new ≡ filter (λ row. not (row.id == node)) rows.old }
+{
+    rows.retain(|row| row.id != node);
+}
+
+/// Removes a registered node.
+pub fn unregister(image: &mut Image, directory: &mut Directory, node: NodeId)
+    requires directory { directory.old ≡ directory_of image.old }
+    requires node { IsSome (row_of image.old.nodes node) }
+    ensures image { image.new ≡ without_node image.old node }
+    ensures directory { directory.new ≡ directory_of image.new }
+{
+    remove_node(&mut image.nodes, node);
+    directory.unregister(node);
+}
+
+/// Marks the node of a row, if there is one, as left.
+pub fn mark_left(image: &mut Image, directory: &mut Directory, left: Option<LeftRow>)
+    requires directory { directory.old ≡ directory_of image.old }
+    requires row { IfSome left (IsLeftRow image.old.nodes) }
+    ensures image { image.new ≡ with_node_left image.old left }
+    ensures directory { directory.new ≡ directory_of image.new }
+{
+    if let Some(LeftRow { at, row }) = left {
+        directory.mark_left(row.id);
+        image.nodes.replace(at, row);
+    }
+}

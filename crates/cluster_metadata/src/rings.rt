@@ -1,0 +1,37 @@
+ghost use Rattle.std.specs.Prelude.{IfOk};
+ghost use Rattle.cluster_metadata.specs.MapBasis.{AreRings};
+ghost use Rattle.transformations.specs.Valid.{IsValid};
+
+use cluster_terms::Memory;
+use std::alloc::Global;
+use token_ring::Ring;
+use transformations::{Image, RingKind, ring_with};
+
+/// The rings that reads and writes are placed on.
+#[derive(Drop)]
+pub struct Rings {
+    /// The ring before the movements.
+    pub low: Ring,
+    /// The ring that reads see.
+    pub read: Ring,
+    /// The ring that writes see.
+    pub high: Ring,
+}
+
+impl Rings {
+    /// The rings of an image. `Err` means that memory ran out. Cost: each ring is copied and sorted, in about p log p
+    /// steps for p pairs. For k pairs that movements take out, this makes up to 2·p·k comparisons.
+    #[tactic(auto, using(crate::proofs::ImageRings::low_tokens, crate::proofs::ImageRings::read_tokens, crate::proofs::ImageRings::high_tokens))]
+    pub fn of_image(alloc: Global, image: &Image) -> Result<Rings, Memory>
+        requires { IsValid image.now }
+        ensures { IfOk result (AreRings image.now) }
+    {
+        let read = ring_with(alloc, image, RingKind::Read)?;
+        let high = ring_with(alloc, image, RingKind::High)?;
+        Ok(Rings {
+            low: Ring::from_distinct(alloc, image.tokens.as_slice())?,
+            read: Ring::from_distinct(alloc, read.as_slice())?,
+            high: Ring::from_distinct(alloc, high.as_slice())?,
+        })
+    }
+}

@@ -1,0 +1,193 @@
+//! Changes placement maps by the deltas of a movement.
+
+ghost use Rattle.std.specs.Prelude.{◌≡◌, ◌<◌, length, IfOk, OnOk};
+ghost use Rattle.range_placements.specs.Exchanging.{exchanged};
+ghost use Rattle.cluster_metadata.specs.MapChanges.{each_exchanged};
+ghost use Rattle.cluster_metadata.specs.Turns as spec;
+
+use crate::map_book::MapBook;
+use crate::map_change::BookChanges;
+use crate::map_row::MapRow;
+use crate::turn::Turn;
+use cluster_terms::{Memory, RightEnd, Steps, TokenRange, TryCopy};
+use node_sets::NodeSet;
+use placement_deltas::{Delta, DeltaBook};
+use range_placements::{PlacementMap, PlacementRow, RowChange, RowChanges, with_change};
+use std::alloc::Global;
+use std::marker::Brand;
+use std::sync::ledger::{Blank, Ledger};
+
+/// A row with this right end and these reads and writes, changed by the nodes gained and the nodes lost.
+fn turned_sets(
+    turn: Turn,
+    right: RightEnd,
+    reads: &NodeSet,
+    writes: &NodeSet,
+    gained: &NodeSet,
+    lost: &NodeSet,
+) -> Result<PlacementRow, Memory>
+    ensures { IfOk result (λ row. row
+        ≡ spec.row_to right (spec.turned turn (reads.now, writes.now) (gained.now, lost.now))) }
+{
+    match turn {
+        Turn::Keep => Ok(PlacementRow {
+            right,
+            reads: reads.copy()?,
+            writes: writes.copy()?,
+        }),
+        Turn::Reads => Ok(PlacementRow {
+            right,
+            reads: with_change(reads, gained, lost)?,
+            writes: writes.copy()?,
+        }),
+        Turn::Writes => Ok(PlacementRow {
+            right,
+            reads: reads.copy()?,
+            writes: with_change(writes, gained, lost)?,
+        }),
+        Turn::ReadsBack => Ok(PlacementRow {
+            right,
+            reads: with_change(reads, lost, gained)?,
+            writes: writes.copy()?,
+        }),
+        Turn::WritesBack => Ok(PlacementRow {
+            right,
+            reads: reads.copy()?,
+            writes: with_change(writes, lost, gained)?,
+        }),
+    }
+}
+
+/// Adds the new sets of a row, if the delta shows a change at its last token.
+fn push_turned(
+    changes: &mut RowChanges,
+    turn: Turn,
+    at: usize,
+    row: &PlacementRow,
+    delta: &Delta,
+) -> Result<(), Memory>
+    ensures { OnOk result (spec.AddsTurned turn delta.now at row.now changes.old changes.new) }
+{
+    let (gained, lost) = delta.at(row.last_token());
+    if gained.is_empty() && lost.is_empty() {
+        return Ok(());
+    }
+    let PlacementRow {
+        right: _,
+        reads,
+        writes,
+    } = turned_sets(turn, row.right, &row.reads, &row.writes, gained, lost)?;
+    changes.push(RowChange { at, reads, writes })
+}
+
+/// The new sets of the rows of a map that a delta changes.
+fn turned_rows(
+    alloc: Global,
+    turn: Turn,
+    map: &PlacementMap,
+    delta: &Delta,
+) -> Result<RowChanges, Memory>
+    ensures { IfOk result (λ changes. exchanged changes map.now ≡ spec.turned_rows turn map.now delta.now) }
+{
+    let mut changes = RowChanges::empty(alloc);
+    for (at, row) in map.rows().iter().enumerate() {
+        push_turned(&mut changes, turn, at, row, delta)?;
+    }
+    Ok(changes)
+}
+
+/// The row of a range, with the sets of its last token in a map, changed by what the delta shows there.
+fn recut_row<L: Ledger>(
+    turn: Turn,
+    map: &PlacementMap,
+    delta: &Delta,
+    range: &TokenRange,
+    steps: &mut Steps<L>,
+) -> Result<PlacementRow, Memory>
+    ensures { IfOk result (λ row. row ≡ spec.row_with (spec.turned_at turn map.now delta.now) range.now) }
+{
+    let last = range.last_token();
+    let (reads, writes) = map.at(last, steps);
+    let (gained, lost) = delta.at(last);
+    turned_sets(turn, range.right, reads, writes, gained, lost)
+}
+
+/// A map of these ranges, with the sets of their last tokens in another map, changed by what the delta shows there.
+fn recut_map<L: Ledger>(
+    alloc: Global,
+    turn: Turn,
+    map: &PlacementMap,
+    delta: &Delta,
+    ranges: &[TokenRange],
+    steps: &mut Steps<L>,
+) -> Result<PlacementMap, Memory>
+    requires { spec.AreMapRanges ranges.now }
+    ensures { IfOk result (λ next. next ≡ spec.recut_rows turn ranges.now map.now delta.now) }
+{
+    let mut next = Vec::with_capacity(alloc, ranges.len())?;
+    for range in ranges {
+        next.push(recut_row(turn, map, delta, range, steps)?)?;
+    }
+    Ok(PlacementMap::from_rows(next))
+}
+
+/// The new sets of the rows of a book's maps that the deltas of a movement change. The deltas are under the same
+/// replications in the same order. `Err` means that memory ran out. Cost: under each replication a binary search in the
+/// delta for each row, and a pass over the sets for each row that changes.
+pub fn turned_book(
+    alloc: Global,
+    turn: Turn,
+    book: &MapBook,
+    deltas: &DeltaBook,
+) -> Result<BookChanges, Memory>
+    ensures { IfOk result (λ changes. length book.now ≡ length deltas.now
+        → each_exchanged changes.items book.now ≡ spec.each_map (spec.turned_rows turn) book.now deltas.now) }
+{
+    let mut changes = Vec::new(alloc);
+    for (row, deltas) in book.as_slice().iter().zip(deltas.as_slice()) {
+        changes.push(turned_rows(alloc, turn, &row.map, &deltas.delta)?)?;
+    }
+    Ok(changes)
+}
+
+/// The maps of these ranges, as `recut_book` makes them, with a counter of steps for the searches.
+fn recut<L: Ledger>(
+    alloc: Global,
+    turn: Turn,
+    book: &MapBook,
+    deltas: &DeltaBook,
+    ranges: &[TokenRange],
+    blank: Blank,
+) -> Result<MapBook, Memory>
+    requires name { blank.name ≡ L.name }
+    requires parts { blank.parts ≡ L.parts }
+    requires some { 0 < blank.parts }
+    requires ranges { spec.AreMapRanges ranges.now }
+    ensures { IfOk result (λ next. next ≡ spec.each_map (spec.recut_rows turn ranges.now) book.now deltas.now) }
+{
+    let mut steps = Steps::<L>::begin(blank);
+    let mut next = MapBook::empty(alloc);
+    for (row, deltas) in book.as_slice().iter().zip(deltas.as_slice()) {
+        next.push(MapRow {
+            replication: row.replication.copy()?,
+            map: recut_map(alloc, turn, &row.map, &deltas.delta, ranges, &mut steps)?,
+        })?;
+    }
+    Ok(next)
+}
+
+/// The maps of these ranges, with the sets of their last tokens in the maps of a book, changed by the deltas of a
+/// movement. The deltas are under the same replications in the same order. `Err` means that memory ran out. Cost: under
+/// each replication two binary searches and a pass over the sets for each range.
+pub fn recut_book(
+    alloc: Global,
+    turn: Turn,
+    book: &MapBook,
+    deltas: &DeltaBook,
+    ranges: &[TokenRange],
+) -> Result<MapBook, Memory>
+    requires { spec.AreMapRanges ranges.now }
+    ensures { IfOk result (λ next. next ≡ spec.each_map (spec.recut_rows turn ranges.now) book.now deltas.now) }
+{
+    recut::<Brand>(alloc, turn, book, deltas, ranges, Blank::new(1))
+}

@@ -1,0 +1,74 @@
+ghost use Rattle.std.specs.Prelude.{◌≡◌, [], ◌∷◌, ◌++◌, IfOk, OnOk};
+ghost use Rattle.range_placements.specs.Exchanging as spec;
+
+use crate::placement_row::{PlacementRow, PlacementRows};
+use cluster_terms::Memory;
+use node_sets::NodeSet;
+use std::alloc::Global;
+use std::marker::Model;
+
+/// New sets for one row of a placement map.
+#[derive(Debug, Drop)]
+pub struct RowChange {
+    /// The index of the row.
+    pub at: usize,
+    pub reads: NodeSet,
+    pub writes: NodeSet,
+}
+
+/// New sets for some rows of a placement map.
+#[derive(Debug, Drop)]
+pub struct RowChanges {
+    changes: Vec<RowChange>,
+}
+
+impl Model for RowChanges {
+    ghost use Rattle.std.specs.Prelude.{List};
+    ghost use Rattle.range_placements.specs.declared.row_changes.RowChange.{RowChange};
+
+    ghost Value = { List RowChange };
+
+    ghost view = { λ changes. changes.changes.items };
+}
+
+/// Exchanges the sets of one row. An index past the last row changes nothing.
+fn exchange(rows: &mut PlacementRows, change: RowChange)
+    ensures { rows.new.items ≡ spec.with_sets change.at (change.reads, change.writes) rows.old.items }
+{
+    if change.at < rows.len() {
+        let right = rows[change.at].right;
+        rows[change.at] = PlacementRow {
+            right,
+            reads: change.reads,
+            writes: change.writes,
+        };
+    }
+}
+
+impl RowChanges {
+    /// No change yet.
+    pub fn empty(alloc: Global) -> RowChanges
+        ensures { result ≡ [] }
+    {
+        RowChanges {
+            changes: Vec::new(alloc),
+        }
+    }
+
+    /// Adds a change at the end. `Err` means that memory ran out.
+    pub fn push(&mut self, change: RowChange) -> Result<(), Memory>
+        ensures { OnOk result (self.new ≡ self.old ++ change ∷ []) }
+    {
+        self.changes.push(change)?;
+        Ok(())
+    }
+
+    /// Makes the changes in these rows.
+    pub(crate) fn make(mut self, rows: &mut PlacementRows)
+        ensures { rows.new.items ≡ spec.exchanged self rows.old.items }
+    {
+        while let Some(change) = self.changes.pop() {
+            exchange(rows, change);
+        }
+    }
+}
