@@ -1,0 +1,3 @@
+pub mod ConflictExamples
+pub mod FirstSharedEnds
+pub mod TableLemmas

@@ -1,0 +1,140 @@
+ghost use Rattle.std.specs.Prelude.{◌≡◌, ◌<◌, ◌↔◌, true, false, [], ◌∷◌, ◌++◌, length, IsNone, IfOk, IfErr, MatchResult};
+ghost use Rattle.std.specs.List.{AllByRecursion};
+ghost use Rattle.std.specs.List.Sorted.{IsStrictlySortedBy};
+ghost use Rattle.std.specs.Ordering.{int_cmp};
+ghost use Rattle.token_ring.specs.Ranges.{AreCutOut};
+ghost use Rattle.locked_ranges.specs.Conflict.{conflict_of};
+ghost use Rattle.locked_ranges.specs.Sharing.{ShareNoToken};
+ghost use Rattle.locked_ranges.specs.Table.{AreWider, IsLockTable, has_row, other_locks, lock_row};
+
+use crate::first_conflict::first_conflict;
+use crate::key::LockKey;
+use cluster_terms::{Memory, NodeId, RightEnd, Room, Token};
+use std::alloc::Global;
+use std::marker::Model;
+use token_ring::{LockRow, LockRows, RangeBook};
+
+/// The ranges that movements in flight lock (CEP-21's locked ranges). A row has the node of a movement and its ranges
+/// under each replication. Contracts see the table as the list of its rows, in the order in which they were locked.
+///
+/// The nodes are distinct, and no token is in the ranges of two rows under one replication: by a rule of this project,
+/// at most one movement at a time changes the replicas of a token.
+#[derive(Debug, Drop)]
+pub struct LockTable {
+    rows: LockRows,
+}
+
+impl Model for LockTable {
+    ghost use Rattle.std.specs.Prelude.{List};
+    ghost use Rattle.token_ring.specs.declared.book.LockRow.{LockRow};
+    ghost use Rattle.locked_ranges.specs.Table.{IsLockTable};
+
+    ghost Value = { List LockRow };
+
+    ghost view = { λ table. table.rows };
+
+    ghost invariant = { λ table. IsLockTable table.rows };
+}
+
+impl LockTable {
+    /// The table of no movement. Allocates nothing.
+    pub fn empty(alloc: Global) -> LockTable
+        ensures { result ≡ [] }
+    {
+        LockTable {
+            rows: LockRows::empty(alloc),
+        }
+    }
+
+    /// The rows, in the order in which they were locked.
+    pub fn rows(&self) -> &[LockRow]
+        ensures rows { result.now ≡ self.now }
+        ensures table { IsLockTable self.now }
+    {
+        self.rows.as_slice()
+    }
+
+    /// An equal table, or `Memory` if memory runs out. Makes no key.
+    pub fn copy(&self) -> Result<LockTable, Memory>
+        ensures { IfOk result (λ copied. copied ≡ self.now) }
+    {
+        let rows = self.rows.copy()?;
+        Ok(LockTable { rows })
+    }
+
+    /// The first movement of `wide`, in the order of its rows, that shares a row between cuts with `ranges` under one
+    /// replication, and the right end of the first such row. Returns `None` if and only if `ranges` shares no token with
+    /// any movement of `wide`. Then it shares none with this table, so `lock` may follow.
+    ///
+    /// `wide` has the ranges of the same movements in the image with the new movement. It has a row for each node of this
+    /// table, and the row's ranges contain those of the table. The cuts ascend. The bounds of `ranges` and `wide` are cuts.
+    ///
+    /// For k movements, r replications and c cuts, the cost is at most 2·k·r·(c + 1) binary searches. Allocates nothing.
+    pub fn conflict(
+        &self,
+        ranges: &RangeBook,
+        wide: &LockRows,
+        cuts: &[Token],
+    ) -> Option<(NodeId, RightEnd)>
+        requires names { AllByRecursion (λ row. has_row wide.now row.node ≡ true) self.now }
+        requires contains { AreWider wide.now self.now }
+        requires ascending { IsStrictlySortedBy int_cmp cuts.now }
+        requires own_cut { AllByRecursion (λ r. AreCutOut cuts.now r.ranges) ranges.now }
+        requires wide_cut { AllByRecursion
+            (λ row. AllByRecursion (λ r. AreCutOut cuts.now r.ranges) row.ranges) wide.now }
+        ensures conflict { result ≡ conflict_of ranges.now wide.now cuts.now }
+        ensures free { IsNone result ↔ AllByRecursion (λ row. ShareNoToken ranges.now row.ranges) wide.now }
+        ensures table { IsNone result → AllByRecursion (λ row. ShareNoToken ranges.now row.ranges) self.now }
+    {
+        first_conflict(ranges.as_slice(), wide.as_slice(), cuts)
+    }
+
+    /// Locks the ranges of a movement, and returns the key. The node has no row yet, and no row shares a token with
+    /// `ranges`. The new row comes last. If memory runs out, returns the ranges and leaves the table unchanged.
+    pub fn lock(&mut self, node: NodeId, ranges: RangeBook) -> Result<LockKey, (RangeBook, Memory)>
+        requires new { has_row self.old node ≡ false }
+        requires apart { AllByRecursion (λ row. ShareNoToken ranges row.ranges) self.old }
+        ensures table { MatchResult result (λ _. self.new ≡ self.old ++ lock_row node ranges ∷ [])
+            (λ _. self.new ≡ self.old) }
+        ensures key { IfOk result (λ key. key ≡ node) }
+        ensures ranges { IfErr result (λ e. e.0 ≡ ranges) }
+    {
+        match self.rows.push(LockRow { node, ranges }) {
+            Ok(()) => Ok(LockKey::of(node)),
+            Err((row, memory)) => {
+                let LockRow { node: _, ranges } = row;
+                Err((ranges, memory))
+            }
+        }
+    }
+
+    /// Locks as `lock` does. If the table has no memory to spare, its rows move into the room, which has room for one row
+    /// more than the table has. Takes no memory.
+    pub fn lock_in(&mut self, node: NodeId, ranges: RangeBook, room: Room<LockRow>) -> LockKey
+        requires new { has_row self.old node ≡ false }
+        requires apart { AllByRecursion (λ row. ShareNoToken ranges row.ranges) self.old }
+        requires room { length self.old < room }
+        ensures table { self.new ≡ self.old ++ lock_row node ranges ∷ [] }
+        ensures key { result ≡ node }
+    {
+        self.rows.push_in(LockRow { node, ranges }, room);
+        LockKey::of(node)
+    }
+
+    /// Spends a key and unlocks the ranges of its movement, which has a row. Always succeeds, and takes no memory. The cost
+    /// is one pass over the rows.
+    pub fn unlock(&mut self, key: LockKey)
+        requires { has_row self.old key ≡ true }
+        ensures { self.new ≡ other_locks self.old key }
+    {
+        let node = key.spend();
+        keep_others(&mut self.rows, node);
+    }
+}
+
+/// Keeps the rows of the other nodes.
+fn keep_others(rows: &mut LockRows, node: NodeId)
+    ensures { rows.new ≡ other_locks rows.old node }
+{
+    rows.retain(|row| row.node != node);
+}
