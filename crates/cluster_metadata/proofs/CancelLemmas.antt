@@ -53,7 +53,7 @@ module _ (image : Image) (n : ℕ) (at : ℕ) (s : SeqRow) (up : IsStrictlySorte
   unfolding next_image
   brought_back row was made =
       let goes = back image n at s up within here place phase.Mid phase.Started row (mid_is s.phase was) made in
-      record { made = after image n at s up within here place phase.Started row made ∙ ap with_rows (sym (left true was)); nodes = tt; follows = (goes, ap (λ (r : SeqRow). r.phase) made); deltas = tt; suits = place }
+      record { made = after image n at s up within here place phase.Started row made ∙ ap with_rows (sym (left true was)); nodes = tt; follows = (goes, ap (λ (r : SeqRow). r.phase) made); plan = tt; suits = place }
 
   -- else it ends
   pub ended : (rows : List SeqRow) → is_mid s.phase ≡ false → rows ≡ others image.sequences n → IsChange image (Cancel n) (Ended at rows)
@@ -63,4 +63,4 @@ module _ (image : Image) (n : ℕ) (at : ℕ) (s : SeqRow) (up : IsStrictlySorte
       let without : rows ≡ remove image.sequences at = made ∙ others_at n image.sequences at s up is (own image n at s up within here place) in
       let early : option_map (λ (q : SeqRow). is_mid q.phase) (slice_get image.sequences at) ≡ Some false =
       ap (option_map (λ (q : SeqRow). is_mid q.phase)) is ∙ ap (λ (b : Bool). Some b) was in
-      record { made = ap with_rows (made ∙ sym (left false was)); nodes = tt; follows = (early, without); deltas = tt; suits = place }
+      record { made = ap with_rows (made ∙ sym (left false was)); nodes = tt; follows = (early, without); plan = tt; suits = place }

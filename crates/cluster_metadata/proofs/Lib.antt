@@ -1,9 +1,12 @@
 pub mod CancelLemmas
 pub mod DeltasAcross
-pub mod FirstEnds
 pub mod ImageRings
 pub mod LockLemmas
 pub mod LockRefusals
+pub mod LocksKept
+pub mod LocksResumed
+pub mod LocksTaken
+pub mod LockPlaces
 pub mod MovementPlaces
 pub mod NodeLemmas
 pub mod PairMerge

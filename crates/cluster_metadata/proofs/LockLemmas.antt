@@ -1,7 +1,7 @@
--- The first row that is common to the ranges of two movements is the first one that they share.
-use Rattle.std.proofs.Common.{◌≡◌, Bool, true, false, not, cond, ◌&&◌, ◌||◌, ℤ, List, [], ◌∷◌, map, filter, find, Some, option_map, refl, sym, ap, ◌∙◌, subst, arith}
+-- The conflict of a plan is the refusal of its movement, and its bounds are cuts.
+use Rattle.std.proofs.Common.{◌≡◌, ℕ, Bool, true, false, not, cond, ◌&&◌, ◌||◌, ℤ, List, [], ◌∷◌, map, filter, find, filter_map, slice_get, Option, Some, None, option_map, refl, sym, ap, ◌∙◌, subst, arith}
 use Rattle.std.proofs.lemmas.Cmp.{int_cmp_total}
-use Rattle.std.specs.List.{AllByRecursion, list_any, zip}
+use Rattle.std.specs.List.{AllByRecursion, cons_option, list_any, zip}
 use Rattle.std.specs.List.Sorted.{IsStrictlySortedBy}
 use Rattle.std.specs.Ordering.{int_cmp}
 use Rattle.cluster_terms.proofs.AscendingLemmas.{ascending_sorted}
@@ -13,6 +13,9 @@ use Rattle.cluster_terms.specs.Row.{is_within, last_token, rows_between}
 use Rattle.cluster_terms.specs.declared.replication.Replication.{Replication}
 use Rattle.cluster_terms.specs.declared.row.TokenRange.{TokenRange}
 use Rattle.cluster_terms.specs.declared.token.Pair.{Pair}
+use Rattle.cluster_terms.specs.declared.token.RightEnd.{RightEnd}
+use Rattle.locked_ranges.specs.Conflict.{conflict_of, conflict_with, first_shared_end, share_row}
+use Rattle.locked_ranges.specs.Sharing.{share_token}
 use Rattle.token_ring.specs.Ranges.{AreCutOut, HaveTokens, have_token}
 use Rattle.token_ring.specs.declared.book.LockRow.{LockRow}
 use Rattle.token_ring.specs.declared.book.RangeRow.{RangeRow}
@@ -23,12 +26,12 @@ use Rattle.transformations.specs.Rings.{cuts, widest}
 use Rattle.transformations.specs.Steps.{others}
 use Rattle.transformations.specs.declared.image.Image.{Image}
 use Rattle.transformations.specs.declared.keyspace.KeyspaceRow.{KeyspaceRow}
+use Rattle.transformations.specs.declared.refusal.Refusal.{Refusal}
 use Rattle.transformations.specs.declared.refusal.Refusal.TheVariants.{Locked}
 use Rattle.transformations.specs.declared.sequence.SeqRow.{SeqRow}
 use Rattle.placement_deltas.specs.declared.plan.Plan.{Plan}
 use Rattle.sequence_plans.specs.Plan.{AreLocks, IsBook, IsPlan}
 use Rattle.sequence_plans.specs.Replications.{replications_of}
-use Rattle.cluster_metadata.specs.Locks.{first_common_row, first_lock, is_common_row, lock_of}
 
 -- ---- replications that keyspaces have, and keyspaces
 
@@ -78,10 +81,31 @@ module _ (image : Image) (s q : SeqRow) (x : ℤ) (token : IsToken x) where
       let yours : have_token their.ranges x ≡ in_ranges image r q x = k.0 x token ∙ ap (λ p. in_ranges image p q x) their_is in
       λ i. (mine i && yours i) || beside ours theirs rs ours_are theirs_are h.1 k.1 i
 
-  -- a token is in the ranges of both under some keyspace exactly where it is under some replication
-  common_is : (ours theirs : List RangeRow) → IsBook image s ours → IsBook image q theirs
-      → list_any (λ both. have_token both.0.ranges x && have_token both.1.ranges x) (zip ours theirs) ≡ in_both image s q x
-  common_is ours theirs one other = beside ours theirs (replications_of image.keyspaces) one.rows other.rows one.ranges other.ranges ∙ any_replications under image.keyspaces
+  -- two locks share a token exactly where it is in the ranges of both movements under some keyspace
+  pub common_is : (ours theirs : List RangeRow) → map (λ r. r.replication) ours ≡ replications_of image.keyspaces → map (λ r. r.replication) theirs ≡ replications_of image.keyspaces
+      → AllByRecursion (λ r. HaveTokens (in_ranges image r.replication s) r.ranges) ours → AllByRecursion (λ r. HaveTokens (in_ranges image r.replication q) r.ranges) theirs
+      → share_token ours theirs x ≡ in_both image s q x
+  common_is ours theirs one other h k = beside ours theirs (replications_of image.keyspaces) one other h k ∙ any_replications under image.keyspaces
+
+-- ---- conflicts and refusals
+
+-- the refusal that shows a conflict
+abbrev pub shown : Option (ℕ × RightEnd) → Option Refusal
+shown c = option_map (λ (at : ℕ × RightEnd). Locked at.0 at.1) c
+
+shown_with : (n : ℕ) (o : Option RightEnd) → shown (option_map (λ end. (n, end)) o) ≡ option_map (Locked n) o
+shown_with n None = refl
+shown_with n (Some end) = refl
+
+-- the first conflict is shown by the first refusal
+first_shown : (f : LockRow → Option (ℕ × RightEnd)) (rows : List LockRow) → shown (slice_get (filter_map f rows) 0) ≡ first_of (map (λ row. shown (f row)) rows)
+first_shown f [] = refl
+first_shown f (row ∷ rows) = by (f row) (first_shown f rows)
+  where
+    by : (o : Option (ℕ × RightEnd)) → shown (slice_get (filter_map f rows) 0) ≡ first_of (map (λ row. shown (f row)) rows)
+        → shown (slice_get (cons_option o (filter_map f rows)) 0) ≡ first_of (shown o ∷ map (λ row. shown (f row)) rows)
+    by None rest = rest
+    by (Some c) rest = refl
 
 -- ---- rows
 
@@ -94,32 +118,35 @@ module _ (image : Image) (up : AllByRecursion IsToken (cuts image)) where
   cuts_ascend : IsStrictlySortedBy int_cmp (cuts image)
   cuts_ascend = ascending_sorted int_cmp int_cmp_total (map (λ (p : Pair). p.token) (widest image))
 
-  rows_alike : (s q : SeqRow) (ours theirs : List RangeRow) → IsBook image s ours → IsBook image q theirs → AllByRecursion (λ row. is_common_row ours theirs row ≡ is_shared image s q row) (rows_between (cuts image))
+  rows_alike : (s q : SeqRow) (ours theirs : List RangeRow) → IsBook image s ours → IsBook image q theirs → AllByRecursion (λ row. share_row ours theirs row ≡ is_shared image s q row) (rows_between (cuts image))
   rows_alike s q ours theirs one other =
-      all_weaker (λ (row : TokenRange). (is_within (last_token row.right) row ≡ true) × IsToken (last_token row.right)) (λ (row : TokenRange). is_common_row ours theirs row ≡ is_shared image s q row)
-      (λ row last. common_is image s q (last_token row.right) last.1 ours theirs one other) (rows_between (cuts image))
+      all_weaker (λ (row : TokenRange). (is_within (last_token row.right) row ≡ true) × IsToken (last_token row.right)) (λ (row : TokenRange). share_row ours theirs row ≡ is_shared image s q row)
+      (λ row last. common_is image s q (last_token row.right) last.1 ours theirs one.rows other.rows one.ranges other.ranges) (rows_between (cuts image))
       (rows_have_last (cuts image) cuts_ascend up)
 
-  -- the first row that is common is the first one that is shared
-  common_shared : (s q : SeqRow) (ours theirs : List RangeRow) → IsBook image s ours → IsBook image q theirs → first_common_row ours theirs (cuts image) ≡ first_shared image s q
-  common_shared s q ours theirs one other =
-      ap (option_map (λ (row : TokenRange). row.right)) (find_alike (is_common_row ours theirs) (is_shared image s q) (rows_between (cuts image)) (rows_alike s q ours theirs one other))
+  -- the first row that two books share is the first one that is shared
+  shared_first : (s q : SeqRow) (ours theirs : List RangeRow) → IsBook image s ours → IsBook image q theirs → first_shared_end ours theirs (cuts image) ≡ first_shared image s q
+  shared_first s q ours theirs one other =
+      ap (option_map (λ (row : TokenRange). row.right)) (find_alike (share_row ours theirs) (is_shared image s q) (rows_between (cuts image)) (rows_alike s q ours theirs one other))
 
-  -- and each lock is the refusal of the movement that has it
-  locks_alike : (s : SeqRow) (ours : List RangeRow) (movements : List SeqRow) (locks : List LockRow) → IsBook image s ours → AreLocks image movements locks
-      → map (lock_of ours (cuts image)) locks ≡ map (locked_by image s) movements
-  locks_alike s ours [] [] one are = refl
-  locks_alike s ours [] (lock ∷ locks) one are = absurd are
-  locks_alike s ours (q ∷ movements) [] one are = absurd are
-  locks_alike s ours (q ∷ movements) (lock ∷ locks) one are =
-      λ i. option_map (Locked (are.0.node i)) (common_shared s q ours lock.ranges one are.0.ranges i) ∷ locks_alike s ours movements locks one are.1 i
+  -- and each conflict is the refusal of the movement that has the row
+  conflicts_alike : (s : SeqRow) (ours : List RangeRow) (movements : List SeqRow) (locks : List LockRow) → IsBook image s ours → AreLocks image movements locks
+      → map (λ row. shown (conflict_with ours (cuts image) row)) locks ≡ map (locked_by image s) movements
+  conflicts_alike s ours [] [] one are = refl
+  conflicts_alike s ours [] (lock ∷ locks) one are = absurd are
+  conflicts_alike s ours (q ∷ movements) [] one are = absurd are
+  conflicts_alike s ours (q ∷ movements) (lock ∷ locks) one are =
+      let here : shown (conflict_with ours (cuts image) lock) ≡ locked_by image s q =
+      shown_with lock.node (first_shared_end ours lock.ranges (cuts image)) ∙ (λ i. option_map (Locked (are.0.node i)) (shared_first s q ours lock.ranges one are.0.ranges i)) in
+      λ i. here i ∷ conflicts_alike s ours movements locks one are.1 i
 
--- the locks of a plan show the refusal of its movement
-pub plan_locked : (image : Image) (s : SeqRow) (plan : Plan) → IsPlan image s plan → first_lock plan.ranges plan.wide plan.cuts ≡ locked image s
+-- the conflict of a plan shows the refusal of its movement
+pub plan_locked : (image : Image) (s : SeqRow) (plan : Plan) → IsPlan image s plan → shown (conflict_of plan.ranges plan.wide plan.cuts) ≡ locked image s
 unfolding locked
 plan_locked image s plan is =
     let tokens : AllByRecursion IsToken (cuts image) = subst (λ ts. AllByRecursion IsToken ts) is.cuts is.tokens in
-    ap (λ ts. first_lock plan.ranges plan.wide ts) is.cuts ∙ ap first_of (locks_alike image tokens s plan.ranges (others image.sequences s.node) plan.wide is.ranges is.wide)
+    ap (λ ts. shown (conflict_of plan.ranges plan.wide ts)) is.cuts ∙ first_shown (conflict_with plan.ranges (cuts image)) plan.wide
+    ∙ ap first_of (conflicts_alike image tokens s plan.ranges (others image.sequences s.node) plan.wide is.ranges is.wide)
 
 -- the bounds of all ranges of a plan are its cuts
 locks_cut : (image : Image) (movements : List SeqRow) (locks : List LockRow) → AreLocks image movements locks → AllByRecursion (λ l. AllByRecursion (λ r. AreCutOut (cuts image) r.ranges) l.ranges) locks

@@ -19,7 +19,7 @@ less_is : (a b : ℕ) → nat_cmp a b ≡ Less → a < b
 less_is a b h = grind arith
 
 -- a movement with a lesser node, or a greater one, is not the node's
-less_other : (s q : SeqRow) (n : ℕ) → by_node s q ≡ Less → (q.node == n) ≡ true → (s.node == n) ≡ false
+pub less_other : (s q : SeqRow) (n : ℕ) → by_node s q ≡ Less → (q.node == n) ≡ true → (s.node == n) ≡ false
 less_other s q n less own = by (s.node == n) refl
   where
     by : (b : Bool) → (s.node == n) ≡ b → b ≡ false
@@ -42,7 +42,7 @@ greater_other s q n less own = by (q.node == n) refl
         absurd (omega arith)
 
 -- what holds of all movements holds of the one at a place
-at_place : (P : SeqRow → Type 0) (rows : List SeqRow) (at : ℕ) (s : SeqRow) → AllByRecursion P rows → slice_get rows at ≡ Some s → P s
+pub at_place : (P : SeqRow → Type 0) (rows : List SeqRow) (at : ℕ) (s : SeqRow) → AllByRecursion P rows → slice_get rows at ≡ Some s → P s
 at_place P [] at s all found = absurd (none-some s found)
 at_place P (q ∷ rows) zero s all found = (let same : q ≡ s = cc in subst P same all.0)
 at_place P (q ∷ rows) (suc at) s all found = at_place P rows at s all.1 found

@@ -44,7 +44,7 @@ pub registers : (image : Image) (name dc rack : List ℕ) (node : NewNode) → I
 unfolding next_image
 registers image name dc rack node new row =
     let with_row : ℕ → NodeRow → Image = λ next row. record image { epoch = image.epoch + 1; next = next; nodes = image.nodes ++ row ∷ [] } in
-    record { made = λ i. with_row (new.following i) (row i); nodes = new; follows = tt; deltas = tt; suits = tt }
+    record { made = λ i. with_row (new.following i) (row i); nodes = new; follows = tt; plan = tt; suits = tt }
 
 -- ---- a node that is removed
 
@@ -56,7 +56,7 @@ removed image n h =
 
 unregistered : (image : Image) (n : ℕ) → early_refusal_of image (Unregister n) ≡ None → IsChange image (Unregister n) (Unregistered n)
 unfolding next_image
-unregistered image n h = record { made = refl; nodes = removed image n h; follows = tt; deltas = tt; suits = tt }
+unregistered image n h = record { made = refl; nodes = removed image n h; follows = tt; plan = tt; suits = tt }
 
 pub unregisters : (image : Image) (c : Command) (n : ℕ) → c ≡ Unregister n → early_refusal_of image c ≡ None → IsChange image c (Unregistered n)
 unregisters image c n is h =

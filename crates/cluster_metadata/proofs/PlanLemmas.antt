@@ -23,7 +23,7 @@ use Rattle.transformations.specs.declared.image.Image.{Image}
 use Rattle.transformations.specs.declared.keyspace.KeyspaceRow.{KeyspaceRow}
 use Rattle.transformations.specs.declared.sequence.Phase.{Phase}
 use Rattle.transformations.specs.declared.sequence.SeqRow.{SeqRow}
-use Rattle.cluster_metadata.specs.Change.{BringsDeltas, changed, in_phase, plans_after}
+use Rattle.cluster_metadata.specs.Change.{BringsPlan, changed, in_phase, plans_after}
 use Rattle.cluster_metadata.specs.Permission.{IsPermitted}
 use Rattle.cluster_metadata.specs.Running.{HaveDeltas, IsRunning, movement_row, phase_of, plan_of}
 use Rattle.cluster_metadata.specs.declared.change.Change.{Change}
@@ -117,8 +117,8 @@ all_remove P [] (suc i) all = tt
 all_remove P (y ∷ ys) zero all = all.1
 all_remove P (y ∷ ys) (suc i) all = (all.0, all_remove P ys i all.1)
 
-new_plans : (image : Image) (change : Change) (plans : List Plan) → BringsDeltas image change → AllByRecursion (HasInFlight (changed image change)) plans → AllByRecursion (HasInFlight (changed image change)) (plans_after plans change)
-new_plans image (Begun at plan sequences) plans brings all = all_insert (HasInFlight (changed image (Begun at plan sequences))) plans at plan (λ p there. brings) all
+new_plans : (image : Image) (change : Change) (plans : List Plan) → BringsPlan image change → AllByRecursion (HasInFlight (changed image change)) plans → AllByRecursion (HasInFlight (changed image change)) (plans_after plans change)
+new_plans image (Begun at plan sequences) plans brings all = all_insert (HasInFlight (changed image (Begun at plan sequences))) plans at plan (λ p there. brings.0) all
 new_plans image (Finished at left tokens sequences) plans brings all = all_remove (HasInFlight (changed image (Finished at left tokens sequences))) plans at all
 new_plans image (Ended at sequences) plans brings all = all_remove (HasInFlight (changed image (Ended at sequences))) plans at all
 new_plans image _ plans brings all = all
@@ -138,5 +138,5 @@ deltas_held before after c change old new permitted made valid was had up is pla
     let keeps : KeepsDeltas before (changed before change) = subst (KeepsDeltas before) next (deltas_kept before c valid permitted.formed permitted.accepted) in
     let keyspaces : (n : ℕ) → is_some (movement_of before n) ≡ true → (changed before change).keyspaces ≡ before.keyspaces = λ n some. ap (λ (i : Image). i.keyspaces) (sym next) ∙ keyspaces_kept before n c some permitted.accepted in
     let all : AllByRecursion (HasInFlight (changed before change)) (plans_after (map plan_of old) change) =
-    new_plans before change (map plan_of old) permitted.makes.deltas (old_plans before (changed before change) keeps keyspaces old was valid.sound.movements had) in
+    new_plans before change (map plan_of old) permitted.makes.plan (old_plans before (changed before change) keeps keyspaces old was valid.sound.movements had) in
     have_deltas after new is up (rw (made, plans) all)

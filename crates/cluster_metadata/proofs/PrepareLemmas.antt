@@ -21,7 +21,7 @@ pub prepared_new : (image : Image) (c : Command) (row : SeqRow) → IsSound imag
 prepared_new image c row sound formed early h = begin_new image row (may_begin image c row sound formed early h)
 
 -- the command begins it
-prepared_begun : (image : Image) (c : Command) (row : SeqRow) → prepared_by image.tokens c ≡ Some row → begun image row ≡ next_image image c
+pub prepared_begun : (image : Image) (c : Command) (row : SeqRow) → prepared_by image.tokens c ≡ Some row → begun image row ≡ next_image image c
 unfolding next_image
 prepared_begun image (PrepareJoin n tokens) row h = ap (begun image) (sym (cc h))
 prepared_begun image (PrepareMove n t) row h = ap (begun image) (sym (cc h))
@@ -51,7 +51,7 @@ prepares image c row h (Ok change) begin =
       made = begin.made ∙ prepared_begun image c row h;
       nodes = begins_fitting image row change begin.begins;
       follows = begin.follows;
-      deltas = begin.deltas;
+      plan = begin.plan;
       suits = begins_with image c row h change begin.begins;
     }
 prepares image c row h (Err e) begin = begin

@@ -48,7 +48,7 @@ greater_cmp : (n m : ℕ) → nat_cmp m n ≡ Less → nat_cmp n m ≡ Greater
 greater_cmp n m less = grind arith
 
 -- a movement at another phase takes its own place
-put_own : (p : Phase) (s : SeqRow) (rows : List SeqRow) → IsStrictlySortedBy by_node rows → find (λ (q : SeqRow). q.node == s.node) rows ≡ Some s → put by_node (in_phase p s) rows ≡ map (at_phase p s.node) rows
+pub put_own : (p : Phase) (s : SeqRow) (rows : List SeqRow) → IsStrictlySortedBy by_node rows → find (λ (q : SeqRow). q.node == s.node) rows ≡ Some s → put by_node (in_phase p s) rows ≡ map (at_phase p s.node) rows
 unfolding IsStrictlySortedBy
 put_own p s [] up found = absurd (none-some s found)
 put_own p s (q ∷ rows) up found = by (q.node == s.node) refl found (put_own p s rows up.1)

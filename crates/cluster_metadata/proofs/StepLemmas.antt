@@ -1,5 +1,5 @@
 -- What an accepted step says of the movements, and the changes that steps make.
-use Rattle.std.proofs.Common.{◌≡◌, ℕ, ◌+◌, ◌<◌, ◌≤◌, Bool, true, false, not, true≢false, ◌&&◌, ◌==◌, List, [], ◌∷◌, length, map, get_or, set, Option, Some, None, IfSome, IsSome, is_some, option_map, option_and_then, refl, sym, ap, ◌∙◌}
+use Rattle.std.proofs.Common.{◌≡◌, ℕ, ◌+◌, ◌<◌, ◌≤◌, Bool, true, false, not, true≢false, ◌&&◌, ◌==◌, List, [], ◌∷◌, length, map, get_or, set, Option, Some, None, IfSome, IsSome, is_some, option_map, option_and_then, refl, sym, ap, ◌∙◌, subst}
 use Rattle.std.proofs.lemmas.Bool.Decides.{Decides-eqb}
 use Rattle.std.specs.List.{insert, remove, slice_get}
 use Rattle.std.specs.List.Sorted.{IsStrictlySortedBy}
@@ -12,7 +12,7 @@ use Rattle.transformations.proofs.commands.AcceptedLemmas.{first_none, test_fals
 use Rattle.transformations.proofs.lists.ListLemmas.{found_passes}
 use Rattle.transformations.specs.History.{next_image}
 use Rattle.transformations.specs.Orders.{by_node}
-use Rattle.transformations.specs.Refusals.{early_refusal_of, no_node, no_sequence, unless_next, wrong_step}
+use Rattle.transformations.specs.Refusals.{with_movement, early_refusal_of, no_node, no_sequence, unless_next, wrong_step}
 use Rattle.transformations.specs.Steps.{at_phase, finished, is_next_step, leaver, movement_of, others, phase_before, ring_after, same_kind, same_phase, with_left}
 use Rattle.transformations.specs.declared.command.Command.TheVariants.{Step}
 use Rattle.transformations.specs.declared.image.Image.{Image}
@@ -25,7 +25,9 @@ use Rattle.transformations.specs.declared.sequence.Phase.TheVariants as phase
 use Rattle.transformations.specs.declared.sequence.SeqRow.{SeqRow}
 use Rattle.cluster_metadata.proofs.PlanLemmas.{deltas_elsewhere}
 use Rattle.cluster_metadata.proofs.MovementPlaces.{at_index, others_at, stepped_at}
-use Rattle.cluster_metadata.specs.Change.{Begins, IsChange, in_phase}
+use Rattle.cluster_metadata.specs.Change.{Begins, IsChange, in_phase, plan_lock}
+use Rattle.cluster_metadata.specs.Locks.{IsLockOf}
+use Rattle.cluster_metadata.proofs.LocksKept.{lock_later}
 use Rattle.cluster_metadata.specs.Nodes.{IsLeftRow, nodes_left}
 use Rattle.cluster_metadata.specs.declared.change.Change.TheVariants.{Begun, Started, Mid, Finished}
 use Rattle.cluster_metadata.specs.declared.leaving.LeftRow.{LeftRow}
@@ -47,10 +49,17 @@ facts image g kind n h =
 -- ---- a movement that begins
 
 pub begins : (image : Image) (at : ℕ) (plan : Plan) (after : List SeqRow) → plan.row.phase ≡ phase.Prepared → at ≤ length image.sequences → after ≡ insert image.sequences at plan.row
-    → put by_node plan.row image.sequences ≡ insert image.sequences at plan.row → HasDeltas image plan → Begins image plan.row (Begun at plan after)
-begins image at plan after prepared within made place deltas =
+    → put by_node plan.row image.sequences ≡ insert image.sequences at plan.row → HasDeltas image plan → IsLockOf (with_movement image plan.row) plan.row (plan_lock plan)
+    → Begins image plan.row (Begun at plan after)
+begins image at plan after prepared within made place deltas lock =
     let with_rows : List SeqRow → Image = λ rows. record image { epoch = image.epoch + 1; sequences = rows } in
-    record { made = ap with_rows (made ∙ sym place); follows = (prepared, within, made); deltas = deltas_elsewhere image (image.epoch + 1) after plan deltas; begins = refl }
+    let later = lock_later (with_movement image plan.row) (image.epoch + 1) plan.row (plan_lock plan) lock in
+    record {
+      made = ap with_rows (made ∙ sym place);
+      follows = (prepared, within, made);
+      plan = (deltas_elsewhere image (image.epoch + 1) after plan deltas, subst (λ rows. IsLockOf (with_rows rows) plan.row (plan_lock plan)) (place ∙ sym made) later);
+      begins = refl;
+    }
 
 -- ---- the movement that takes a step
 
@@ -108,7 +117,7 @@ module _ (image : Image) (n : ℕ) (at : ℕ) (s : SeqRow) (up : IsStrictlySorte
   unfolding next_image
   started kind goal.Start row is h made =
       let was = before_step image goal.Start kind n s h found in
-      record { made = after phase.Started row made; nodes = tt; follows = (back phase.Prepared phase.Started row was made, ap (λ (r : SeqRow). r.phase) made); deltas = tt; suits = place }
+      record { made = after phase.Started row made; nodes = tt; follows = (back phase.Prepared phase.Started row was made, ap (λ (r : SeqRow). r.phase) made); plan = tt; suits = place }
   started kind goal.Mid row is h made = cc
   started kind goal.Finish row is h made = cc
 
@@ -116,7 +125,7 @@ module _ (image : Image) (n : ℕ) (at : ℕ) (s : SeqRow) (up : IsStrictlySorte
   unfolding next_image
   half_way kind goal.Mid row is h made =
       let was = before_step image goal.Mid kind n s h found in
-      record { made = after phase.Mid row made; nodes = tt; follows = (back phase.Started phase.Mid row was made, ap (λ (r : SeqRow). r.phase) made); deltas = tt; suits = place }
+      record { made = after phase.Mid row made; nodes = tt; follows = (back phase.Started phase.Mid row was made, ap (λ (r : SeqRow). r.phase) made); plan = tt; suits = place }
   half_way kind goal.Start row is h made = cc
   half_way kind goal.Finish row is h made = cc
 
@@ -134,7 +143,7 @@ module _ (image : Image) (n : ℕ) (at : ℕ) (s : SeqRow) (up : IsStrictlySorte
             ∙ ap (ended (with_left image.nodes (leaver s)) (ring_after image.tokens s)) (without ∙ sym none_own) ∙ ap last (sym found);
         nodes = fits;
         follows = (ap (option_map (λ (q : SeqRow). q.phase)) stands ∙ ap (λ (p : Phase). Some p) was, without);
-        deltas = tt;
+        plan = tt;
         suits = place;
       }
   done kind goal.Start left ring rows is h marked fits made rest = cc

@@ -3,6 +3,9 @@
 use Rattle.std.specs.Prelude.{◌≡◌, ℕ, ◌+◌, ◌≤◌, false, List, [], ◌∷◌, ◌++◌, length, slice_set, Some, option_map, IfSome, IsSome}
 use Rattle.std.specs.List.{insert, remove, slice_get}
 use Rattle.cluster_terms.specs.NodeRow.{row_of}
+use Rattle.locked_ranges.specs.Table.{lock_row}
+use Rattle.token_ring.specs.declared.book.LockRow.{LockRow}
+use Rattle.cluster_metadata.specs.Locks.{IsLockOf}
 use Rattle.node_directory.specs.Directory.{Registry, other_rows}
 use Rattle.placement_deltas.specs.declared.plan.Plan.{Plan}
 use Rattle.sequence_plans.specs.Deltas.{HasDeltas}
@@ -66,10 +69,15 @@ FitsNodes image (Unregistered n) = IsSome (row_of image.nodes n)
 FitsNodes image (Finished at left tokens after) = IfSome left (IsLeftRow image.nodes)
 FitsNodes image _ = Unit {0}
 
--- the plan of a new movement has its deltas, in the image that the change leads to
-abbrev pub BringsDeltas : Image → Change → Type 0
-BringsDeltas image (Begun at plan after) = HasDeltas (changed image (Begun at plan after)) plan
-BringsDeltas image _ = Unit {0}
+-- the lock that a plan takes
+abbrev pub plan_lock : Plan → LockRow
+plan_lock plan = lock_row plan.row.node plan.ranges
+
+-- the plan of a new movement has its deltas and its ranges, in the image that the change leads to
+abbrev pub BringsPlan : Image → Change → Type 0
+BringsPlan image (Begun at plan after) =
+    HasDeltas (changed image (Begun at plan after)) plan × IsLockOf (changed image (Begun at plan after)) plan.row (plan_lock plan)
+BringsPlan image _ = Unit {0}
 
 -- the movement of a node stands at this index
 abbrev pub StandsFor : Image → ℕ → ℕ → Type 0
@@ -96,7 +104,7 @@ pub record IsChange (image : Image) (command : Command) (change : Change) : Type
   pub made : changed image change ≡ next_image image command
   pub nodes : FitsNodes image change
   pub follows : Follows image.sequences change
-  pub deltas : BringsDeltas image change
+  pub plan : BringsPlan image change
   pub suits : Suits image command change
 
 -- a change begins the movement of this row
@@ -107,7 +115,7 @@ BeginsWith row _ = ⊥
 pub record Begins (image : Image) (row : SeqRow) (change : Change) : Type 0 where
   pub made : changed image change ≡ begun image row
   pub follows : Follows image.sequences change
-  pub deltas : BringsDeltas image change
+  pub plan : BringsPlan image change
   pub begins : BeginsWith row change
 
 -- the plans of the movements in flight after a change, from those before it

@@ -1,21 +1,24 @@
 -- The invariant of a cluster's metadata.
 use Rattle.std.specs.Prelude.{◌≡◌, List}
 use Rattle.node_directory.specs.Directory.{Registry}
+use Rattle.token_ring.specs.declared.book.LockRow.{LockRow}
 use Rattle.transformations.specs.Meeting.{HaveReplications}
 use Rattle.transformations.specs.Valid.{IsValid}
 use Rattle.transformations.specs.declared.image.Image.{Image}
 use Rattle.cluster_metadata.specs.Change.{directory_of}
+use Rattle.cluster_metadata.specs.Locks.{AreLocksOf}
 use Rattle.cluster_metadata.specs.Maps.{AreMaps}
 use Rattle.cluster_metadata.specs.Running.{HaveDeltas, IsRunning}
 use Rattle.cluster_metadata.specs.declared.map_row.MapRow.{MapRow}
 use Rattle.cluster_metadata.specs.declared.running.Running.{Running}
 
 -- the image is valid, each of its keyspaces has a replication, and there are the directory of its nodes, its placement
--- maps, and the values of its movements. The plan of each movement has the movement's deltas in this image
-pub record IsHeld (image : Image) (dir : Registry) (book : List MapRow) (values : List Running) : Type 0 where
+-- maps, the values of its movements, and their locks. The plan of each movement has the movement's deltas in this image
+pub record IsHeld (image : Image) (dir : Registry) (book : List MapRow) (values : List Running) (table : List LockRow) : Type 0 where
   pub valid : IsValid image
   pub replications : HaveReplications image
   pub directory : dir ≡ directory_of image
   pub maps : AreMaps image book
   pub running : IsRunning image.sequences values
   pub deltas : HaveDeltas image values
+  pub locks : AreLocksOf image image.sequences table

@@ -24,7 +24,11 @@ placement_rows image r = map (placement_row image r) (rows_between (cuts image))
 abbrev pub IsMapOf : Image → MapRow → Type 0
 IsMapOf image row = (row.map ≡ placement_rows image row.replication) × AllByRecursion IsToken (cuts image)
 
--- a book has the placement map of each replication that a keyspace has
-pub record AreMaps (image : Image) (book : List MapRow) : Type 0 where
-  pub replications : map (λ row. row.replication) book ≡ replications_of image.keyspaces
+-- a book has the placement map of each of these replications
+pub record AreMapsOf (image : Image) (rs : List Replication) (book : List MapRow) : Type 0 where
+  pub replications : map (λ row. row.replication) book ≡ rs
   pub placements : AllByRecursion (IsMapOf image) book
+
+-- a book has the placement map of each replication that a keyspace has
+abbrev pub AreMaps : Image → List MapRow → Type 0
+AreMaps image book = AreMapsOf image (replications_of image.keyspaces) book

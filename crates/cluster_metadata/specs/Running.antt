@@ -1,6 +1,6 @@
 -- The movements in flight, each as a value of its phase.
 -- Of the code: no promise rests on these, but the invariant of `Metadata` does.
-use Rattle.std.specs.Prelude.{◌≡◌, List, map}
+use Rattle.std.specs.Prelude.{◌≡◌, ℕ, List, map}
 use Rattle.std.specs.List.{AllByRecursion}
 use Rattle.placement_deltas.specs.declared.plan.Plan.{Plan}
 use Rattle.sequence_plans.specs.Deltas.{HasDeltas}
@@ -12,11 +12,14 @@ use Rattle.cluster_metadata.specs.Change.{in_phase}
 use Rattle.cluster_metadata.specs.declared.running.Running.{Running}
 use Rattle.cluster_metadata.specs.declared.running.Running.TheVariants.{Prepared, Started, Mid}
 
--- the plan of a movement in flight, the phase of its type, and its row: the plan's row, at this phase
+-- the plan of a movement in flight, its node, the phase of its type, and its row: the plan's row, at this phase
 abbrev pub plan_of : Running → Plan
 plan_of (Prepared s) = s
 plan_of (Started s) = s
 plan_of (Mid s) = s
+
+abbrev pub node_of : Running → ℕ
+node_of m = (plan_of m).row.node
 
 abbrev pub phase_of : Running → Phase
 phase_of (Prepared s) = phase.Prepared

@@ -9,6 +9,7 @@ ghost use Rattle.transformations.specs.Refusals.{early_refusal_of, prepared_by, 
 ghost use Rattle.transformations.specs.Valid.{IsSound};
 ghost use Rattle.transformations.specs.declared.command.Command.TheVariants as command;
 ghost use Rattle.cluster_metadata.specs.Change.{IsChange};
+ghost use Rattle.cluster_metadata.specs.Locks.{AreLocksOf};
 ghost use Rattle.cluster_metadata.specs.Permission.{AdmitsUnless};
 
 use crate::admit_fault::AdmitFault;
@@ -19,6 +20,7 @@ use crate::pairs::with_pairs;
 use crate::preparing::{prepare, row_prepared};
 use crate::stepping::step;
 use cluster_terms::{Memory, Name, NodeId, Replication, Steps, TokenList, TryCopy};
+use locked_ranges::LockTable;
 use sequence_rows::pairs_with;
 use std::alloc::Global;
 use std::sync::ledger::Ledger;
@@ -117,11 +119,13 @@ fn settled(alloc: Global, image: &Image, cmd: &Command) -> Result<Change, Memory
 pub fn change_of<L: Ledger>(
     alloc: Global,
     image: &Image,
+    locks: &LockTable,
     cmd: &Command,
     walks: &mut Steps<L>,
 ) -> Result<Change, AdmitFault>
     requires next { image.now.next < 2 ^ 32 - 1 }
     requires sound { IsSound image.now }
+    requires locks { AreLocksOf image.now image.now.sequences locks.now }
     requires formed { is_command cmd.now ≡ true }
     requires early { early_refusal_of image.now cmd.now ≡ None }
     ensures change { IfOk result (IsChange image.now cmd.now) }
@@ -130,7 +134,7 @@ pub fn change_of<L: Ledger>(
     ensures uncounted { prepared_by image.now.tokens cmd.now ≡ None → walks.new ≡ walks.old }
 {
     if let Some(row) = row_prepared(alloc, image, cmd)? {
-        return prepare(alloc, image, row, walks);
+        return prepare(alloc, image, locks, row, walks);
     }
     Ok(settled(alloc, image, cmd)?)
 }

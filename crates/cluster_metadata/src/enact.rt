@@ -1,10 +1,14 @@
-//! Makes a change in an image, in its directory and in the values of its movements in flight. Nothing here allocates
-//! memory.
+//! Makes a change in an image, in its directory, in the values of its movements in flight and in the table of their
+//! locks. Nothing here allocates memory.
 
 ghost use Rattle.std.specs.Prelude.{◌≡◌, ◌+◌, ◌<◌, ◌≤◌, ◌^◌, ◌-◌, length, map, slice_set, vec_capacity, vec_len, MatchOption};
 ghost use Rattle.std.specs.List.{insert, remove};
+ghost use Rattle.std.specs.List.Sorted.{IsStrictlySortedBy};
+ghost use Rattle.transformations.specs.Orders.{by_node};
 ghost use Rattle.transformations.specs.declared.sequence.Phase.TheVariants as phase;
 ghost use Rattle.cluster_metadata.specs.Change.{FitsNodes, Follows, StandsAt, StandsBeforeMid, changed, directory_of, grown_to, plans_after};
+ghost use Rattle.cluster_metadata.specs.Locking.{HoldsLock, IsFree, MayLock, locks_after};
+ghost use Rattle.cluster_metadata.specs.Change.{plan_lock};
 ghost use Rattle.cluster_metadata.specs.MapChanges.{maps_after};
 ghost use Rattle.cluster_metadata.specs.Running.{IsRunning, plan_of};
 ghost use Rattle.cluster_metadata.specs.declared.change.Change.TheVariants as change;
@@ -12,8 +16,10 @@ ghost use Rattle.cluster_metadata.specs.declared.change.Change.TheVariants as ch
 use crate::change::Change;
 use crate::map_book::MapBook;
 use crate::map_change::MapChange;
+use crate::new_lock::NewLock;
 use crate::nodes::{mark_left, register, unregister};
 use crate::running::Running;
+use locked_ranges::LockTable;
 use node_directory::Directory;
 use placement_deltas::Plan;
 use std::mem::swap;
@@ -46,25 +52,38 @@ fn move_over(running: &mut Vec<Running>, room: &mut Vec<Running>)
     swap(running, room);
 }
 
-/// Inserts the value of a movement that begins.
+/// Locks the ranges of a movement that begins, and inserts its value. The lock takes the same place in the table.
 fn begin(
     sequences: &[SeqRow],
     running: &mut Vec<Running>,
+    locks: &mut LockTable,
     room: &mut Vec<Running>,
     at: usize,
     plan: Plan,
+    lock: NewLock,
 )
     requires running { IsRunning sequences.now running.old.items }
+    requires names { map (λ row. row.node) locks.old ≡ map (λ s. s.node) sequences.now }
     requires place { at ≤ length sequences.now }
     requires phase { plan.row.phase ≡ phase.Prepared }
     requires empty { vec_len room.old ≡ 0 }
     requires room { length sequences.now + 1 ≤ vec_capacity room.old }
+    requires ranges { lock.ranges ≡ plan.ranges }
+    requires spare { length sequences.now < lock.room }
+    requires free { IsFree plan locks.old }
     ensures running { IsRunning (insert sequences.now at plan.row) running.new.items }
     ensures plans { map plan_of running.new.items ≡ insert (map plan_of running.old.items) at plan }
+    ensures locks { locks.new ≡ insert locks.old at (plan_lock plan) }
     ensures empty { vec_len room.new ≡ 0 }
 {
+    let NewLock {
+        ranges,
+        room: lock_room,
+    } = lock;
+    let row = &plan.row;
+    let key = locks.lock_in(at, row.node, ranges, lock_room);
     move_over(running, room);
-    put(running, at, Running::begin(plan));
+    put(running, at, Running::begin(plan, key));
 }
 
 /// Takes a movement from `Prepared` to `Started`.
@@ -93,24 +112,32 @@ fn mid(sequences: &mut SeqRows, running: &mut Vec<Running>, at: usize, row: SeqR
     sequences.replace(at, row);
 }
 
-/// Removes the value of a movement that is finished. It is at `Mid`.
-fn finish(sequences: &[SeqRow], running: &mut Vec<Running>, at: usize)
+/// Removes the value of a movement that is finished, and unlocks its ranges. It is at `Mid`.
+fn finish(sequences: &[SeqRow], running: &mut Vec<Running>, locks: &mut LockTable, at: usize)
+    requires movements { IsStrictlySortedBy by_node sequences.now }
     requires running { IsRunning sequences.now running.old.items }
+    requires names { map (λ row. row.node) locks.old ≡ map (λ s. s.node) sequences.now }
     requires mid { StandsAt sequences.now at phase.Mid }
     ensures running { IsRunning (remove sequences.now at) running.new.items }
     ensures plans { map plan_of running.new.items ≡ remove (map plan_of running.old.items) at }
+    ensures locks { locks.new ≡ remove locks.old at }
 {
-    let _plan = running.remove(at).finish();
+    let key = running.remove(at).finish();
+    locks.unlock(key);
 }
 
-/// Removes the value of a movement that is given up. It isn't at `Mid`.
-fn end(sequences: &[SeqRow], running: &mut Vec<Running>, at: usize)
+/// Removes the value of a movement that is given up, and unlocks its ranges. It isn't at `Mid`.
+fn end(sequences: &[SeqRow], running: &mut Vec<Running>, locks: &mut LockTable, at: usize)
+    requires movements { IsStrictlySortedBy by_node sequences.now }
     requires running { IsRunning sequences.now running.old.items }
+    requires names { map (λ row. row.node) locks.old ≡ map (λ s. s.node) sequences.now }
     requires early { StandsBeforeMid sequences.now at }
     ensures running { IsRunning (remove sequences.now at) running.new.items }
     ensures plans { map plan_of running.new.items ≡ remove (map plan_of running.old.items) at }
+    ensures locks { locks.new ≡ remove locks.old at }
 {
-    let _plan = running.remove(at).give_up();
+    let key = running.remove(at).give_up();
+    locks.unlock(key);
 }
 
 /// Takes a movement from `Mid` back to `Started`.
@@ -137,14 +164,16 @@ pub fn exchange(maps: &mut MapBook, change: MapChange)
     }
 }
 
-/// Makes a change in an image, in its directory and in the values of its movements. `room` is memory for the values if a
-/// movement begins.
+/// Makes a change in an image, in its directory, in the values of its movements and in the table of their locks. If a
+/// movement begins, `room` is memory for the values, and `lock` has its ranges and memory for the table.
 pub fn make(
     image: &mut Image,
     directory: &mut Directory,
     running: &mut Vec<Running>,
+    locks: &mut LockTable,
     change: Change,
     mut room: Vec<Running>,
+    lock: NewLock,
 )
     requires epochs { image.old.epoch < 2 ^ 64 - 1 }
     requires directory { directory.old ≡ directory_of image.old }
@@ -153,10 +182,15 @@ pub fn make(
     requires follows { Follows image.old.sequences change }
     requires empty { vec_len room ≡ 0 }
     requires room { grown_to change ≤ vec_capacity room }
+    requires movements { IsStrictlySortedBy by_node image.old.sequences }
+    requires names { map (λ row. row.node) locks.old ≡ map (λ s. s.node) image.old.sequences }
+    requires lock { HoldsLock change lock }
+    requires free { MayLock locks.old change }
     ensures made { image.new ≡ changed image.old change }
     ensures directory { directory.new ≡ directory_of image.new }
     ensures running { IsRunning image.new.sequences running.new.items }
     ensures plans { map plan_of running.new.items ≡ plans_after (map plan_of running.old.items) change }
+    ensures locks { locks.new ≡ locks_after locks.old change }
 {
     image.epoch += 1;
     match change {
@@ -169,7 +203,8 @@ pub fn make(
             plan,
             sequences,
         } => {
-            begin(image.sequences.as_slice(), running, &mut room, at, plan);
+            let before = image.sequences.as_slice();
+            begin(before, running, locks, &mut room, at, plan, lock);
             image.sequences = sequences;
         }
         Change::Started { at, row } => start(&mut image.sequences, running, at, row),
@@ -180,13 +215,13 @@ pub fn make(
             tokens,
             sequences,
         } => {
-            finish(image.sequences.as_slice(), running, at);
+            finish(image.sequences.as_slice(), running, locks, at);
             mark_left(image, directory, left);
             image.tokens = tokens;
             image.sequences = sequences;
         }
         Change::Ended { at, sequences } => {
-            end(image.sequences.as_slice(), running, at);
+            end(image.sequences.as_slice(), running, locks, at);
             image.sequences = sequences;
         }
         Change::BroughtBack { at, row } => bring_back(&mut image.sequences, running, at, row),

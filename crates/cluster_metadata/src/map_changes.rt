@@ -9,7 +9,7 @@ ghost use Rattle.transformations.specs.Valid.{IsValid};
 ghost use Rattle.cluster_metadata.specs.Change as spec;
 ghost use Rattle.cluster_metadata.specs.MapSteps.{MapSteps};
 ghost use Rattle.cluster_metadata.specs.MapChanges.{BringsMaps};
-ghost use Rattle.cluster_metadata.specs.Maps.{AreMaps, IsMapOf};
+ghost use Rattle.cluster_metadata.specs.Maps.{AreMaps};
 ghost use Rattle.cluster_metadata.specs.Running.{HaveDeltas, IsRunning};
 ghost use Rattle.cluster_metadata.specs.Turns.{each_map, recut_rows};
 ghost use Rattle.cluster_metadata.specs.declared.change.Change.TheVariants as spec_change;
@@ -29,26 +29,6 @@ use placement_deltas::DeltaBook;
 use std::alloc::Global;
 use transformations::{Image, KeyspaceRows, cuts};
 
-/// The placement maps of the image after a change. Those that are known are copied, and the others placed anew. The
-/// directory must hold the nodes of this image.
-fn placed_anew(
-    alloc: Global,
-    image: &Image,
-    directory: &Directory,
-    known: &MapBook,
-    change: &Change,
-) -> Result<MapChange, Memory>
-    requires epochs { image.now.epoch < 2 ^ 64 - 1 }
-    requires follows { spec.Follows image.now.sequences change.now }
-    requires valid { IsValid (spec.changed image.now change.now) }
-    requires nodes { directory.now.rows ≡ (spec.changed image.now change.now).nodes }
-    requires known { AllByRecursion (IsMapOf (spec.changed image.now change.now)) known.now }
-    ensures { IfOk result (BringsMaps image.now change.now) }
-{
-    let next = changed(alloc, image, change)?;
-    Ok(MapChange::Anew(maps_of(alloc, &next, directory, known)?))
-}
-
 /// What new tokens do to the placement maps: all are placed anew. Without a keyspace there is none.
 fn maps_on(
     alloc: Global,
@@ -63,13 +43,17 @@ fn maps_on(
     requires nodes { directory.now.rows ≡ image.now.nodes }
     ensures { IfOk result (BringsMaps image.now change.now) }
 {
-    if image.keyspaces.as_slice().is_empty() {
+    let keyspaces = image.keyspaces.as_slice();
+    if keyspaces.is_empty() {
         return Ok(MapChange::Keep);
     }
-    placed_anew(alloc, image, directory, &MapBook::empty(alloc), change)
+    let next = changed(alloc, image, change)?;
+    let maps = maps_of(alloc, &next, keyspaces, directory, &MapBook::empty(alloc))?;
+    Ok(MapChange::Anew(maps))
 }
 
 /// What a change of the keyspaces does to the placement maps. They stay if the keyspaces have the same replications.
+/// Otherwise those that are there are copied, and the others placed.
 fn maps_under(
     alloc: Global,
     image: &Image,
@@ -79,16 +63,17 @@ fn maps_under(
     change: &Change,
 ) -> Result<MapChange, Memory>
     requires change { change.now ≡ spec_change.Keyspaces keyspaces.now }
-    requires epochs { image.now.epoch < 2 ^ 64 - 1 }
-    requires valid { IsValid (spec.changed image.now change.now) }
+    requires valid { IsValid image.now }
     requires nodes { directory.now.rows ≡ image.now.nodes }
     requires maps { AreMaps image.now maps.now }
     ensures { IfOk result (BringsMaps image.now change.now) }
 {
-    if fits(maps.as_slice(), keyspaces.as_slice()) {
+    let keyspaces = keyspaces.as_slice();
+    if fits(maps.as_slice(), keyspaces) {
         return Ok(MapChange::Keep);
     }
-    placed_anew(alloc, image, directory, maps, change)
+    let maps = maps_of(alloc, image, keyspaces, directory, maps)?;
+    Ok(MapChange::Anew(maps))
 }
 
 /// The ranges between the cuts of the image after a change.
@@ -141,7 +126,8 @@ pub fn maps_for(
 ) -> Result<MapChange, Memory>
     requires epochs { image.now.epoch < 2 ^ 64 - 1 }
     requires follows { spec.Follows image.now.sequences change.now }
-    requires brings { spec.BringsDeltas image.now change.now }
+    requires brings { spec.BringsPlan image.now change.now }
+    requires before { IsValid image.now }
     requires valid { IsValid (spec.changed image.now change.now) }
     requires nodes { directory.now.rows ≡ image.now.nodes }
     requires maps { AreMaps image.now maps.now }

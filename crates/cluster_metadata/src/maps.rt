@@ -5,9 +5,10 @@ ghost use Rattle.std.specs.List.{AllByRecursion, list_any};
 ghost use Rattle.std.specs.Option.{option_copied};
 ghost use Rattle.cluster_terms.specs.Arc.{IsToken};
 ghost use Rattle.cluster_terms.specs.Replication.{same_replication};
+ghost use Rattle.sequence_plans.specs.Replications.{replications_of};
 ghost use Rattle.transformations.specs.Rings.{cuts};
 ghost use Rattle.transformations.specs.Valid.{IsValid};
-ghost use Rattle.cluster_metadata.specs.Maps.{AreMaps, IsMapOf, placement_rows};
+ghost use Rattle.cluster_metadata.specs.Maps.{AreMapsOf, IsMapOf, placement_rows};
 
 use crate::idle_map::idle_map;
 use crate::map_basis::MapBasis;
@@ -19,7 +20,7 @@ use range_placements::PlacementMap;
 use std::alloc::Global;
 use std::marker::Brand;
 use std::sync::ledger::{Blank, Ledger};
-use transformations::Image;
+use transformations::{Image, KeyspaceRow};
 
 /// Whether a book has a map of a replication.
 fn has(book: &[MapRow], replication: &Replication) -> bool
@@ -71,10 +72,11 @@ fn map_for<L: Ledger>(
     basis.place_map(replication, walks)
 }
 
-/// The maps of an image, with a counter of steps of its own for the walks.
+/// The maps of keyspaces in an image, with a counter of steps of its own for the walks.
 fn placed<L: Ledger>(
     alloc: Global,
     image: &Image,
+    keyspaces: &[KeyspaceRow],
     directory: &Directory,
     known: &MapBook,
     blank: Blank,
@@ -85,11 +87,11 @@ fn placed<L: Ledger>(
     requires valid { IsValid image.now }
     requires nodes { directory.now.rows ≡ image.now.nodes }
     requires known { AllByRecursion (IsMapOf image.now) known.now }
-    ensures { IfOk result (AreMaps image.now) }
+    ensures { IfOk result (AreMapsOf image.now (replications_of keyspaces.now)) }
 {
     let mut walks = Steps::<L>::begin(blank);
     let mut book = MapBook::empty(alloc);
-    for row in image.keyspaces.as_slice() {
+    for row in keyspaces {
         if !has(book.as_slice(), &row.replication) {
             let replication = row.replication.copy()?;
             let map = map_for(alloc, image, directory, known, &replication, &mut walks)?;
@@ -99,21 +101,22 @@ fn placed<L: Ledger>(
     Ok(book)
 }
 
-/// The placement maps of an image. The directory must hold the nodes of the image. `known` may have maps of the image
-/// already. `Err` means that memory ran out.
+/// The placement maps of keyspaces in an image, whose own keyspaces don't matter. The directory must hold the nodes of
+/// the image. `known` may have maps of the image already. `Err` means that memory ran out.
 ///
 /// Cost: a copy of each map that is known. Under each other replication, three rings, as `Rings::of_image` makes them,
 /// and three walks for each row between cuts; without movements, one ring and one walk. The walks aren't counted.
 pub fn maps_of(
     alloc: Global,
     image: &Image,
+    keyspaces: &[KeyspaceRow],
     directory: &Directory,
     known: &MapBook,
 ) -> Result<MapBook, Memory>
     requires valid { IsValid image.now }
     requires nodes { directory.now.rows ≡ image.now.nodes }
     requires known { AllByRecursion (IsMapOf image.now) known.now }
-    ensures { IfOk result (AreMaps image.now) }
+    ensures { IfOk result (AreMapsOf image.now (replications_of keyspaces.now)) }
 {
-    placed::<Brand>(alloc, image, directory, known, Blank::new(1))
+    placed::<Brand>(alloc, image, keyspaces, directory, known, Blank::new(1))
 }

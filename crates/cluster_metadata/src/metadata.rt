@@ -1,4 +1,4 @@
-ghost use Rattle.std.specs.Prelude.{◌≡◌, ◌*◌, ◌-◌, ◌<◌, ◌≤◌, ◌^◌, ℤ, true, false, None, length, option_map, IfErr, IfOk, IfSome, IsSome, IsTrue};
+ghost use Rattle.std.specs.Prelude.{◌≡◌, ◌*◌, ◌-◌, ◌<◌, ◌≤◌, ◌^◌, ℤ, true, false, None, length, map, option_map, IfErr, IfOk, IfSome, IsSome, IsTrue};
 ghost use Rattle.std.specs.List.{All};
 ghost use Rattle.std.specs.Option.{option_copied};
 ghost use Rattle.std.specs.Ordering.{int_eq};
@@ -13,6 +13,7 @@ ghost use Rattle.transformations.specs.Rings.{cuts, writes_at};
 ghost use Rattle.transformations.specs.Valid.{IsValid};
 ghost use Rattle.cluster_metadata.specs.Change.{directory_of};
 ghost use Rattle.cluster_metadata.specs.CutDeltas.{ActsByDelta, CutsMove, DeltasSameAcross};
+ghost use Rattle.cluster_metadata.specs.Locks.{AreLocksOf};
 ghost use Rattle.cluster_metadata.specs.Maps.{AreMaps, placement_rows};
 ghost use Rattle.cluster_metadata.specs.Running.{HaveDeltas, IsRunning};
 ghost use Rattle.cluster_metadata.specs.Served as spec;
@@ -26,6 +27,7 @@ use crate::maps::{find_map, maps_of};
 use crate::permit::{Permit, permit_for};
 use crate::running::{Running, close_all, resume_all};
 use cluster_terms::{Memory, Name, Replication, SmallList, Steps, Token, TryCopy};
+use locked_ranges::LockTable;
 use node_directory::Directory;
 use node_sets::NodeSet;
 use range_placements::PlacementMap;
@@ -43,6 +45,10 @@ use transformations::{Command, Image, KeyspaceRow};
 /// Under each keyspace, a token is in the ranges of at most one movement. The ranges are CEP-21's locked ranges, by a
 /// rule of this project: the tokens whose replicas the movement may change, whatever happens to the other movements.
 ///
+/// The ranges of each movement in flight are held by a lock in a table, from the prepare until the movement is finished or
+/// cancelled. The movement holds the key to its lock. The table has the locks of the nodes of the movements, and no other:
+/// without movements it has none.
+///
 /// The value must be consumed, by `close`.
 pub struct Metadata {
     alloc: Global,
@@ -50,6 +56,7 @@ pub struct Metadata {
     directory: Directory,
     maps: MapBook,
     running: Vec<Running>,
+    locks: LockTable,
 }
 
 impl Model for Metadata {
@@ -60,21 +67,27 @@ impl Model for Metadata {
 
     ghost view = { λ m. m.image };
 
-    ghost invariant = { λ m. IsHeld m.image m.directory m.maps m.running.items };
+    ghost invariant = { λ m. IsHeld m.image m.directory m.maps m.running.items m.locks };
 }
 
-/// The directory of a valid image, its placement maps, and the values of its movements in flight, each with its plan.
-fn parts_of(alloc: Global, image: &Image) -> Result<(Directory, MapBook, Vec<Running>), Memory>
+/// The directory of a valid image, its placement maps, and the values of its movements in flight, each with its plan,
+/// and the table of their locks.
+fn parts_of(
+    alloc: Global,
+    image: &Image,
+) -> Result<(Directory, MapBook, Vec<Running>, LockTable), Memory>
     requires { IsValid image.now }
     ensures directory { IfOk result (λ parts. parts.0 ≡ directory_of image.now) }
     ensures maps { IfOk result (λ parts. AreMaps image.now parts.1) }
     ensures running { IfOk result (λ parts. IsRunning image.now.sequences parts.2.items) }
     ensures deltas { IfOk result (λ parts. HaveDeltas image.now parts.2.items) }
+    ensures locks { IfOk result (λ parts. AreLocksOf image.now image.now.sequences parts.3) }
 {
     let directory = Directory::from_valid(alloc, image.nodes.as_slice(), image.next)?;
-    let maps = maps_of(alloc, image, &directory, &MapBook::empty(alloc))?;
-    let running = resume_all(alloc, image)?;
-    Ok((directory, maps, running))
+    let keyspaces = image.keyspaces.as_slice();
+    let maps = maps_of(alloc, image, keyspaces, &directory, &MapBook::empty(alloc))?;
+    let (running, locks) = resume_all(alloc, image)?;
+    Ok((directory, maps, running, locks))
 }
 
 impl Metadata {
@@ -100,6 +113,7 @@ impl Metadata {
             directory,
             maps: MapBook::empty(alloc),
             running: Vec::new(alloc),
+            locks: LockTable::empty(alloc),
         })
     }
 
@@ -118,12 +132,13 @@ impl Metadata {
         ensures handed_back { IfErr result (λ e. e.0 ≡ image) }
     {
         match parts_of(alloc, &image) {
-            Ok((directory, maps, running)) => Ok(Metadata {
+            Ok((directory, maps, running, locks)) => Ok(Metadata {
                 alloc,
                 image,
                 directory,
                 maps,
                 running,
+                locks,
             }),
             Err(Memory) => Err((image, ImageFault::Memory)),
         }
@@ -204,6 +219,7 @@ impl Metadata {
             &self.directory,
             &self.maps,
             self.running.as_slice(),
+            &self.locks,
             cmd,
             walks,
         )
@@ -225,7 +241,8 @@ impl Metadata {
     /// as long as the movement is in flight.
     ///
     /// Cost: a register adds one row to the nodes and to the directory, and moves the others only if there is no memory
-    /// to spare. An unregister moves the rows after the removed one. A finish changes one row in place.
+    /// to spare. An unregister moves the rows after the removed one. A finish changes one row in place. If a movement
+    /// ends, one pass over the locks unlocks its ranges.
     pub fn enact(&mut self, permit: Permit) -> u64
         requires { permit.image ≡ self.old }
         ensures image { self.new ≡ next_image self.old permit.command }
@@ -246,13 +263,15 @@ impl Metadata {
         let Permit {
             change,
             room,
+            lock,
             maps,
             image: _,
             command: _,
         } = permit;
         exchange(&mut self.maps, maps);
         let (image, directory) = (&mut self.image, &mut self.directory);
-        make(image, directory, &mut self.running, change, room);
+        let (running, locks) = (&mut self.running, &mut self.locks);
+        make(image, directory, running, locks, change, room, lock);
         self.image.epoch
     }
 
@@ -341,7 +360,16 @@ impl Metadata {
         &self.directory
     }
 
-    /// Consumes the metadata, with the values of the movements in flight.
+    /// The locks of the movements in flight, in the order of nodes. For each movement the table has its node and the tokens
+    /// of its ranges, under each replication of the keyspaces. Without movements it has no lock.
+    pub fn locks(&self) -> &LockTable
+        ensures nodes { map (λ row. row.node) result.now ≡ map (λ s. s.node) self.now.sequences }
+        ensures locks { AreLocksOf self.now self.now.sequences result.now }
+    {
+        &self.locks
+    }
+
+    /// Consumes the metadata, with the values of the movements in flight and their locks.
     pub fn close(self) {
         let Metadata {
             alloc: _,
@@ -349,7 +377,8 @@ impl Metadata {
             directory: _,
             maps: _,
             running,
+            locks,
         } = self;
-        close_all(running);
+        close_all(running, locks);
     }
 }

@@ -3,6 +3,7 @@ ghost use Rattle.transformations.specs.History.{is_command, most_epochs};
 ghost use Rattle.transformations.specs.Refusals.{early_refusal_of, prepared_by, refusal_of};
 ghost use Rattle.transformations.specs.Valid.{IsValid};
 ghost use Rattle.cluster_metadata.specs.Change.{grown_to};
+ghost use Rattle.cluster_metadata.specs.Locks.{AreLocksOf};
 ghost use Rattle.cluster_metadata.specs.Maps.{AreMaps};
 ghost use Rattle.cluster_metadata.specs.Running.{HaveDeltas, IsRunning};
 ghost use Rattle.cluster_metadata.specs.Permission.{AdmitsUnless};
@@ -13,8 +14,10 @@ use crate::changes::change_of;
 use crate::map_book::MapBook;
 use crate::map_change::MapChange;
 use crate::map_changes::maps_for;
+use crate::new_lock::NewLock;
 use crate::running::Running;
 use cluster_terms::{Memory, Steps};
+use locked_ranges::LockTable;
 use node_directory::Directory;
 use std::alloc::Global;
 use std::marker::Model;
@@ -34,12 +37,14 @@ fn room_for(alloc: Global, change: &Change) -> Result<Vec<Running>, Memory>
 }
 
 /// The permission to enact a command in an image that accepts it. Contracts see it as this image and this command. It
-/// holds the memory that the command needs.
+/// holds the memory that the command needs. For a prepare this includes the ranges that the movement locks, and room for
+/// them in the table of locks.
 ///
 /// The value must be consumed once: `Metadata::enact` carries out the command, and `decline` gives the permit up.
 pub struct Permit {
     pub(crate) change: Change,
     pub(crate) room: Vec<Running>,
+    pub(crate) lock: NewLock,
     pub(crate) maps: MapChange,
     pub(crate) image: Snapshot<Image>,
     pub(crate) command: Snapshot<Command>,
@@ -48,6 +53,7 @@ pub struct Permit {
 impl Model for Permit {
     ghost use Rattle.std.specs.Prelude.{◌≡◌, ◌≤◌, vec_capacity, vec_len};
     ghost use Rattle.cluster_metadata.specs.Change.{grown_to};
+    ghost use Rattle.cluster_metadata.specs.Locking.{HoldsLock};
     ghost use Rattle.cluster_metadata.specs.MapChanges.{BringsMaps};
     ghost use Rattle.cluster_metadata.specs.Permission.{Permission, IsPermitted};
 
@@ -57,7 +63,8 @@ impl Model for Permit {
 
     ghost invariant = { λ p. IsPermitted p.image.value p.command.value p.change × (vec_len p.room ≡ 0)
         × (grown_to p.change ≤ vec_capacity p.room)
-        × BringsMaps p.image.value p.change p.maps };
+        × BringsMaps p.image.value p.change p.maps
+        × HoldsLock p.change p.lock };
 }
 
 impl Permit {
@@ -66,6 +73,7 @@ impl Permit {
         let Permit {
             change: _,
             room,
+            lock: _,
             maps: _,
             image: _,
             command: _,
@@ -81,6 +89,7 @@ pub(crate) fn permit_for<L: Ledger>(
     directory: &Directory,
     maps: &MapBook,
     running: &[Running],
+    locks: &LockTable,
     cmd: &Command,
     walks: &mut Steps<L>,
 ) -> Result<Permit, AdmitFault>
@@ -89,6 +98,7 @@ pub(crate) fn permit_for<L: Ledger>(
     requires maps { AreMaps image.now maps.now }
     requires running { IsRunning image.now.sequences running.now }
     requires deltas { HaveDeltas image.now running.now }
+    requires locks { AreLocksOf image.now image.now.sequences locks.now }
     requires room { image.now.epoch < most_epochs }
     requires formed { IsTrue (is_command cmd.now) }
     ensures permit { IfOk result (λ permit. permit ≡ record { image = image.now; command = cmd.now }) }
@@ -99,12 +109,14 @@ pub(crate) fn permit_for<L: Ledger>(
     if let Some(refusal) = early_refusal(alloc, image, cmd)? {
         return Err(AdmitFault::Refused(refusal));
     }
-    let change = change_of(alloc, image, cmd, walks)?;
+    let change = change_of(alloc, image, locks, cmd, walks)?;
     let maps = maps_for(alloc, image, directory, maps, running, &change)?;
+    let lock = NewLock::of_change(alloc, &change)?;
     let room = room_for(alloc, &change)?;
     Ok(Permit {
         change,
         room,
+        lock,
         maps,
         image: Snapshot::of(image),
         command: Snapshot::of(cmd),

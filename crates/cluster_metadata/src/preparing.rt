@@ -2,6 +2,7 @@
 
 ghost use Rattle.std.specs.Prelude.{◌≡◌, ◌≤◌, ◌==◌, false, true, None, length, IfOk, IfSome};
 ghost use Rattle.std.specs.List.{AllByRecursion, insert};
+ghost use Rattle.std.specs.List.Sorted.{IsStrictlySortedBy};
 ghost use Rattle.cluster_terms.specs.Ascending.{put};
 ghost use Rattle.transformations.specs.History.{is_command};
 ghost use Rattle.transformations.specs.Orders.{by_node};
@@ -11,18 +12,20 @@ ghost use Rattle.transformations.specs.declared.sequence.Phase.TheVariants as ph
 ghost use Rattle.transformations.specs.declared.sequence.SeqRow.{SeqRow};
 ghost use Rattle.sequence_plans.specs.Deltas.{HasDeltas};
 ghost use Rattle.cluster_metadata.specs.Change.{Begins};
+ghost use Rattle.cluster_metadata.specs.Locks.{AreLocksOf, IsLockOf};
+ghost use Rattle.cluster_metadata.specs.Change.{plan_lock};
 ghost use Rattle.cluster_metadata.specs.Permission.{AdmitsUnless};
 
 use crate::admit_fault::AdmitFault;
 use crate::change::Change;
-use crate::locks::first_lock;
 use cluster_terms::{Memory, NodeId, Steps, TryCopy};
+use locked_ranges::LockTable;
 use placement_deltas::Plan;
 use sequence_plans::plan;
 use sequence_rows::{join_row, leave_row, move_row, replace_row};
 use std::alloc::Global;
 use std::sync::ledger::Ledger;
-use transformations::{Command, Image, SeqRow};
+use transformations::{Command, Image, Refusal, SeqRow};
 
 /// The index at which the movement of a node that has none is put among the movements, in the order of nodes.
 fn place_for(sequences: &[SeqRow], node: NodeId) -> usize
@@ -44,6 +47,7 @@ fn begun(image: &Image, plan: Plan) -> Result<Change, Memory>
     requires phase { plan.row.phase ≡ phase.Prepared }
     requires new { AllByRecursion (λ s. (s.node == plan.row.node) ≡ false) image.now.sequences }
     requires deltas { HasDeltas image.now plan }
+    requires ranges { IsLockOf (with_movement image.now plan.row) plan.row (plan_lock plan) }
     ensures { IfOk result (Begins image.now plan.row) }
 {
     let row = &plan.row;
@@ -83,12 +87,15 @@ pub fn row_prepared(alloc: Global, image: &Image, cmd: &Command) -> Result<Optio
 pub fn prepare<L: Ledger>(
     alloc: Global,
     image: &Image,
+    locks: &LockTable,
     row: SeqRow,
     walks: &mut Steps<L>,
 ) -> Result<Change, AdmitFault>
     requires phase { row.phase ≡ phase.Prepared }
     requires new { AllByRecursion (λ s. (s.node == row.node) ≡ false) image.now.sequences }
     requires sound { IsSound (with_movement image.now row) }
+    requires movements { IsStrictlySortedBy by_node image.now.sequences }
+    requires locks { AreLocksOf image.now image.now.sequences locks.now }
     ensures change { IfOk result (Begins image.now row) }
     ensures refusal { AdmitsUnless (locked (with_movement image.now row) row) result }
 {
@@ -96,9 +103,9 @@ pub fn prepare<L: Ledger>(
         Ok(plan) => plan,
         Err((_row, memory)) => return Err(AdmitFault::from(memory)),
     };
-    let ranges = plan.ranges.as_slice();
-    if let Some(refusal) = first_lock(ranges, plan.wide.as_slice(), plan.cuts.as_slice()) {
-        return Err(AdmitFault::Refused(refusal));
+    let cuts = plan.cuts.as_slice();
+    if let Some((node, end)) = locks.conflict(&plan.ranges, &plan.wide, cuts) {
+        return Err(AdmitFault::Refused(Refusal::Locked(node, end)));
     }
     Ok(begun(image, plan)?)
 }

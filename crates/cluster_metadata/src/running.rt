@@ -1,15 +1,21 @@
-ghost use Rattle.std.specs.Prelude.{◌≡◌, ◌++◌, ◌∷◌, ◌<◌, [], false, IfOk, OnOk};
+ghost use Rattle.std.specs.Prelude.{◌≡◌, ◌++◌, ◌∷◌, ◌<◌, [], true, false, IfOk, MatchResult, OnOk};
 ghost use Rattle.std.specs.List.{Contains};
+ghost use Rattle.locked_ranges.specs.Table.{has_row, other_locks};
+ghost use Rattle.transformations.specs.Refusals.{with_movement};
 ghost use Rattle.transformations.specs.Rings.{is_mid};
-ghost use Rattle.transformations.specs.Valid.{IsSound};
+ghost use Rattle.transformations.specs.Valid.{IsSound, IsValid};
 ghost use Rattle.transformations.specs.declared.sequence.Phase.TheVariants as phase;
 ghost use Rattle.sequence_plans.specs.Deltas.{HasDeltas};
-ghost use Rattle.cluster_metadata.specs.Running.{HaveDeltas, IsRunning, phase_of, plan_of, movement_row};
+ghost use Rattle.sequence_plans.specs.Plan.{IsPlan};
+ghost use Rattle.cluster_metadata.specs.Locks.{AreLocksOf, IsLockOf};
+ghost use Rattle.cluster_metadata.specs.Locking.{AddsMovement, AreLocked, IsApartFrom, lock_of};
+ghost use Rattle.cluster_metadata.specs.Running.{HaveDeltas, IsRunning, phase_of, plan_of, movement_row, node_of};
 ghost use Rattle.cluster_metadata.specs.Turns.{undoing};
 
 use crate::stepping::at_phase;
 use crate::turn::Turn;
-use cluster_terms::{Memory, Steps};
+use cluster_terms::{Memory, Steps, TryCopy};
+use locked_ranges::{LockKey, LockTable};
 use placement_deltas::Plan;
 use sequence_core::{Mid, Prepared, Seq, Started};
 use sequence_plans::plan;
@@ -18,7 +24,8 @@ use std::marker::Brand;
 use std::sync::ledger::{Blank, Ledger};
 use transformations::{Image, Phase, SeqRow};
 
-/// A movement in flight, as a value of its phase. It holds the plan with which the movement was prepared.
+/// A movement in flight, as a value of its phase. It holds the plan with which the movement was prepared, and the key to
+/// the lock of its ranges.
 pub enum Running {
     Prepared(Seq<Prepared>),
     Started(Seq<Started>),
@@ -26,13 +33,14 @@ pub enum Running {
 }
 
 impl Running {
-    /// The value of a movement from its plan, whose row is at `Prepared`.
-    pub fn begin(plan: Plan) -> Running
-        requires { plan.row.phase ≡ phase.Prepared }
+    /// The value of a movement from its plan, whose row is at `Prepared`, and the key to the lock of its node.
+    pub fn begin(plan: Plan, key: LockKey) -> Running
+        requires phase { plan.row.phase ≡ phase.Prepared }
+        requires key { key ≡ plan.row.node }
         ensures plan { plan_of result ≡ plan }
         ensures phase { phase_of result ≡ phase.Prepared }
     {
-        Running::Prepared(Seq::begin(plan))
+        Running::Prepared(Seq::begin(plan, key))
     }
 
     /// The plan with which the movement was prepared.
@@ -57,13 +65,14 @@ impl Running {
         }
     }
 
-    /// The value of a movement at any phase, from its plan.
-    pub fn resume(plan: Plan, at: Phase) -> Running
-        requires { plan.row.phase ≡ phase.Prepared }
+    /// The value of a movement at any phase, from its plan and the key to its lock.
+    pub fn resume(plan: Plan, key: LockKey, at: Phase) -> Running
+        requires phase { plan.row.phase ≡ phase.Prepared }
+        requires key { key ≡ plan.row.node }
         ensures plan { plan_of result ≡ plan }
         ensures phase { phase_of result ≡ at }
     {
-        let begun = Running::begin(plan);
+        let begun = Running::begin(plan, key);
         match at {
             Phase::Prepared => begun,
             Phase::Started => begun.start(),
@@ -95,10 +104,10 @@ impl Running {
         }
     }
 
-    /// Finishes a movement that is at `Mid`, and returns its plan.
-    pub fn finish(self) -> Plan
+    /// Finishes a movement that is at `Mid`, and gives back the key to its lock.
+    pub fn finish(self) -> LockKey
         requires { phase_of self ≡ phase.Mid }
-        ensures { result ≡ plan_of self }
+        ensures { result ≡ node_of self }
     {
         match self {
             Running::Mid(seq) => seq.finish(),
@@ -118,10 +127,10 @@ impl Running {
         }
     }
 
-    /// Gives up a movement that isn't at `Mid`, and returns its plan.
-    pub fn give_up(self) -> Plan
+    /// Gives up a movement that isn't at `Mid`, and gives back the key to its lock.
+    pub fn give_up(self) -> LockKey
         requires { is_mid (phase_of self) ≡ false }
-        ensures { result ≡ plan_of self }
+        ensures { result ≡ node_of self }
     {
         match self {
             Running::Prepared(seq) => seq.cancel(),
@@ -130,90 +139,152 @@ impl Running {
         }
     }
 
-    /// Consumes the value of a movement at any phase. The image doesn't change.
-    pub fn close(self) {
-        let _plan = match self {
+    /// Consumes the value of a movement at any phase, and gives back the key to its lock. The image doesn't change.
+    pub fn close(self) -> LockKey
+        ensures { result ≡ node_of self }
+    {
+        match self {
             Running::Prepared(seq) => seq.cancel(),
             Running::Started(seq) => seq.cancel(),
             Running::Mid(seq) => seq.finish(),
-        };
+        }
     }
 }
 
-/// The value of a movement of an image, with the plan that it has there. Fails only if memory runs out.
-fn resumed<L: Ledger>(
+/// The plan of a movement. Fails only if memory runs out.
+fn planned<L: Ledger>(
     alloc: Global,
     image: &Image,
-    row: &SeqRow,
+    row: SeqRow,
     walks: &mut Steps<L>,
-) -> Result<Running, Memory>
-    requires sound { IsSound image.now }
-    requires movement { Contains image.now.sequences row.now }
-    ensures row { IfOk result (λ movement. movement_row movement ≡ row.now) }
-    ensures deltas { IfOk result (λ movement. HasDeltas image.now (plan_of movement)) }
+) -> Result<Plan, Memory>
+    requires prepared { row.phase ≡ phase.Prepared }
+    requires sound { IsSound (with_movement image.now row) }
+    ensures { IfOk result (IsPlan (with_movement image.now row) row) }
 {
-    match plan(alloc, image, at_phase(row, Phase::Prepared)?, walks) {
-        Ok(plan) => Ok(Running::resume(plan, row.phase)),
+    match plan(alloc, image, row, walks) {
+        Ok(plan) => Ok(plan),
         Err((_row, memory)) => Err(memory),
     }
 }
 
-/// Adds the value of a movement. If memory runs out, the values are unchanged.
-fn push(running: &mut Vec<Running>, movement: Running) -> Result<(), Memory>
-    ensures { OnOk result (running.new.items ≡ running.old.items ++ movement ∷ []) }
+/// The value of a movement of an image, with the plan that it has there. Locks its ranges, which share no token with the
+/// rows of the table. If memory runs out, the table is unchanged.
+fn resumed<L: Ledger>(
+    alloc: Global,
+    image: &Image,
+    row: &SeqRow,
+    locks: &mut LockTable,
+    walks: &mut Steps<L>,
+) -> Result<Running, Memory>
+    requires sound { IsSound image.now }
+    requires movement { Contains image.now.sequences row.now }
+    requires new { has_row locks.old row.now.node ≡ false }
+    requires apart { IsApartFrom image.now row.now locks.old }
+    ensures row { IfOk result (λ movement. movement_row movement ≡ row.now) }
+    ensures deltas { IfOk result (λ movement. HasDeltas image.now (plan_of movement)) }
+    ensures locks { MatchResult result (λ movement. locks.new ≡ locks.old ++ lock_of movement ∷ [])
+        (λ _. locks.new ≡ locks.old) }
+    ensures lock { IfOk result (λ movement. IsLockOf image.now row.now (lock_of movement)) }
+{
+    let plan = planned(alloc, image, at_phase(row, Phase::Prepared)?, walks)?;
+    let ranges = plan.ranges.copy()?;
+    match locks.lock(row.node, ranges) {
+        Ok(key) => Ok(Running::resume(plan, key, row.phase)),
+        Err((_ranges, memory)) => Err(memory),
+    }
+}
+
+/// Adds the value of a movement that has a lock. If memory runs out, the values are unchanged, and the lock is removed.
+fn push(running: &mut Vec<Running>, locks: &mut LockTable, movement: Running) -> Result<(), Memory>
+    requires { has_row locks.old (node_of movement) ≡ true }
+    ensures running { MatchResult result (λ _. running.new.items ≡ running.old.items ++ movement ∷ [])
+        (λ _. running.new.items ≡ running.old.items) }
+    ensures locks { MatchResult result (λ _. locks.new ≡ locks.old)
+        (λ _. locks.new ≡ other_locks locks.old (node_of movement)) }
 {
     match running.push(movement) {
         Ok(()) => Ok(()),
         Err(failed) => {
-            failed.value.close();
+            locks.unlock(failed.value.close());
             Err(Memory)
         }
     }
 }
 
-/// Adds the values of the movements of an image, in their order. If memory runs out, some of them may be added.
+/// Adds the value of a movement of an image, and its lock. If memory runs out, both lists are unchanged.
+fn add<L: Ledger>(
+    alloc: Global,
+    image: &Image,
+    row: &SeqRow,
+    running: &mut Vec<Running>,
+    locks: &mut LockTable,
+    walks: &mut Steps<L>,
+) -> Result<(), Memory>
+    requires sound { IsSound image.now }
+    requires movement { Contains image.now.sequences row.now }
+    requires new { has_row locks.old row.now.node ≡ false }
+    requires apart { IsApartFrom image.now row.now locks.old }
+    ensures { MatchResult result
+        (λ _. AddsMovement image.now row.now running.old.items running.new.items locks.old locks.new)
+        (λ _. (running.new.items ≡ running.old.items) × (locks.new ≡ locks.old)) }
+{
+    let movement = resumed(alloc, image, row, locks, walks)?;
+    push(running, locks, movement)
+}
+
+/// Adds the values of the movements of an image, in their order, and their locks. If memory runs out, some of them may be
+/// added.
 fn push_all<L: Ledger>(
     alloc: Global,
     image: &Image,
     running: &mut Vec<Running>,
+    locks: &mut LockTable,
     blank: Blank,
 ) -> Result<(), Memory>
     requires name { blank.name ≡ L.name }
     requires parts { blank.parts ≡ L.parts }
     requires some { 0 < blank.parts }
-    requires sound { IsSound image.now }
+    requires valid { IsValid image.now }
     requires empty { running.old.items ≡ [] }
+    requires unlocked { locks.old ≡ [] }
     ensures running { OnOk result (IsRunning image.now.sequences running.new.items) }
     ensures deltas { OnOk result (HaveDeltas image.now running.new.items) }
+    ensures locks { OnOk result (AreLocksOf image.now image.now.sequences locks.new) }
+    ensures locked { AreLocked locks.new running.new.items }
 {
     let mut walks = Steps::<L>::begin(blank);
     for row in image.sequences.as_slice() {
-        push(running, resumed(alloc, image, row, &mut walks)?)?;
+        add(alloc, image, row, running, locks, &mut walks)?;
     }
     Ok(())
 }
 
-/// The values of the movements of an image, in their order. Walks are counted on a counter of its own. Fails only if
-/// memory runs out.
-pub fn resume_all(alloc: Global, image: &Image) -> Result<Vec<Running>, Memory>
-    requires { IsSound image.now }
-    ensures running { IfOk result (λ running. IsRunning image.now.sequences running.items) }
-    ensures deltas { IfOk result (λ running. HaveDeltas image.now running.items) }
+/// The values of the movements of an image, in their order, and the table of their locks. Walks are counted on a counter
+/// of its own. Fails only if memory runs out.
+pub fn resume_all(alloc: Global, image: &Image) -> Result<(Vec<Running>, LockTable), Memory>
+    requires { IsValid image.now }
+    ensures running { IfOk result (λ held. IsRunning image.now.sequences held.0.items) }
+    ensures deltas { IfOk result (λ held. HaveDeltas image.now held.0.items) }
+    ensures locks { IfOk result (λ held. AreLocksOf image.now image.now.sequences held.1) }
 {
     let mut running = Vec::new(alloc);
-    match push_all::<Brand>(alloc, image, &mut running, Blank::new(1)) {
-        Ok(()) => Ok(running),
+    let mut locks = LockTable::empty(alloc);
+    match push_all::<Brand>(alloc, image, &mut running, &mut locks, Blank::new(1)) {
+        Ok(()) => Ok((running, locks)),
         Err(memory) => {
-            close_all(running);
+            close_all(running, locks);
             Err(memory)
         }
     }
 }
 
-/// Consumes the values of all these movements.
-pub fn close_all(mut running: Vec<Running>) {
+/// Consumes the values of all these movements, and spends their keys.
+pub fn close_all(mut running: Vec<Running>, mut locks: LockTable)
+    requires { AreLocked locks running.items }
+{
     while let Some(movement) = running.pop() {
-        movement.close();
+        locks.unlock(movement.close());
     }
     running.destroy_empty();
 }

@@ -1,10 +1,11 @@
 -- The table of locked ranges: a row that is added, rows that are left, and rows that are inside wider ones.
-use Rattle.std.proofs.Common.{◌≡◌, ◌≢◌, ℕ, Bool, true, false, not, ◌&&◌, ◌||◌, ◌==◌, ℤ, List, [], ◌∷◌, ◌++◌, map, nat_eq, refl, sym, ap, ◌∙◌, arith, zip}
-use Rattle.std.specs.List.{AllByRecursion}
+use Rattle.std.proofs.Common.{◌≡◌, ◌≢◌, ℕ, suc, zero, Bool, true, false, not, ◌&&◌, ◌||◌, ◌==◌, ℤ, List, [], ◌∷◌, ◌++◌, map, nat_eq, refl, sym, ap, ◌∙◌, arith, zip}
+use Rattle.std.specs.List.{AllByRecursion, AllPairs, insert}
 use Rattle.std.proofs.lemmas.Bool.{true≢false, false≢true}
 use Rattle.std.proofs.lemmas.Bool.Decides.{Decides-eqb}
-use Rattle.std.proofs.lemmas.List.Kept.{AllPairs-filter}
+use Rattle.std.proofs.lemmas.List.Kept.{AllPairs-cons, AllPairs-filter}
 use Rattle.std.proofs.lemmas.List.Quantifiers.{all_pairs_push}
+use Rattle.std.proofs.lemmas.List.Elements.{recursion_from_All}
 use Rattle.cluster_terms.specs.Arc.{IsToken}
 use Rattle.token_ring.proofs.RangeLemmas.{to_all}
 use Rattle.token_ring.specs.Ranges.{have_token}
@@ -50,6 +51,32 @@ pub table_push : (rows : List LockRow) (n : ℕ) (ranges : List RangeRow) → Is
 table_push rows n ranges table new apart = record {
   nodes = all_pairs_push (λ (one other : LockRow). one.node ≢ other.node) rows (lock_row n ranges) table.nodes (to_all (λ (row : LockRow). row.node ≢ n) rows (not_named rows n new));
   apart = all_pairs_push (λ (one other : LockRow). ShareNoToken one.ranges other.ranges) rows (lock_row n ranges) table.apart (to_all (λ (row : LockRow). ShareNoToken row.ranges ranges) rows (apart_from ranges rows apart));
+}
+
+-- a new row among the others
+module _ {X : Type 0} (R : X → X → Type 0) where
+  all_insert : (x : X) (xs : List X) (at : ℕ) (y : X) → R x y → AllByRecursion (R x) xs → AllByRecursion (R x) (insert xs at y)
+  all_insert x xs zero y here all = (here, all)
+  all_insert x [] (suc at) y here all = (here, tt)
+  all_insert x (z ∷ xs) (suc at) y here all = (all.0, all_insert x xs at y here all.1)
+
+  pairs_insert : (xs : List X) (at : ℕ) (y : X) → AllPairs R xs → AllByRecursion (λ x. R x y) xs → AllByRecursion (R y) xs → AllPairs R (insert xs at y)
+  pairs_insert xs zero y pairs before after = AllPairs-cons R y xs (to_all (R y) xs after) pairs
+  pairs_insert [] (suc at) y pairs before after = AllPairs-cons R y [] (to_all (R y) [] tt) pairs
+  pairs_insert (x ∷ xs) (suc at) y pairs before after =
+      AllPairs-cons R x (insert xs at y)
+      (to_all (R x) (insert xs at y) (all_insert x xs at y before.0 (recursion_from_All (R x) xs (λ k d within. pairs 0 (suc k) d (omega arith) (omega arith)))))
+      (pairs_insert xs at y (λ i j d less within. pairs (suc i) (suc j) d (omega arith) (omega arith)) before.1 after.1)
+
+flipped : (rows : List LockRow) (n : ℕ) → AllByRecursion (λ row. row.node ≢ n) rows → AllByRecursion (λ row. n ≢ row.node) rows
+flipped [] n all = tt
+flipped (row ∷ rows) n all = (λ same. all.0 (sym same), flipped rows n all.1)
+
+pub table_insert : (rows : List LockRow) (at n : ℕ) (ranges : List RangeRow) → IsLockTable rows → has_row rows n ≡ false → AllByRecursion (λ row. ShareNoToken ranges row.ranges) rows
+    → IsLockTable (insert rows at (lock_row n ranges))
+table_insert rows at n ranges table new apart = record {
+  nodes = pairs_insert (λ (one other : LockRow). one.node ≢ other.node) rows at (lock_row n ranges) table.nodes (not_named rows n new) (flipped rows n (not_named rows n new));
+  apart = pairs_insert (λ (one other : LockRow). ShareNoToken one.ranges other.ranges) rows at (lock_row n ranges) table.apart (apart_from ranges rows apart) apart;
 }
 
 -- the rows of the other nodes

@@ -1,5 +1,5 @@
-ghost use Rattle.std.specs.Prelude.{◌≡◌, ◌<◌, ◌↔◌, true, false, [], ◌∷◌, ◌++◌, length, IsNone, IfOk, IfErr, MatchResult};
-ghost use Rattle.std.specs.List.{AllByRecursion};
+ghost use Rattle.std.specs.Prelude.{◌≡◌, ◌<◌, ◌≤◌, ◌↔◌, true, false, [], ◌∷◌, ◌++◌, length, IsNone, IfOk, IfErr, MatchResult};
+ghost use Rattle.std.specs.List.{AllByRecursion, insert};
 ghost use Rattle.std.specs.List.Sorted.{IsStrictlySortedBy};
 ghost use Rattle.std.specs.Ordering.{int_cmp};
 ghost use Rattle.token_ring.specs.Ranges.{AreCutOut};
@@ -15,7 +15,7 @@ use std::marker::Model;
 use token_ring::{LockRow, LockRows, RangeBook};
 
 /// The ranges that movements in flight lock (CEP-21's locked ranges). A row has the node of a movement and its ranges
-/// under each replication. Contracts see the table as the list of its rows, in the order in which they were locked.
+/// under each replication. Contracts see the table as the list of its rows, in the order in which callers put them.
 ///
 /// The nodes are distinct, and no token is in the ranges of two rows under one replication: by a rule of this project,
 /// at most one movement at a time changes the replicas of a token.
@@ -46,7 +46,7 @@ impl LockTable {
         }
     }
 
-    /// The rows, in the order in which they were locked.
+    /// The rows, in their order.
     pub fn rows(&self) -> &[LockRow]
         ensures rows { result.now ≡ self.now }
         ensures table { IsLockTable self.now }
@@ -108,16 +108,24 @@ impl LockTable {
         }
     }
 
-    /// Locks as `lock` does. If the table has no memory to spare, its rows move into the room, which has room for one row
-    /// more than the table has. Takes no memory.
-    pub fn lock_in(&mut self, node: NodeId, ranges: RangeBook, room: Room<LockRow>) -> LockKey
+    /// Locks the ranges of a movement as `lock` does, and puts the new row at position `at`, which is at most the length. If
+    /// the table has no memory to spare, its rows move into the room, which has room for one row more than the table has.
+    /// Takes no memory.
+    pub fn lock_in(
+        &mut self,
+        at: usize,
+        node: NodeId,
+        ranges: RangeBook,
+        room: Room<LockRow>,
+    ) -> LockKey
         requires new { has_row self.old node ≡ false }
         requires apart { AllByRecursion (λ row. ShareNoToken ranges row.ranges) self.old }
+        requires place { at ≤ length self.old }
         requires room { length self.old < room }
-        ensures table { self.new ≡ self.old ++ lock_row node ranges ∷ [] }
+        ensures table { self.new ≡ insert self.old at (lock_row node ranges) }
         ensures key { result ≡ node }
     {
-        self.rows.push_in(LockRow { node, ranges }, room);
+        self.rows.insert_in(at, LockRow { node, ranges }, room);
         LockKey::of(node)
     }
 

@@ -1,7 +1,7 @@
 -- A tally of the nodes that are met tells how many there are, as far as they are asked for.
 use Rattle.std.proofs.Common.{◌≡◌, ℕ, ◌+◌, ◌<◌, ◌≤◌, min, Bool, true, false, not, cond, ◌&&◌, ◌||◌, nat_eq, nat_lt, List, [], ◌∷◌, ◌++◌, length, filter, filter_map, Option, Some, None, is_some, refl, sym, ap, ◌∙◌, arith}
 use Rattle.std.proofs.Math.Bool.{or-false}
-use Rattle.std.proofs.lemmas.Bool.{or_parts}
+use Rattle.std.proofs.lemmas.Bool.{false≢true, or_parts}
 use Rattle.std.proofs.lemmas.Bool.Decides.{nat_tests}
 use Rattle.std.proofs.lemmas.Cmp.{nat_list_eq_equiv}
 use Rattle.std.proofs.lemmas.List.{length_push}
@@ -11,7 +11,8 @@ use Rattle.std.specs.Str.{bytes_eq}
 use Rattle.cluster_terms.proofs.DistinctCounts.{is_member-alike, is_member-push}
 use Rattle.cluster_terms.proofs.GroupLemmas.{has, node_count-same, rack_count-same}
 use Rattle.cluster_terms.specs.Group.{Group, node_count, rack_count}
-use Rattle.node_directory.specs.Tally.{Tallied, nothing, with_new, met_with, met, met_all, lacks}
+use Rattle.cluster_terms.specs.Replication.{whole_group}
+use Rattle.node_directory.specs.Tally.{Tallied, nothing, with_new, met_with, met, met_all, lacks, has_all}
 
 -- ---- distinct keys, no more of them than are asked for
 
@@ -144,6 +145,13 @@ module _ (g : Group) (most_nodes most_racks : ℕ) where
 with_new-full : {K : Type 0} (eq : K → K → Bool) (most : ℕ) (x : K) (xs : List K) → nat_lt (length xs) most ≡ false → with_new eq most x xs ≡ xs
 with_new-full eq most x xs full = ap (λ room. cond (room && not (is_member eq xs x)) (xs ++ x ∷ []) xs) full
 
+with_new-there : {K : Type 0} (eq : K → K → Bool) (most : ℕ) (x : K) (xs : List K) → is_member eq xs x ≡ true → with_new eq most x xs ≡ xs
+with_new-there eq most x xs there = ap (λ old. cond (nat_lt (length xs) most && not old) (xs ++ x ∷ []) xs) there ∙ off (nat_lt (length xs) most)
+  where
+    off : (room : Bool) → cond (room && false) (xs ++ x ∷ []) xs ≡ xs
+    off true = refl
+    off false = refl
+
 -- it stays as it is, whatever nodes are met
 pub met_all_full : (g : Group) (ns : List ℕ) (tally : Tallied) → lacks tally ≡ false → met_all g ns tally ≡ tally
 met_all_full g [] tally full = refl
@@ -155,4 +163,23 @@ met_all_full g (n ∷ ns) tally full = ap (met_all g ns) (none (g.rack_of n)) �
         let parts = or_parts (nat_lt (length tally.nodes) tally.most_nodes) (nat_lt (length tally.racks) tally.most_racks) full in
         let nodes = with_new-full nat_eq tally.most_nodes n tally.nodes parts.0 in
         let racks = with_new-full bytes_eq tally.most_racks rack tally.racks parts.1 in
+        (λ i. record tally { nodes = nodes i; racks = racks i })
+
+-- so does a tally of the group of all nodes that has enough nodes and the one rack
+pub met_all_whole : (rf : ℕ) (ns : List ℕ) (tally : Tallied) → has_all tally ≡ true → met_all (whole_group rf) ns tally ≡ tally
+met_all_whole rf [] tally all = refl
+met_all_whole rf (n ∷ ns) tally all = ap (met_all (whole_group rf) ns) one ∙ met_all_whole rf ns tally all
+  where
+    parts : (nat_lt (length tally.nodes) tally.most_nodes ≡ false) × (is_member bytes_eq tally.racks [] ≡ true)
+    parts = by (nat_lt (length tally.nodes) tally.most_nodes) (is_member bytes_eq tally.racks []) all
+      where
+        by : (room there : Bool) → (not room && there) ≡ true → (room ≡ false) × (there ≡ true)
+        by false true both = (refl, refl)
+        by false false both = absurd (false≢true both)
+        by true there both = absurd (false≢true both)
+
+    one : met (whole_group rf) n tally ≡ tally
+    one =
+        let nodes = with_new-full nat_eq tally.most_nodes n tally.nodes parts.0 in
+        let racks = with_new-there bytes_eq tally.most_racks [] tally.racks parts.1 in
         (λ i. record tally { nodes = nodes i; racks = racks i })

@@ -1,6 +1,6 @@
 -- Tallies of the nodes and the racks met so far, up to the numbers asked for.
 -- Of the code: no promise rests on these.
-use Rattle.std.specs.Prelude.{ℕ, Bool, not, ◌&&◌, ◌||◌, if◌then◌else◌, List, [], ◌∷◌, ◌++◌, length, map, nat_eq, nat_lt, Option, Some, None}
+use Rattle.std.specs.Prelude.{◌≡◌, ℕ, Bool, not, ◌&&◌, ◌||◌, if◌then◌else◌, List, [], ◌∷◌, ◌++◌, length, map, nat_eq, nat_lt, Option, Some, None}
 use Rattle.std.specs.Borrow.{Bor}
 use Rattle.std.specs.Set.{is_member}
 use Rattle.std.specs.Str.{bytes_eq}
@@ -46,3 +46,11 @@ group_tally g ns = met_all g ns (nothing g.rf g.rf)
 -- whether the tally has fewer nodes or fewer racks than asked for
 abbrev pub lacks : Tallied → Bool
 lacks tally = nat_lt (length tally.nodes) tally.most_nodes || nat_lt (length tally.racks) tally.most_racks
+
+-- whether the tally has as many nodes as asked for, and the rack of the group of all nodes, which has the empty name
+abbrev pub has_all : Tallied → Bool
+has_all tally = not (nat_lt (length tally.nodes) tally.most_nodes) && is_member bytes_eq tally.racks []
+
+-- no nodes of the group change the tally
+abbrev pub IsComplete : Group → Tallied → Type 0
+IsComplete g tally = (ns : List ℕ) → met_all g ns tally ≡ tally

@@ -1,8 +1,8 @@
-ghost use Rattle.std.specs.Prelude.{◌≡◌, IfOk};
+ghost use Rattle.std.specs.Prelude.{◌≡◌, IfOk, IsTrue};
 ghost use Rattle.cluster_terms.specs.Group.{nodes_of};
 ghost use Rattle.node_directory.specs.Members.{group_of};
 ghost use Rattle.node_directory.specs.Shape as spec;
-ghost use Rattle.node_directory.specs.Tally.{group_tally};
+ghost use Rattle.node_directory.specs.Tally.{IsComplete, group_tally};
 
 use crate::members::Members;
 use crate::tally::Tally;
@@ -17,14 +17,25 @@ pub struct Shape {
     pub spare: usize,
 }
 
+/// Whether it is known that no node of the group changes the tally. The group of all nodes counts as one rack, so its
+/// tally needs no other rack.
+#[tactic(auto, using(crate::proofs::TallyLemmas::met_all_full, crate::proofs::TallyLemmas::met_all_whole))]
+fn is_complete(members: &Members, tally: &Tally) -> bool
+    ensures { IsTrue result → IsComplete (group_of members.now) tally.now }
+{
+    match members {
+        Members::All(_) => tally.has_all(),
+        Members::Datacenter(..) => !tally.lacks(),
+    }
+}
+
 /// The tally of the pairs' nodes, with at most as many nodes and racks as replicas are asked for.
-#[tactic(auto, using(crate::proofs::TallyLemmas::met_all_full))]
 fn tally_of<'a>(alloc: Global, members: &Members<'a>, pairs: &[Pair]) -> Result<Tally<'a>, Memory>
     ensures { IfOk result (λ tally. tally ≡ group_tally (group_of members.now) (nodes_of pairs.now)) }
 {
     let mut tally = Tally::new(alloc, members.rf(), members.rf())?;
     for pair in pairs {
-        if !tally.lacks() {
+        if is_complete(members, &tally) {
             return Ok(tally);
         }
         tally.meet(members, pair.node)?;
@@ -34,9 +45,9 @@ fn tally_of<'a>(alloc: Global, members: &Members<'a>, pairs: &[Pair]) -> Result<
 
 /// The shape of a group in a ring of these pairs.
 ///
-/// Costs one pass over the pairs. The pass ends once it has met as many nodes and as many racks of the group as there
-/// are to be replicas. A pair costs a look at no more nodes and racks than that, and in a datacenter a look-up in the
-/// directory.
+/// Costs one pass over the pairs. The pass ends once it has met as many nodes and, in a datacenter, as many racks of the
+/// group as there are to be replicas. A pair costs a look at no more nodes and racks than that, and in a datacenter a
+/// look-up in the directory.
 pub fn shape_of(alloc: Global, members: &Members, pairs: &[Pair]) -> Result<Shape, Memory>
     ensures { IfOk result (λ counted. counted ≡ spec.shape_of (nodes_of pairs.now) (group_of members.now)) }
 {

@@ -108,6 +108,13 @@ impl<'a> Tally<'a> {
         self.nodes.len() < self.most_nodes || self.racks.len() < self.most_racks
     }
 
+    /// Whether the tally has as many nodes as asked for, and the rack with the empty name.
+    pub(crate) fn has_all(&self) -> bool
+        ensures { result ≡ spec.has_all self.now }
+    {
+        self.most_nodes <= self.nodes.len() && has_rack(&self.racks, &[])
+    }
+
     /// Removes all nodes and racks.
     pub fn clear(&mut self)
         ensures { self.new ≡ spec.nothing self.old.most_nodes self.old.most_racks }

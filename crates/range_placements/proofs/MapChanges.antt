@@ -1,18 +1,19 @@
 -- Rows changed by a delta whose cuts are cuts of the map: each token's reads and writes change by what the delta shows.
 use Rattle.std.proofs.Common.{◌&&◌, ◌||◌, not, ◌≡◌, ℕ, Bool, true, false, if◌then◌else◌, ℤ, int_lt, int_le, List, [], ◌∷◌, length, map, refl, sym, ap, ◌∙◌, ◌⊎◌, inl, inr, arith}
 use Rattle.std.specs.List.{AllByRecursion, cons_option}
-use Rattle.std.specs.Ordering.{int_eq}
+use Rattle.std.specs.Ordering.{int_eq, nat_cmp}
 use Rattle.std.specs.Set.{is_member}
 use Rattle.std.proofs.lemmas.Bool.{false≢true, or_cases, or_left, or_right, true≢false}
 use Rattle.std.proofs.lemmas.Bool.Decides.{Decides-int_eq}
 use Rattle.std.proofs.lemmas.Int.{ints}
 use Rattle.cluster_terms.proofs.AscendingLemmas.{weaker}
 use Rattle.cluster_terms.proofs.AscendingNumbers.{ascending_from_same_members, ascending_same_numbers, member-put_all_numbers, put_all_increases}
+use Rattle.cluster_terms.specs.Ascending.{put_all}
 use Rattle.cluster_terms.specs.Arc.{IsToken, greatest_token}
 use Rattle.cluster_terms.specs.Row.{last_token}
 use Rattle.cluster_terms.specs.declared.token.RightEnd.{RightEnd}
 use Rattle.cluster_terms.specs.declared.token.RightEnd.TheVariants.{At, Max}
-use Rattle.node_sets.proofs.SetLemmas.{has-without, without_increases}
+use Rattle.node_sets.proofs.SetLemmas.{has-without, without_increases, without_none}
 use Rattle.node_sets.specs.NodeSets.{IsNodeSet, has_node, without}
 use Rattle.placement_deltas.specs.Deltas.{EndAtCuts, change_in, delta_at}
 use Rattle.placement_deltas.specs.declared.delta_row.DeltaRow.{DeltaRow}
@@ -163,13 +164,15 @@ module _ (change : List ℕ × List ℕ → List ℕ × List ℕ → List ℕ ×
       let top : int_le x greatest_token ≡ true = grind (arith, ints) in
       at_end rows x is top ∙ ap (change (map_at rows x)) (sym (in_whole_row rows delta x is cuts top))
 
--- ---- a change of nothing
+-- ---- a change that loses nothing
+
+pub no_loss : (set gained lost : List ℕ) → length lost ≡ 0 → with_change set gained lost ≡ put_all nat_cmp gained set
+no_loss set gained (n ∷ lost) one = absurd (omega arith)
+no_loss set gained [] none = ap (put_all nat_cmp gained) (without_none set)
 
 pub unchanged : (set gained lost : List ℕ) → length gained ≡ 0 → length lost ≡ 0 → with_change set gained lost ≡ set
-unchanged set (n ∷ gained) lost none one = absurd (omega arith)
-unchanged set [] (n ∷ lost) none one = absurd (omega arith)
-unchanged [] [] [] none one = refl
-unchanged (n ∷ set) [] [] none one = ap (λ ns. n ∷ ns) (unchanged set [] [] none one)
+unchanged set (n ∷ gained) lost one none = absurd (omega arith)
+unchanged set [] lost none_gained none_lost = no_loss set [] lost none_lost
 
 -- ---- the nodes of a changed set
 

@@ -27,6 +27,12 @@ pub fn with_change(set: &NodeSet, gained: &NodeSet, lost: &NodeSet) -> Result<No
     if gained.is_empty() && lost.is_empty() {
         return set.copy();
     }
+    if lost.is_empty() {
+        return gained.union(set);
+    }
+    if gained.is_empty() {
+        return set.minus(lost);
+    }
     gained.union(&set.minus(lost)?)
 }
 

@@ -2,6 +2,7 @@ ghost use Rattle.std.specs.Prelude.{◌≡◌};
 ghost use Rattle.transformations.specs.declared.sequence.Phase.TheVariants as phase;
 
 use crate::phase::{Mid, Prepared, Started};
+use locked_ranges::LockKey;
 use placement_deltas::Plan;
 use std::marker::{Model, PhantomData};
 
@@ -9,10 +10,13 @@ use std::marker::{Model, PhantomData};
 /// finished, in this order, or cancelled. Contracts see it as the plan with which it was prepared. No step changes the
 /// plan: its row stays at `Prepared`, and the type tells the phase.
 ///
+/// The movement holds the key to the lock of its ranges. The call that ends the movement gives the key back.
+///
 /// The value must be consumed. Code doesn't compile if it drops a `Seq`, uses a `Seq` twice, or takes a step out of
 /// order, such as `finish` of a `Seq<Started>`.
 pub struct Seq<P> {
     plan: Plan,
+    key: LockKey,
     at: PhantomData<P>,
 }
 
@@ -25,7 +29,7 @@ impl<P> Model for Seq<P> {
 
     ghost view = { λ s. s.plan };
 
-    ghost invariant = { λ s. s.plan.row.phase ≡ phase.Prepared };
+    ghost invariant = { λ s. (s.plan.row.phase ≡ phase.Prepared) × (s.key ≡ s.plan.row.node) };
 }
 
 impl<P> Seq<P> {
@@ -37,46 +41,53 @@ impl<P> Seq<P> {
         &self.plan
     }
 
-    /// Consumes the movement and returns its plan.
-    fn into_plan(self) -> Plan
-        ensures plan { result ≡ self }
-        ensures prepared { result.row.phase ≡ phase.Prepared }
-    {
-        let Seq { plan, at: _ } = self;
-        plan
-    }
-
     /// The same movement at another phase.
     fn at<Q>(self) -> Seq<Q>
         ensures { result ≡ self }
     {
+        let Seq { plan, key, at: _ } = self;
         Seq {
-            plan: self.into_plan(),
+            plan,
+            key,
             at: PhantomData,
         }
+    }
+
+    /// Consumes the movement, and returns the key to its lock.
+    fn into_key(self) -> LockKey
+        ensures { result ≡ self.row.node }
+    {
+        let Seq {
+            plan: _,
+            key,
+            at: _,
+        } = self;
+        key
     }
 }
 
 impl Seq<Prepared> {
-    /// The movement of a plan whose row is at `Prepared`.
-    pub fn begin(plan: Plan) -> Seq<Prepared>
-        requires { plan.row.phase ≡ phase.Prepared }
+    /// The movement of a plan whose row is at `Prepared`, with the key to the lock of its node.
+    pub fn begin(plan: Plan, key: LockKey) -> Seq<Prepared>
+        requires phase { plan.row.phase ≡ phase.Prepared }
+        requires key { key ≡ plan.row.node }
         ensures { result ≡ plan }
     {
         Seq {
             plan,
+            key,
             at: PhantomData,
         }
     }
 
-    /// Cancels the movement, which ends it, and returns its plan unchanged.
-    pub fn cancel(self) -> Plan
-        ensures { result ≡ self }
+    /// Cancels the movement, which ends it, and gives back the key to its lock.
+    pub fn cancel(self) -> LockKey
+        ensures { result ≡ self.row.node }
     {
-        self.into_plan()
+        self.into_key()
     }
 
-    /// Starts the movement. Its plan stays.
+    /// Starts the movement. Its plan and its key stay.
     pub fn start(self) -> Seq<Started>
         ensures { result ≡ self }
     {
@@ -85,14 +96,14 @@ impl Seq<Prepared> {
 }
 
 impl Seq<Started> {
-    /// Cancels the movement, which ends it, and returns its plan unchanged.
-    pub fn cancel(self) -> Plan
-        ensures { result ≡ self }
+    /// Cancels the movement, which ends it, and gives back the key to its lock.
+    pub fn cancel(self) -> LockKey
+        ensures { result ≡ self.row.node }
     {
-        self.into_plan()
+        self.into_key()
     }
 
-    /// Brings the movement half way. Its plan stays.
+    /// Brings the movement half way. Its plan and its key stay.
     pub fn mid(self) -> Seq<Mid>
         ensures { result ≡ self }
     {
@@ -101,18 +112,18 @@ impl Seq<Started> {
 }
 
 impl Seq<Mid> {
-    /// Cancels the last step: the movement goes back to `Started`, and its plan stays. If one epoch ended the movement
-    /// from here, quorums of adjacent epochs might not meet.
+    /// Cancels the last step: the movement goes back to `Started`, and its plan and its key stay. If one epoch ended the
+    /// movement from here, quorums of adjacent epochs might not meet.
     pub fn cancel(self) -> Seq<Started>
         ensures { result ≡ self }
     {
         self.at()
     }
 
-    /// Finishes the movement, and returns its plan unchanged.
-    pub fn finish(self) -> Plan
-        ensures { result ≡ self }
+    /// Finishes the movement, and gives back the key to its lock.
+    pub fn finish(self) -> LockKey
+        ensures { result ≡ self.row.node }
     {
-        self.into_plan()
+        self.into_key()
     }
 }

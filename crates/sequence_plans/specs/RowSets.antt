@@ -1,5 +1,5 @@
 -- What a movement changes in each row between cuts. Of the code: no promise rests on these.
-use Rattle.std.specs.Prelude.{◌≡◌, ℕ, ℤ, if◌then◌else◌, List, [], map}
+use Rattle.std.specs.Prelude.{◌≡◌, ℕ, ℤ, if◌then◌else◌, List, [], ◌∷◌, ◌++◌, map}
 use Rattle.cluster_terms.specs.Row.{last_token}
 use Rattle.cluster_terms.specs.declared.row.TokenRange.{TokenRange}
 use Rattle.node_sets.specs.NodeSets.{without}
@@ -17,3 +17,11 @@ pub record AreRowSets (ranges : List TokenRange) (one other : ℤ → List ℕ) 
   pub gained : sets.gained.items ≡ map (λ row. without (within ranges other row) (within ranges one row)) rows
   pub lost : sets.lost.items ≡ map (λ row. without (within ranges one row) (within ranges other row)) rows
   pub none : sets.none.items ≡ map (λ row. []) rows
+
+-- the sets with one more row, which has these nodes before and after the movement
+pub record AreWithRow (old : RowSets) (one other : List ℕ) (new : RowSets) : Type 0 where
+  pub before : new.before.items ≡ old.before.items ++ one ∷ []
+  pub after : new.after.items ≡ old.after.items ++ other ∷ []
+  pub gained : new.gained.items ≡ old.gained.items ++ without other one ∷ []
+  pub lost : new.lost.items ≡ old.lost.items ++ without one other ∷ []
+  pub none : new.none.items ≡ old.none.items ++ [] ∷ []

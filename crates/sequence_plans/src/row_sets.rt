@@ -1,11 +1,10 @@
 //! What a movement changes in each row between cuts, under one replication.
 
-ghost use Rattle.std.specs.Prelude.{◌≡◌, [], IfOk};
+ghost use Rattle.std.specs.Prelude.{[], IfOk, OnOk};
 ghost use Rattle.sequence_plans.specs.Placers.{placed_by};
-ghost use Rattle.sequence_plans.specs.RowSets.{AreRowSets, within};
+ghost use Rattle.sequence_plans.specs.RowSets.{AreRowSets, AreWithRow, within};
 
 use crate::movement_rings::MovementPlacers;
-use crate::placer::Placer;
 use cluster_terms::{Memory, Steps, TokenRange};
 use node_sets::NodeSet;
 use std::alloc::Global;
@@ -22,24 +21,6 @@ pub struct RowSets {
     pub none: Vec<NodeSet>,
 }
 
-/// The replicas at the last token of a row, if the ranges contain it. Elsewhere none, and no walk.
-fn placed_in<L: Ledger>(
-    alloc: Global,
-    placer: &Placer,
-    ranges: &RangeList,
-    row: &TokenRange,
-    walks: &mut Steps<L>,
-) -> Result<NodeSet, Memory>
-    ensures { IfOk result (λ set. set ≡ within ranges.now (placed_by placer.now) row.now) }
-{
-    let last = row.last_token();
-    if ranges.contains(last) {
-        placer.place(alloc, last, walks)
-    } else {
-        Ok(NodeSet::empty(alloc))
-    }
-}
-
 impl RowSets {
     /// No row yet, and room for this many.
     fn empty(alloc: Global, count: usize) -> Result<RowSets, Memory>
@@ -52,6 +33,54 @@ impl RowSets {
             lost: Vec::with_capacity(alloc, count)?,
             none: Vec::with_capacity(alloc, count)?,
         })
+    }
+
+    /// Adds a row with these nodes before the movement and after it.
+    fn push(&mut self, alloc: Global, before: NodeSet, after: NodeSet) -> Result<(), Memory>
+        ensures { OnOk result (AreWithRow self.old before after self.new) }
+    {
+        self.gained.push(after.minus(&before)?)?;
+        self.lost.push(before.minus(&after)?)?;
+        self.before.push(before)?;
+        self.after.push(after)?;
+        self.none.push(NodeSet::empty(alloc))?;
+        Ok(())
+    }
+
+    /// Adds a row with no nodes before the movement and after it.
+    fn push_empty(&mut self, alloc: Global) -> Result<(), Memory>
+        ensures { OnOk result (AreWithRow self.old [] [] self.new) }
+    {
+        self.gained.push(NodeSet::empty(alloc))?;
+        self.lost.push(NodeSet::empty(alloc))?;
+        self.before.push(NodeSet::empty(alloc))?;
+        self.after.push(NodeSet::empty(alloc))?;
+        self.none.push(NodeSet::empty(alloc))?;
+        Ok(())
+    }
+
+    /// Adds the sets of a row. Two walks if the ranges contain its last token, and none otherwise.
+    fn push_row<L: Ledger>(
+        &mut self,
+        alloc: Global,
+        placers: &MovementPlacers,
+        ranges: &RangeList,
+        row: &TokenRange,
+        walks: &mut Steps<L>,
+    ) -> Result<(), Memory>
+        ensures { OnOk result (AreWithRow self.old
+            (within ranges.now (placed_by placers.now.before) row.now)
+            (within ranges.now (placed_by placers.now.after) row.now)
+            self.new) }
+    {
+        let last = row.last_token();
+        if ranges.contains(last) {
+            let before = placers.before.place(alloc, last, walks)?;
+            let after = placers.after.place(alloc, last, walks)?;
+            self.push(alloc, before, after)
+        } else {
+            self.push_empty(alloc)
+        }
     }
 
     /// The sets of these rows. Two walks for each row in the ranges, and none elsewhere. `Err` means that memory ran
@@ -67,13 +96,7 @@ impl RowSets {
     {
         let mut sets = RowSets::empty(alloc, rows.len())?;
         for row in rows {
-            let before = placed_in(alloc, &placers.before, ranges, row, walks)?;
-            let after = placed_in(alloc, &placers.after, ranges, row, walks)?;
-            sets.gained.push(after.minus(&before)?)?;
-            sets.lost.push(before.minus(&after)?)?;
-            sets.before.push(before)?;
-            sets.after.push(after)?;
-            sets.none.push(NodeSet::empty(alloc))?;
+            sets.push_row(alloc, placers, ranges, row, walks)?;
         }
         Ok(sets)
     }

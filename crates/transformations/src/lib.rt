@@ -5,6 +5,7 @@ pub mod command;
 pub mod entry;
 pub mod image;
 pub mod keyspace;
+mod pair_search;
 mod prepares;
 pub mod refusal;
 pub mod refusals;

@@ -1,6 +1,6 @@
-ghost use Rattle.std.specs.Prelude.{◌≡◌, ◌<ℤ◌, ◌≤ℤ◌, ◌≤◌, [], ◌∷◌, length, not, IfOk, IsTrue, MatchOption};
+ghost use Rattle.std.specs.Prelude.{◌≡◌, [], ◌∷◌, not, IfOk, IsTrue, MatchOption};
 ghost use Rattle.std.specs.List.{list_any};
-ghost use Rattle.std.specs.List.Sorted.{IsPartitionPoint, IsStrictlySortedBy};
+ghost use Rattle.std.specs.List.Sorted.{IsStrictlySortedBy};
 ghost use Rattle.std.specs.Ordering.{int_eq};
 ghost use Rattle.transformations.specs.Orders.{by_token};
 ghost use Rattle.transformations.specs.Refusals.{may_move_or_leave, has_keyspace, in_sequence, may_join, may_be_removed, is_registered, is_taken, keyspaces_full, name_taken, no_keyspace, no_node, no_sequence, nodes_full, not_idle, first_of, early_refusal_of, refused_if, token_taken, tokens_full, wrong_state, wrong_step};
@@ -9,6 +9,7 @@ ghost use Rattle.transformations.specs.declared.command.Command.TheVariants as c
 
 use crate::command::Command;
 use crate::image::Image;
+use crate::pair_search::{ascend, finds};
 use crate::prepares::{no_tokens, not_one_token, other_rack, too_few_nodes};
 use crate::refusal::Refusal;
 use crate::sequence::{Goal, Kind, SeqRow};
@@ -157,31 +158,6 @@ fn is_brought(sequences: &[SeqRow], token: Token) -> bool
     sequences
         .iter()
         .any(|row| has_token(row.in_pairs.as_slice(), token))
-}
-
-/// Whether the tokens strictly ascend.
-fn ascend(pairs: &[Pair]) -> bool
-    ensures { IsTrue result → IsStrictlySortedBy by_token pairs.now }
-{
-    pairs.is_sorted_by(|a, b| a.token < b.token)
-}
-
-/// The number of pairs below token `t` in an ascending list.
-fn count_below(pairs: &[Pair], t: Token) -> usize
-    requires { IsStrictlySortedBy by_token pairs.now }
-    ensures bound { result ≤ length pairs.now }
-    ensures split { IsPartitionPoint (λ p. p.token <ℤ t) (λ p. t ≤ℤ p.token) pairs.now result }
-{
-    pairs.partition_point(|pair| pair.token < t)
-}
-
-/// Whether a pair in an ascending list has this token. The cost is a binary search.
-fn finds(pairs: &[Pair], token: Token) -> bool
-    requires { IsStrictlySortedBy by_token pairs.now }
-    ensures { result ≡ list_any (λ p. int_eq p.token token) pairs.now }
-{
-    let below = count_below(pairs, token);
-    below < pairs.len() && pairs[below].token == token
 }
 
 /// Whether a pair in a list has this token. `ascending` tells that the tokens of the list are known to ascend. Then the

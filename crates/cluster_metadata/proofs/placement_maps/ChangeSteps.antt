@@ -11,7 +11,7 @@ use Rattle.transformations.specs.declared.image.Image.{Image}
 use Rattle.transformations.specs.declared.sequence.Goal.TheVariants as goal
 use Rattle.transformations.specs.declared.sequence.Phase.TheVariants as phase
 use Rattle.transformations.specs.declared.sequence.SeqRow.{SeqRow}
-use Rattle.cluster_metadata.specs.Change.{BringsDeltas, Follows, changed, in_phase}
+use Rattle.cluster_metadata.specs.Change.{BringsPlan, Follows, changed, in_phase}
 use Rattle.cluster_metadata.specs.MapSteps.{MapSteps, MovesAt, MovesBy, MovesOf, Stays, no_deltas}
 use Rattle.cluster_metadata.specs.declared.change.Change.{Change}
 use Rattle.cluster_metadata.specs.declared.change.Change.TheVariants.{Registered, Unregistered, Begun, Started, Mid, Finished, Ended, BroughtBack}
@@ -66,8 +66,8 @@ module _ (image : Image) (change : Change) (at : ℕ) where
     pub begun_moves : (plan : Plan) → change ≡ Begun at plan rows → MapSteps image change → MovesBy image (changed image change) no_deltas
     begun_moves plan is steps = subst (λ c. MapSteps image c → MovesBy image (changed image c) no_deltas) (sym is) (λ s. s) steps
 
-    pub begun_deltas : (plan : Plan) → change ≡ Begun at plan rows → BringsDeltas image change → HasDeltas (changed image (Begun at plan rows)) plan
-    begun_deltas plan is brings = subst (BringsDeltas image) is brings
+    pub begun_deltas : (plan : Plan) → change ≡ Begun at plan rows → BringsPlan image change → HasDeltas (changed image (Begun at plan rows)) plan
+    begun_deltas plan is brings = (subst (BringsPlan image) is brings).0
 
     module _ (left : Option LeftRow) (tokens : List Pair) where
       pub finished_at : change ≡ Finished at left tokens rows → Follows image.sequences change → HasAt image.sequences at (λ s. s.phase ≡ phase.Mid)

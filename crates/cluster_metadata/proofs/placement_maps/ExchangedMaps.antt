@@ -12,7 +12,7 @@ use Rattle.transformations.specs.declared.image.Image.{Image}
 use Rattle.transformations.specs.declared.keyspace.KeyspaceRow.{KeyspaceRow}
 use Rattle.cluster_metadata.specs.Change.{changed}
 use Rattle.cluster_metadata.specs.MapChanges.{BringsMaps, maps_after}
-use Rattle.cluster_metadata.specs.Maps.{AreMaps, IsMapOf, placement_rows}
+use Rattle.cluster_metadata.specs.Maps.{AreMaps, AreMapsOf, IsMapOf, placement_rows}
 use Rattle.cluster_metadata.specs.declared.change.Change.{Change}
 use Rattle.cluster_metadata.specs.declared.change.Change.TheVariants.{Keyspaces, Tokens}
 use Rattle.cluster_metadata.specs.declared.map_change.MapChange.{MapChange}
@@ -52,6 +52,15 @@ made_from image change maps own has are book was = subst (λ b. AreMaps (changed
 pub same_count : (image : Image) (book : List MapRow) (deltas : List DeltaBookRow) (gained lost : Replication → ℤ → List ℕ) → AreMaps image book → AreDeltas (replications_of image.keyspaces) gained lost deltas → length book ≡ length deltas
 same_count image book deltas gained lost are exact =
     sym (length-map book (λ (row : MapRow). row.replication)) ∙ ap length (are.replications ∙ sym exact.rows) ∙ length-map deltas (λ (row : DeltaBookRow). row.replication)
+
+-- maps that are placed under new keyspaces
+pub keyspace_maps : (image : Image) (change : Change) (rows : List KeyspaceRow) (next : List MapRow) → change ≡ Keyspaces rows → AreMapsOf image (replications_of rows) next → AreMaps (changed image change) next
+unfolding reads_at writes_at
+keyspace_maps image change rows next is are = subst (λ c. AreMaps (changed image c) next) (sym is) (record { replications = are.replications; placements = each next are.placements })
+  where
+    each : (book : List MapRow) → AllByRecursion (IsMapOf image) book → AllByRecursion (IsMapOf (changed image (Keyspaces rows))) book
+    each [] all = tt
+    each (row ∷ book) all = ((all.0.0, all.0.1), each book all.1)
 
 -- without keyspaces there are no maps, and new tokens bring none
 pub no_maps : (image : Image) (change : Change) (pairs : List Pair) → change ≡ Tokens pairs → image.keyspaces ≡ [] → BringsMaps image change Keep

@@ -29,7 +29,7 @@ use Rattle.transformations.specs.declared.keyspace.KeyspaceRow.{KeyspaceRow}
 use Rattle.cluster_metadata.proofs.placement_maps.ImageMaps.{row_count, served_at, some_row}
 use Rattle.cluster_metadata.proofs.LockLemmas.{any_replications}
 use Rattle.cluster_metadata.specs.MapBasis.{AreRings, PlaceOnRings, row_placed}
-use Rattle.cluster_metadata.specs.Maps.{AreMaps, IsMapOf, placement_row, placement_rows}
+use Rattle.cluster_metadata.specs.Maps.{AreMaps, AreMapsOf, IsMapOf, placement_row, placement_rows}
 use Rattle.cluster_metadata.specs.Served.{keyspace_of, served, served_by}
 use Rattle.cluster_metadata.specs.declared.map_row.MapRow.{MapRow}
 use Rattle.cluster_metadata.specs.declared.placers.Placers.{Placers}
@@ -61,11 +61,6 @@ module _ (image : Image) (rings : Rings) (nodes : List NodeRow) (r : Replication
   placed_rows ranges ends = map_same (row_placed placers) (placement_row image r) row_same ranges ∙ ap (map (placement_row image r)) ends
 
 -- ---- a book of the first keyspaces
-
--- a book has the maps of some replications of an image
-pub record AreMapsOf (image : Image) (rs : List Replication) (book : List MapRow) : Type 0 where
-  pub replications : map (λ (row : MapRow). row.replication) book ≡ rs
-  pub placements : AllByRecursion (IsMapOf image) book
 
 pub any_row : (r : Replication) (book : List MapRow) → list_any (λ (row : MapRow). same_replication row.replication r) book ≡ list_any (λ q. same_replication q r) (map (λ (row : MapRow). row.replication) book)
 any_row r [] = refl

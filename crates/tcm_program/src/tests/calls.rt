@@ -1,14 +1,8 @@
-//! Calls that no script makes, a test for each crate.
+//! Calls that no script makes, beside the worked scripts whose openings and texts they share.
 
 mod deltas;
-mod directory;
 mod edges;
-mod follower;
-mod log;
 mod metadata;
 mod plans;
-mod reach;
 mod rings;
 mod sets;
-mod terms;
-mod wire;

@@ -3,7 +3,7 @@
 use crate::tests::running::Script;
 
 /// Leaves and moves of six nodes.
-pub const ON_SIX: [Script; 6] = [
+pub const ON_SIX: [Script; 7] = [
     (
         "leave-widens",
         "commit 14 prepare-leave 2\n\
@@ -80,6 +80,51 @@ pub const ON_SIX: [Script; 6] = [
             (300,400] read 5,6 write 5,6\n\
             (400,500] read 1,6 write 1,6\n\
             (500,max] read 1,2 write 1,2\n",
+    ),
+    (
+        "one of two movements ends, and a third takes its ranges",
+        "commit 14 register g dc1 r1\n\
+            commit 15 register h dc1 r1\n\
+            commit 16 register i dc1 r1\n\
+            commit 17 prepare-join 7 50\n\
+            commit 18 prepare-join 8 350\n\
+            commit 19 prepare-join 9 70\n\
+            commit 20 start-join 7\n\
+            commit 21 mid-join 7\n\
+            commit 22 prepare-join 9 70\n\
+            commit 23 finish-join 7\n\
+            commit 24 prepare-join 9 370\n\
+            commit 25 prepare-join 9 70\n\
+            commit 26 start-join 8\n\
+            commit 27 cancel 8\n\
+            commit 28 prepare-join 8 370\n\
+            nodes @24\n",
+        "OK 14\n\
+            OK 15\n\
+            OK 16\n\
+            OK 17\n\
+            OK 18\n\
+            NO LOCKED 7 0\n\
+            OK 19\n\
+            OK 20\n\
+            NO LOCKED 7 0\n\
+            OK 21\n\
+            NO LOCKED 8 300\n\
+            OK 22\n\
+            OK 23\n\
+            OK 24\n\
+            OK 25\n\
+            NODES 24 9 1\n\
+            1 a dc1 r1 JOINED 0\n\
+            2 b dc1 r1 JOINED 100\n\
+            3 c dc1 r1 JOINED 200\n\
+            4 d dc1 r1 JOINED 300\n\
+            5 e dc1 r1 JOINED 400\n\
+            6 f dc1 r1 JOINED 500\n\
+            7 g dc1 r1 JOINED 50\n\
+            8 h dc1 r1 REGISTERED -\n\
+            9 i dc1 r1 REGISTERED -\n\
+            SEQ 9 join PREPARED out - in 70@9\n",
     ),
     (
         "two movements lock, and the least node is shown",

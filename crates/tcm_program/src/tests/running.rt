@@ -2,7 +2,7 @@
 
 ghost use Rattle.std.specs.Prelude.{◌≤◌};
 
-use cluster_terms::{ByteText, Name};
+use cluster_terms::ByteText;
 use std::alloc::Global;
 use std::process::Abort;
 use std::test::Fail;
@@ -11,11 +11,6 @@ use tcm_session::{Status, run_surely};
 
 /// The name of a script, its lines, and their answers.
 pub type Script = (&'static str, &'static str, &'static str);
-
-/// A name.
-pub fn name_of(alloc: Global, text: &str) -> Result<Name, Fail> {
-    Ok(Name::from_text(alloc, text)?.ok_or("no name")?)
-}
 
 /// A text.
 pub fn text_of(alloc: Global, text: &[u8]) -> Result<ByteText, Fail> {

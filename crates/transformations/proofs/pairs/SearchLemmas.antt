@@ -1,5 +1,5 @@
 -- Searches in pairs whose tokens ascend.
-use Rattle.std.proofs.Common.{◌≡◌, ℕ, ◌<◌, ◌≤◌, Bool, true, false, true≢false, IsTrue, ℤ, ◌<ℤ◌, ◌≤ℤ◌, int_lt, pos, List, length, get_or, refl, sym, ◌⊎◌, inl, inr, arith}
+use Rattle.std.proofs.Common.{◌≡◌, ℕ, ◌<◌, ◌≤◌, Bool, true, false, true≢false, IsTrue, ℤ, ◌<ℤ◌, ◌≤ℤ◌, int_lt, pos, ◌==◌, ◌&&◌, ◌||◌, List, [], ◌∷◌, length, get_or, refl, sym, ap, ◌∙◌, ◌⊎◌, inl, inr, arith}
 use Rattle.std.proofs.lemmas.Bool.{cases_lt}
 use Rattle.std.proofs.lemmas.Int.{ints}
 use Rattle.std.proofs.lemmas.List.{get_or_default}
@@ -8,6 +8,7 @@ use Rattle.std.proofs.lemmas.Map.Keys.{Less-from_sorted, sorted_from_all_adjacen
 use Rattle.std.specs.List.{IsAllAdjacentAnswer, list_any}
 use Rattle.std.specs.List.Sorted.{IsPartitionPoint, IsPartitionedBy, IsStrictlySortedBy}
 use Rattle.std.specs.Ordering.{int_eq}
+use Rattle.cluster_terms.specs.Pair.{has_pair, same_pair, without_pairs}
 use Rattle.cluster_terms.specs.declared.token.Pair.{Pair}
 use Rattle.transformations.proofs.pairs.RingPairs.{by_token_total}
 use Rattle.transformations.specs.Orders.{by_token}
@@ -60,3 +61,50 @@ has_first ps t n up split d in_n = by (int_eq (get_or ps n d).token t) refl
 
 pub has_none : (ps : List Pair) (t : ℤ) (n : ℕ) → IsPartitionPoint (λ p. p.token <ℤ t) (λ p. t ≤ℤ p.token) ps n → length ps ≤ n → false ≡ list_any (λ p. int_eq p.token t) ps
 has_none ps t n split all = sym (list_any_none (λ (p : Pair). int_eq p.token t) ps (λ k f in_k. let l = split.0 k f (omega arith) (omega arith) in grind (arith, ints, l)))
+
+-- ---- whole pairs
+
+has_pair-any : (p : Pair) (ps : List Pair) → has_pair ps p ≡ list_any (same_pair p) ps
+has_pair-any p [] = refl
+has_pair-any p (q ∷ ps) = ap (λ b. same_pair p q || b) (has_pair-any p ps)
+
+-- pairs with different tokens are different
+below_differs : (p q : Pair) → q.token <ℤ p.token → same_pair p q ≡ false
+below_differs p q less = let other : int_eq p.token q.token ≡ false = grind (arith, ints, less) in ap (λ b. b && (p.node == q.node)) other
+
+above_differs : (p q : Pair) → p.token <ℤ q.token → same_pair p q ≡ false
+above_differs p q less = let other : int_eq p.token q.token ≡ false = grind (arith, ints, less) in ap (λ b. b && (p.node == q.node)) other
+
+-- a pair is there exactly where the first one whose token is not below its own is the same
+pub has_first_pair : (ps : List Pair) (p : Pair) (n : ℕ) → IsStrictlySortedBy by_token ps → IsPartitionPoint (λ q. q.token <ℤ p.token) (λ q. p.token ≤ℤ q.token) ps n → (d : Pair) → n < length ps → same_pair p (get_or ps n d) ≡ has_pair ps p
+has_first_pair ps p n up split d in_n = by (same_pair p (get_or ps n d)) refl ∙ sym (has_pair-any p ps)
+  where
+    by : (b : Bool) → same_pair p (get_or ps n d) ≡ b → b ≡ list_any (same_pair p) ps
+    by true e = sym (list_any_at (same_pair p) ps n d in_n e)
+    by false e = sym (list_any_none (same_pair p) ps apart)
+      where
+        apart : (k : ℕ) (f : Pair) → k < length ps → same_pair p (get_or ps k f) ≡ false
+        apart k f in_k = at (cases_lt k n)
+          where
+            after : (n < k) ⊎ (k ≤ n) → n ≤ k → same_pair p (get_or ps k f) ≡ false
+            after (inl past) high =
+                let l = Less-from_sorted by_token ps n k f up past in_k in
+                let m = split.1 n f (omega arith) in_n in
+                above_differs p (get_or ps k f) (grind (arith, ints, l, m))
+            after (inr le) high =
+                let same : k ≡ n = omega arith in
+                rw same (ap (same_pair p) (get_or_default ps n f d in_n) ∙ e)
+
+            at : (k < n) ⊎ (n ≤ k) → same_pair p (get_or ps k f) ≡ false
+            at (inl low) = below_differs p (get_or ps k f) (split.0 k f (omega arith) low)
+            at (inr high) = after (cases_lt n k) high
+
+pub has_no_pair : (ps : List Pair) (p : Pair) (n : ℕ) → IsPartitionPoint (λ q. q.token <ℤ p.token) (λ q. p.token ≤ℤ q.token) ps n → length ps ≤ n → false ≡ has_pair ps p
+has_no_pair ps p n split all =
+    sym (has_pair-any p ps ∙ list_any_none (same_pair p) ps (λ k f in_k. below_differs p (get_or ps k f) (split.0 k f (omega arith) (omega arith))))
+
+-- nothing is taken out where there is nothing to take out
+pub without_no_pairs : (ps gone : List Pair) → length gone ≡ 0 → without_pairs ps gone ≡ ps
+without_no_pairs ps (p ∷ gone) some = absurd (omega arith)
+without_no_pairs [] [] none = refl
+without_no_pairs (p ∷ ps) [] none = ap (λ qs. p ∷ qs) (without_no_pairs ps [] none)

@@ -1,3 +1,7 @@
+use Rattle.std.proofs.Common.{◌∙◌}
+use Rattle.cluster_metadata.proofs.LockPlaces.{key_fits, key_unlocks}
+use Rattle.transformations.specs.declared.sequence.SeqRow.{SeqRow}
+use Rattle.transformations.specs.Rings.{is_mid}
 use Rattle.cluster_metadata.proofs.RunningLemmas.{map_remove, running_remove}
 use Rattle.cluster_metadata.specs.Running.{plan_of}
 use Rattle.cluster_metadata.proofs.enact.end.Goals as goal
@@ -7,3 +11,9 @@ returns-clause-running c = rw c.remove.ensures.items (running_remove _ _ c.args.
 
 pub returns-clause-plans : goal.returns-clause-plans
 returns-clause-plans c = rw c.remove.ensures.items (map_remove plan_of _ c.args.at)
+
+pub unlock-requires : goal.unlock-requires
+unlock-requires c = rw c.give_up-key.ensures (key_fits (λ (s : SeqRow). is_mid s.phase) _ _ _ _ _ _ c.requires.running c.requires.names c.requires.early c.remove.ensures.value)
+
+pub returns-clause-locks : goal.returns-clause-locks
+returns-clause-locks c = c.unlock.ensures ∙ rw c.give_up-key.ensures (key_unlocks (λ (s : SeqRow). is_mid s.phase) _ _ _ _ _ _ c.requires.running c.requires.names c.requires.early c.remove.ensures.value c.requires.movements)

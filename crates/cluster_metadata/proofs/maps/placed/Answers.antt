@@ -1,10 +1,9 @@
-use Rattle.std.proofs.Common.{◌≡◌, ◌+◌, ◌<◌, List, ◌∷◌, [], ◌++◌, ap, sym, ◌∙◌, subst, take, length, get_or}
+use Rattle.std.proofs.Common.{◌≡◌, ◌+◌, ◌<◌, ◌∷◌, [], ◌++◌, ap, sym, ◌∙◌, subst, take, length, get_or}
 use Rattle.std.specs.List.{list_any}
 use Rattle.cluster_terms.specs.Replication.{same_replication}
-use Rattle.cluster_metadata.proofs.placement_maps.MapBooks.{AreMapsOf, map_added, map_shown}
-use Rattle.cluster_metadata.specs.Maps.{IsMapOf}
+use Rattle.cluster_metadata.proofs.placement_maps.MapBooks.{map_added, map_shown}
+use Rattle.cluster_metadata.specs.Maps.{AreMapsOf, IsMapOf}
 use Rattle.cluster_metadata.specs.declared.map_row.MapRow.{MapRow}
-use Rattle.transformations.specs.declared.keyspace.KeyspaceRow.{KeyspaceRow}
 use Rattle.sequence_plans.specs.Replications.{replications_of}
 use Rattle.cluster_metadata.proofs.maps.placed.Goals as goal
 use Rattle.cluster_metadata.proofs.maps.placed.Goals.{then-not-has+in_ok-replication+in_ok-map+in_ok-push, else-not-has}
@@ -13,12 +12,11 @@ use Rattle.cluster_metadata.proofs.maps.placed.Goals.{then-not-has+in_ok-replica
 pub loop-row-preserved : goal.loop-row-preserved
 loop-row-preserved g c =
     let image = c.args.image.now in
-    let ks = image.keyspaces in
+    let ks = c.args.keyspaces.now in
     let i = c.loop-row.row-index in
     let k = c.row-item.result in
-    let seen : c.as_slice-row-items.result.now ≡ ks = c.as_slice-row-items.ensures in
-    let within : i < length ks = subst (λ (l : List KeyspaceRow). i < length l) seen c.loop-row-test.true in
-    let is : k ≡ get_or ks i k = subst (λ (l : List KeyspaceRow). k ≡ get_or l i k) seen c.row-item.is in
+    let within : i < length ks = c.loop-row-test.true in
+    let is : k ≡ get_or ks i k = c.row-item.is in
     let told : c.has.result ≡ list_any (λ (row : MapRow). same_replication row.replication k.replication) c.loop-row.book =
     c.has.ensures ∙ ap (list_any (λ (row : MapRow). same_replication row.replication k.replication)) c.as_slice.ensures in
     elim c.if-not-has.branch [

@@ -13,4 +13,5 @@ invariant_of-result c =
       maps = rw (c.empty-5.ensures, c.empty-2.ensures, c.empty-3.ensures, c.empty-4.ensures) (record { replications = refl; placements = tt });
       running = running;
       deltas = rw c.new.ensures.items tt;
+      locks = rw (c.empty-4.ensures, c.empty-6.ensures) tt;
     }

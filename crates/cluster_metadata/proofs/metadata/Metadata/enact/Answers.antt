@@ -4,6 +4,9 @@ use Rattle.transformations.specs.Meeting.{QuorumsMeet, makes_movement_epoch}
 use Rattle.transformations.specs.Ranges.{KeepsRanges}
 use Rattle.transformations.specs.Valid.{IsValid}
 use Rattle.cluster_metadata.proofs.DeltasAcross.{deltas_across}
+use Rattle.cluster_metadata.proofs.LockPlaces.{locks_named}
+use Rattle.cluster_metadata.proofs.LocksKept.{locks_held}
+use Rattle.cluster_metadata.proofs.LocksTaken.{may_lock}
 use Rattle.cluster_metadata.proofs.PermitOutcomes.{acts_by_delta, cuts_move, keeps_ranges, placed, placements, quorums_meet, replications_kept, rings, valid_after}
 use Rattle.cluster_metadata.proofs.PlanLemmas.{deltas_held}
 use Rattle.cluster_metadata.specs.CutDeltas.{ActsByDelta, CutsMove}
@@ -31,7 +34,19 @@ invariant_of-self c =
       running = c.make.ensures.running;
       deltas = deltas_held c.self.inside.image c.make.new.image _ _ _ _ permitted c.make.ensures.made c.self.invariant.valid c.self.invariant.running c.self.invariant.deltas
           (valid c).sound.movements c.make.ensures.running c.make.ensures.plans;
+      locks = rw c.make.ensures.locks
+          (locks_held c.self.inside.image c.make.new.image _ _ _ _ _ permitted c.make.ensures.made c.self.invariant.valid c.self.invariant.running c.self.invariant.locks
+          (valid c).sound.movements c.make.ensures.running c.make.ensures.plans);
     }
+
+pub make-requires-clause-names : goal.make-requires-clause-names
+make-requires-clause-names c = locks_named _ _ _ c.self.invariant.locks
+
+pub make-requires-clause-free : goal.make-requires-clause-free
+make-requires-clause-free c =
+    let same : c.permit.inside.image.value ≡ c.self.inside.image = cc in
+    let permitted = rw same at c.permit.invariant.0 in
+    may_lock c.self.inside.image _ _ _ permitted c.self.invariant.valid c.self.invariant.locks
 
 pub returns-clause-apart : goal.returns-clause-apart
 returns-clause-apart c = (valid c).apart

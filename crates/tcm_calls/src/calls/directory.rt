@@ -1,6 +1,6 @@
 //! Directories of nodes.
 
-use crate::tests::running::name_of;
+use crate::calls::name_of;
 use cluster_terms::{NodeId, NodeRow, TryCopy};
 use node_directory::Directory;
 use std::alloc::Global;

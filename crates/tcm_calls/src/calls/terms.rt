@@ -1,6 +1,6 @@
 //! Replications and their texts, factors, and tokens in order.
 
-use crate::tests::running::name_of;
+use crate::calls::name_of;
 use cluster_terms::{ByteText, Factors, Name, Replication, Rf, Token, TokenList, TryCopy};
 use std::alloc::Global;
 use std::process::Abort;

@@ -1,6 +1,6 @@
 //! Whether the shape of a node's group differs in a wider set of pairs.
 
-use crate::tests::running::name_of;
+use crate::calls::name_of;
 use cluster_terms::{NodeId, NodeRow, Pair, Replication, Token};
 use node_directory::Directory;
 use ring_reach::shape_differs;

@@ -3,7 +3,7 @@
 ghost use Rattle.std.specs.Prelude.{◌≡◌, ◌≤◌, IfOk, IsTrue};
 ghost use Rattle.transformations.specs.History.{is_command};
 
-use crate::tests::running::name_of;
+use crate::calls::name_of;
 use follower_log::{Follower, FollowerFault, Took};
 use std::alloc::Global;
 use std::process::Abort;

@@ -1,0 +1,151 @@
+-- The locks of the movements of an image, one after another.
+use Rattle.std.proofs.Common.{◌≡◌, ℕ, suc, zero, ◌+◌, ◌<◌, ◌≤◌, Bool, Result, Ok, Err, MatchResult, false, ◌==◌, ℤ, List, [], ◌∷◌, ◌++◌, length, map, take, get_or, Some, refl, sym, ap, ◌∙◌, subst, arith}
+use Rattle.std.proofs.lemmas.Bool.Decides.{Decides-eqb}
+use Rattle.std.proofs.lemmas.List.{map-append, take_more}
+use Rattle.std.proofs.lemmas.Option.{none-some}
+use Rattle.std.specs.List.{AllByRecursion, Contains, IsDistinct, slice_get}
+use Rattle.std.proofs.lemmas.List.Elements.{All-contains, All-from_recursion}
+use Rattle.std.specs.List.Sorted.{IsStrictlySortedBy}
+use Rattle.std.specs.declared.cmp.Ordering.TheVariants.{Less}
+use Rattle.cluster_terms.specs.Arc.{IsToken}
+use Rattle.locked_ranges.specs.Table.{has_row, lock_row, other_locks}
+use Rattle.token_ring.specs.declared.book.LockRow.{LockRow}
+use Rattle.token_ring.specs.declared.book.RangeRow.{RangeRow}
+use Rattle.placement_deltas.specs.declared.plan.Plan.{Plan}
+use Rattle.sequence_plans.proofs.DeltaBookLemmas.{at_each_token}
+use Rattle.sequence_plans.specs.Deltas.{HasDeltas}
+use Rattle.sequence_plans.specs.Plan.{IsBook, IsPlan}
+use Rattle.transformations.proofs.movements.SoleLemmas.{found_own}
+use Rattle.transformations.proofs.ranges.KeptRanges.{IsKept, ranges_alike}
+use Rattle.transformations.proofs.ranges.KeptSteps.{kept_phase}
+use Rattle.transformations.specs.Refusals.{with_movement}
+use Rattle.transformations.specs.Steps.{at_phase}
+use Rattle.transformations.specs.declared.keyspace.KeyspaceRow.{KeyspaceRow}
+use Rattle.transformations.specs.declared.sequence.Phase.{Phase}
+use Rattle.cluster_metadata.proofs.LocksKept.{IsAlike, lock_alike}
+use Rattle.cluster_metadata.proofs.ResumeLemmas.{put_own}
+use Rattle.cluster_metadata.specs.Change.{in_phase, plan_lock}
+use Rattle.transformations.proofs.lists.ListLemmas.{all_weaker}
+use Rattle.transformations.proofs.ranges.ApartLemmas.{both_at, both_flips}
+use Rattle.transformations.proofs.ranges.RangesKept.{apart_at}
+use Rattle.transformations.specs.Orders.{by_node}
+use Rattle.transformations.specs.Ranges.{in_both, in_ranges}
+use Rattle.transformations.specs.Valid.{IsSound, IsValid}
+use Rattle.transformations.specs.declared.image.Image.{Image}
+use Rattle.transformations.specs.declared.sequence.SeqRow.{SeqRow}
+use Rattle.cluster_metadata.proofs.LockPlaces.{added_removed, all_locked, locks_named}
+use Rattle.cluster_metadata.proofs.LocksTaken.{all_apart, at_tokens, unnamed}
+use Rattle.cluster_metadata.proofs.MovementPlaces.{at_index, at_place, less_other}
+use Rattle.cluster_metadata.specs.Locking.{AddsMovement, AreLocked, IsApartFrom, lock_of}
+use Rattle.cluster_metadata.specs.Locks.{AreLocksOf, IsLockOf}
+use Rattle.cluster_metadata.specs.Running.{HaveDeltas, IsRunning, movement_row, node_of, plan_of}
+use Rattle.cluster_metadata.specs.declared.running.Running.{Running}
+
+-- ---- the movements before one of them
+
+earlier_other : (rows : List SeqRow) (i : ℕ) (s : SeqRow) → IsStrictlySortedBy by_node rows → slice_get rows i ≡ Some s → AllByRecursion (λ (q : SeqRow). (q.node == s.node) ≡ false) (take i rows)
+unfolding IsStrictlySortedBy
+earlier_other [] i s up found = absurd (none-some s found)
+earlier_other (q ∷ rows) zero s up found = tt
+earlier_other (q ∷ rows) (suc i) s up found = (
+  less_other q s s.node (at_place (λ r. by_node q r ≡ Less) rows i s up.0 found) ((Decides-eqb s.node s.node).1 refl),
+  earlier_other rows i s up.1 found,
+)
+
+earlier_apart : (e : SeqRow → SeqRow → Bool) (rows : List SeqRow) (i : ℕ) (s : SeqRow) → IsDistinct e rows → slice_get rows i ≡ Some s → AllByRecursion (λ q. e q s ≡ false) (take i rows)
+unfolding IsDistinct
+earlier_apart e [] i s d found = absurd (none-some s found)
+earlier_apart e (q ∷ rows) zero s d found = tt
+earlier_apart e (q ∷ rows) (suc i) s d found = (at_place (λ r. e q r ≡ false) rows i s d.0 found, earlier_apart e rows i s d.1 found)
+
+earlier_sorted : (rows : List SeqRow) (i : ℕ) → IsStrictlySortedBy by_node rows → IsStrictlySortedBy by_node (take i rows)
+unfolding IsStrictlySortedBy
+earlier_sorted [] zero up = tt
+earlier_sorted [] (suc i) up = tt
+earlier_sorted (q ∷ rows) zero up = tt
+earlier_sorted (q ∷ rows) (suc i) up = (all_take (λ r. by_node q r ≡ Less) rows i up.0, earlier_sorted rows i up.1)
+  where
+    all_take : (P : SeqRow → Type 0) (rows : List SeqRow) (i : ℕ) → AllByRecursion P rows → AllByRecursion P (take i rows)
+    all_take P [] zero all = tt
+    all_take P [] (suc i) all = tt
+    all_take P (q ∷ rows) zero all = tt
+    all_take P (q ∷ rows) (suc i) all = (all.0, all_take P rows i all.1)
+
+-- ---- the next one
+
+module _ (image : Image) (valid : IsValid image) (i : ℕ) (table : List LockRow) (locks : AreLocksOf image (take i image.sequences) table) where
+  module _ (s : SeqRow) (within : i < length image.sequences) (here : s ≡ get_or image.sequences i s) where
+    found : slice_get image.sequences i ≡ Some s
+    found = at_index image.sequences i s within here
+
+    pub next_new : has_row table s.node ≡ false
+    next_new = unnamed image s.node (take i image.sequences) table locks (earlier_other image.sequences i s valid.sound.movements found)
+
+    pub next_apart : IsApartFrom image s table
+    next_apart ranges lock =
+        all_apart image s (take i image.sequences) (lock_row s.node ranges) table lock locks
+        (at_tokens (λ x q. in_both image s q x ≡ false) (take i image.sequences)
+        (λ x token. all_weaker (λ q. both_at image x q s ≡ false) (λ q. in_both image s q x ≡ false) (λ q apart. both_flips image x s q ∙ apart) (take i image.sequences)
+        (earlier_apart (both_at image x) image.sequences i s (apart_at image valid x token) found)))
+
+    pub next_taken : take (i + 1) image.sequences ≡ take i image.sequences ++ s ∷ []
+    next_taken = take_more image.sequences i s within ∙ ap (λ (q : SeqRow). take i image.sequences ++ q ∷ []) (sym here)
+
+  pub so_far : (values : List Running) → IsRunning (take i image.sequences) values → AreLocked table values
+  so_far values is = all_locked (take i image.sequences) values table (earlier_sorted image.sequences i valid.sound.movements) is (locks_named image (take i image.sequences) table locks)
+
+pub locks_more : (image : Image) (rows : List SeqRow) (table : List LockRow) (s : SeqRow) (l : LockRow) → AreLocksOf image rows table → IsLockOf image s l → AreLocksOf image (rows ++ s ∷ []) (table ++ l ∷ [])
+locks_more image [] [] s l are lock = (lock, tt)
+locks_more image [] (k ∷ table) s l are lock = absurd are
+locks_more image (q ∷ rows) [] s l are lock = absurd are
+locks_more image (q ∷ rows) (k ∷ table) s l are lock = (are.0, locks_more image rows table s l are.1 lock)
+
+pub deltas_more : (image : Image) (values : List Running) (m : Running) → HaveDeltas image values → HasDeltas image (plan_of m) → HaveDeltas image (values ++ m ∷ [])
+deltas_more image [] m all here = (here, tt)
+deltas_more image (v ∷ values) m all here = (all.0, deltas_more image values m all.1 here)
+
+pub running_more : (rows : List SeqRow) (values : List Running) (s : SeqRow) (m : Running) → IsRunning rows values → movement_row m ≡ s → IsRunning (rows ++ s ∷ []) (values ++ m ∷ [])
+running_more rows values s m is row = map-append movement_row values (m ∷ []) ∙ (λ i. is i ++ row i ∷ [])
+
+-- ---- a plan that is made anew
+
+-- the ranges of a movement are those of its plan, which is made with its row at another phase
+pub lock_resumed : (p : Phase) (image : Image) (s : SeqRow) (ranges : List RangeRow) → IsSound image → Contains image.sequences s → IsBook (with_movement image (in_phase p s)) (in_phase p s) ranges → IsLockOf image s (lock_row s.node ranges)
+lock_resumed p image s ranges sound there book =
+    let with_rows : List SeqRow → Image = λ rows. record image { sequences = rows } in
+    let later : Image = with_rows (map (at_phase p s.node) image.sequences) in
+    let place = put_own p s image.sequences sound.movements (found_own image.sequences s sound.movements there) in
+    let made : IsBook later (in_phase p s) ranges = subst (λ rows. IsBook (with_rows rows) (in_phase p s) ranges) place book in
+    let lock : IsLockOf later (in_phase p s) (lock_row s.node ranges) = record { node = refl; rows = made.rows; ranges = made.ranges } in
+    let kept : AllByRecursion (λ q. (x : ℤ) → IsToken x → IsKept image later x q) image.sequences = at_tokens (IsKept image later) image.sequences (λ x token. kept_phase p image s.node image.epoch x) in
+    let P : SeqRow → Type 0 = λ q. (x : ℤ) → IsToken x → IsKept image later x q in
+    let own : P s = All-contains P image.sequences s (All-from_recursion P image.sequences kept) there in
+    let alike : AllByRecursion (λ (k : KeyspaceRow). IsAlike later image (in_phase p s) s k.replication) image.keyspaces =
+    all_weaker (λ (k : KeyspaceRow). (x : ℤ) → IsToken x → in_ranges image k.replication s x ≡ in_ranges later k.replication s x) (λ (k : KeyspaceRow). IsAlike later image (in_phase p s) s k.replication)
+    (λ k same x token. ranges_alike later later k.replication x (in_phase p s) s refl refl refl refl ∙ sym (same x token)) image.keyspaces
+    (at_each_token (λ x (k : KeyspaceRow). in_ranges image k.replication s x ≡ in_ranges later k.replication s x) image.keyspaces own) in
+    lock_alike later image (in_phase p s) s (lock_row s.node ranges) refl refl alike lock
+
+-- ---- what is added
+
+pub take_whole : (rows : List SeqRow) (i : ℕ) → length rows ≤ i → take i rows ≡ rows
+take_whole [] zero over = refl
+take_whole [] (suc i) over = refl
+take_whole (q ∷ rows) zero over = absurd (omega arith)
+take_whole (q ∷ rows) (suc i) over = ap (λ l. q ∷ l) (take_whole rows i (omega arith))
+
+-- a movement is added with its lock; or it is closed, and its lock goes again
+pub movement_added : {X E : Type 0} (image : Image) (s : SeqRow) (before after : List Running) (locks locked left : List LockRow) (m : Running) (result : Result X E)
+    → MatchResult result (λ _. after ≡ before ++ m ∷ []) (λ _. after ≡ before) → MatchResult result (λ _. left ≡ locked) (λ _. left ≡ other_locks locked (node_of m))
+    → locked ≡ locks ++ lock_of m ∷ [] → movement_row m ≡ s → HasDeltas image (plan_of m) → IsLockOf image s (lock_of m) → has_row locks s.node ≡ false
+    → MatchResult result (λ _. AddsMovement image s before after locks left) (λ _. (after ≡ before) × (left ≡ locks))
+movement_added image s before after locks locked left m (Ok x) values table taken row deltas lock new =
+    record { movement = m; running = values; table = table ∙ taken; row = row; deltas = deltas; lock = lock }
+movement_added image s before after locks locked left m (Err e) values table taken row deltas lock new =
+    let node : s.node ≡ node_of m = sym (ap (λ (q : SeqRow). q.node) row) in
+    let none : has_row locks (node_of m) ≡ false = ap (has_row locks) (sym node) ∙ new in
+    (values, table ∙ ap (λ t. other_locks t (node_of m)) taken ∙ added_removed locks (lock_of m) none)
+
+pub lock_planned : (p : Phase) (image : Image) (s : SeqRow) (plan : Plan) → IsSound image → Contains image.sequences s → IsPlan (with_movement image (in_phase p s)) (in_phase p s) plan → IsLockOf image s (plan_lock plan)
+lock_planned p image s plan sound there is =
+    subst (λ n. IsLockOf image s (lock_row n plan.ranges)) (sym (ap (λ (q : SeqRow). q.node) is.row)) (lock_resumed p image s plan.ranges sound there is.ranges)

@@ -1,0 +1,63 @@
+-- How changes lock and unlock ranges, and the keys that movements hold. Of the code: no promise rests on these.
+use Rattle.std.specs.Prelude.{◌≡◌, ◌≤◌, false, true, List, [], ◌∷◌, ◌++◌, map, length, nat_eq}
+use Rattle.std.specs.List.{AllByRecursion, IsDistinct, insert, remove}
+use Rattle.locked_ranges.specs.Sharing.{ShareNoToken}
+use Rattle.locked_ranges.specs.Table.{has_row, lock_row}
+use Rattle.placement_deltas.specs.declared.plan.Plan.{Plan}
+use Rattle.token_ring.specs.declared.book.LockRow.{LockRow}
+use Rattle.token_ring.specs.declared.book.RangeRow.{RangeRow}
+use Rattle.sequence_plans.specs.Deltas.{HasDeltas}
+use Rattle.transformations.specs.declared.image.Image.{Image}
+use Rattle.transformations.specs.declared.sequence.SeqRow.{SeqRow}
+use Rattle.cluster_metadata.specs.Locks.{IsLockOf}
+use Rattle.cluster_metadata.specs.Change.{plan_lock}
+use Rattle.cluster_metadata.specs.Running.{movement_row, node_of, plan_of}
+use Rattle.cluster_metadata.specs.declared.change.Change.{Change}
+use Rattle.cluster_metadata.specs.declared.change.Change.TheVariants.{Begun, Finished, Ended}
+use Rattle.cluster_metadata.specs.declared.new_lock.NewLock.{NewLock}
+use Rattle.cluster_metadata.specs.declared.running.Running.{Running}
+
+-- the lock of a movement in flight
+abbrev pub lock_of : Running → LockRow
+lock_of m = plan_lock (plan_of m)
+
+-- the locks after a change, from those before it
+abbrev pub locks_after : List LockRow → Change → List LockRow
+locks_after table (Begun at plan sequences) = insert table at (plan_lock plan)
+locks_after table (Finished at left tokens sequences) = remove table at
+locks_after table (Ended at sequences) = remove table at
+locks_after table _ = table
+
+-- the ranges of the movement that begins, and room for its lock
+abbrev pub HoldsLock : Change → NewLock → Type 0
+HoldsLock (Begun at plan sequences) lock = (lock.ranges ≡ plan.ranges) × (length sequences ≤ lock.room)
+HoldsLock _ lock = Unit {0}
+
+-- the movement of a plan has no lock, and no lock shares a token with it
+pub record IsFree (plan : Plan) (table : List LockRow) : Type 0 where
+  pub new : has_row table plan.row.node ≡ false
+  pub apart : AllByRecursion (λ row. ShareNoToken plan.ranges row.ranges) table
+
+-- the movement that begins may be locked
+abbrev pub MayLock : List LockRow → Change → Type 0
+MayLock table (Begun at plan sequences) = IsFree plan table
+MayLock table _ = Unit {0}
+
+-- no lock shares a token with the ranges of a movement
+abbrev pub IsApartFrom : Image → SeqRow → List LockRow → Type 0
+IsApartFrom image s table =
+    (ranges : List RangeRow) → IsLockOf image s (lock_row s.node ranges) → AllByRecursion (λ row. ShareNoToken ranges row.ranges) table
+
+-- the value of a movement is added, and its lock
+pub record AddsMovement (image : Image) (s : SeqRow) (before after : List Running) (locks locked : List LockRow) : Type 0 where
+  pub movement : Running
+  pub running : after ≡ before ++ movement ∷ []
+  pub table : locked ≡ locks ++ lock_of movement ∷ []
+  pub row : movement_row movement ≡ s
+  pub deltas : HasDeltas image (plan_of movement)
+  pub lock : IsLockOf image s (lock_of movement)
+
+-- the movements are of distinct nodes, and each has a lock
+pub record AreLocked (table : List LockRow) (running : List Running) : Type 0 where
+  pub distinct : IsDistinct nat_eq (map node_of running)
+  pub locks : AllByRecursion (λ m. has_row table (node_of m) ≡ true) running

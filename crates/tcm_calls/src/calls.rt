@@ -1,0 +1,17 @@
+//! Calls that no script makes.
+
+mod directory;
+mod follower;
+mod log;
+mod reach;
+mod terms;
+mod wire;
+
+use cluster_terms::Name;
+use std::alloc::Global;
+use std::test::Fail;
+
+/// A name.
+fn name_of(alloc: Global, text: &str) -> Result<Name, Fail> {
+    Ok(Name::from_text(alloc, text)?.ok_or("no name")?)
+}
