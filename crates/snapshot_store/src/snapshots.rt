@@ -1,36 +1,92 @@
-ghost use Rattle.std.specs.Prelude.{◌≡◌, ◌≤◌, length, IfOk};
+ghost use Rattle.std.specs.Prelude.{◌≡◌, ◌-◌, ◌<◌, ◌≤◌, [], ◌∷◌, ◌++◌, length, slice_get, IfOk, MatchResult};
+ghost use Rattle.std.specs.List.{AllByRecursion};
 ghost use Rattle.transformations.specs.History.{IsHistory, state_after};
 ghost use Rattle.transformations.specs.Log.{commands_of};
+ghost use Rattle.transformations.specs.Meeting.{HaveReplications};
+ghost use Rattle.transformations.specs.Valid.{IsValid};
+ghost use Rattle.snapshot_store.specs.Images.{AreOf, epoch_of};
 
+use crate::nearest::nearest;
 use crate::replay::take_all;
 use cluster_metadata::Metadata;
 use cluster_terms::Memory;
 use epoch_log::Log;
 use std::alloc::Global;
+use std::marker::Model;
+use transformations::Image;
 
-/// What is kept of past states of a log. Today no image is kept, so each state is made from the first entry on.
+/// Images of a log at some of its epochs. Contracts see the list of these images. Their epochs ascend.
 #[derive(Debug, Drop)]
 pub struct Snapshots {
     alloc: Global,
+    images: Vec<Image>,
+}
+
+impl Model for Snapshots {
+    ghost use Rattle.std.specs.Prelude.{List};
+    ghost use Rattle.transformations.specs.declared.image.Image.{Image};
+    ghost use Rattle.snapshot_store.specs.Images.{CanBeKept};
+
+    ghost Value = { List Image };
+
+    ghost view = { λ snapshots. snapshots.images.items };
+
+    ghost invariant = { λ snapshots. CanBeKept snapshots.images.items };
 }
 
 impl Snapshots {
-    /// No past state.
-    pub fn empty(alloc: Global) -> Snapshots {
-        Snapshots { alloc }
+    /// No image. Takes no memory.
+    pub fn empty(alloc: Global) -> Snapshots
+        ensures { result ≡ [] }
+    {
+        Snapshots {
+            alloc,
+            images: Vec::new(alloc),
+        }
     }
 
-    /// The metadata at an epoch of a log. The commands of the log are a history, and the epoch is at most the last one.
-    /// `Err` means that memory ran out.
+    /// The epoch of the last image, which is the greatest, or 0 if there is no image.
+    pub fn last_epoch(&self) -> u64
+        ensures last { result ≡ epoch_of (slice_get self.now (length self.now - 1)) }
+        ensures greatest { AllByRecursion (λ kept. kept.epoch ≤ result) self.now }
+    {
+        match self.images.last() {
+            Some(image) => image.epoch,
+            None => 0,
+        }
+    }
+
+    /// Keeps an image, whose epoch is above those of the images that are kept. The image is valid, and each of its
+    /// keyspaces has a replication. If memory runs out, returns the image and keeps what was kept.
+    pub fn keep(&mut self, image: Image) -> Result<(), (Image, Memory)>
+        requires epoch { AllByRecursion (λ kept. kept.epoch < image.epoch) self.old }
+        requires valid { IsValid image }
+        requires replications { HaveReplications image }
+        ensures { MatchResult result (λ _. self.new ≡ self.old ++ image ∷ [])
+            (λ e. (self.new ≡ self.old) × (e.0 ≡ image)) }
+    {
+        match self.images.push(image) {
+            Ok(()) => Ok(()),
+            Err(failed) => Err((failed.value, Memory)),
+        }
+    }
+
+    /// The metadata at an epoch of a log, of which the images are. The commands of the log are a history, and the epoch
+    /// is at most the last one. `Err` means that memory ran out.
     ///
-    /// Cost: each command up to the epoch is admitted and enacted again, at the cost of its commit.
+    /// Cost: a binary search for the greatest image at or below the epoch, a copy of this image, and the metadata made
+    /// from it, at the cost of `Metadata::from_image`. Each command after the image, up to the epoch, is admitted and
+    /// enacted again, at the cost of its commit. If the image of every 256th epoch is kept, these are at most 255
+    /// commands.
     pub fn state_at(&self, log: &Log, e: u64) -> Result<Metadata, Memory>
         requires history { IsHistory (commands_of log.now) }
         requires within { e ≤ length log.now }
+        requires kept { AreOf (commands_of log.now) self.now }
         ensures { IfOk result (λ metadata. metadata ≡ state_after (commands_of log.now) e) }
     {
-        let mut metadata = Metadata::empty(self.alloc)?;
-        match take_all(&mut metadata, log, e) {
+        let mut metadata = nearest(self.alloc, &self.images, e)?;
+        let from = metadata.epoch();
+        match take_all(&mut metadata, log, from, e) {
             Ok(()) => Ok(metadata),
             Err(memory) => {
                 metadata.close();

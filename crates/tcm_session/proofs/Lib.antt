@@ -5,6 +5,7 @@ pub mod FileLogs
 pub mod FollowerLemmas
 pub mod GainLemmas
 pub mod HandedLemmas
+pub mod ImageLemmas
 pub mod KeptLemmas
 pub mod KeyspacePlacements
 pub mod LinesLemmas

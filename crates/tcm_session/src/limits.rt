@@ -1,7 +1,10 @@
-//! The limit of a file.
+//! The limit of a file, and how often an image is kept.
 
 /// The most bytes of a file.
 pub const FILE_LIMIT: u64 = 536_870_912;
 
 /// The text that is printed for an input or a file that is too large, with the limit in bytes.
 pub const TOO_LARGE: &str = "TOO-LARGE 536870912\n";
+
+/// The number of epochs from one kept image to the next.
+pub const EPOCHS_PER_IMAGE: u64 = 256;

@@ -13,6 +13,7 @@ ghost use Rattle.tcm_session.specs.Steps.{IsNextEntry, Leaves, LeavesSession, On
 
 mod asking;
 mod handing;
+mod keeping;
 mod taking;
 
 use crate::fault::StepFault;
@@ -32,7 +33,7 @@ use transformations::{Command, Entry, Refusal};
 /// The most commands that a session accepts; each accepted command makes an epoch.
 const MOST_EPOCHS: u64 = 65_536;
 
-/// The log, the metadata after its entries, and up to 16 followers.
+/// The log, the metadata after its entries, images of the log at some of its epochs, and up to 16 followers.
 ///
 /// The log's epochs are 1, 2 and so on, no id stands in it twice, and its commands are a history. Each follower shows
 /// a state of the log, and the entries that wait in it are distinct entries of the log, above its epoch. A session
@@ -49,6 +50,7 @@ impl Model for Session {
     ghost use Rattle.std.specs.Prelude.{◌≡◌};
     ghost use Rattle.transformations.specs.History.{empty_image, image_after};
     ghost use Rattle.transformations.specs.Log.{IsLog, commands_of};
+    ghost use Rattle.snapshot_store.specs.Images.{AreOf};
     ghost use Rattle.tcm_session.specs.Machine.{SessionState};
     ghost use Rattle.tcm_session.specs.Steps.{AllFollow};
 
@@ -58,7 +60,8 @@ impl Model for Session {
 
     ghost invariant = { λ session.
         (session.metadata ≡ image_after empty_image (commands_of session.log))
-        × IsLog session.log × AllFollow session.log session.followers.items };
+        × IsLog session.log × AllFollow session.log session.followers.items
+        × AreOf (commands_of session.log) session.snapshots };
 }
 
 /// Answers a line that is refused for this reason.
@@ -151,9 +154,10 @@ impl Session {
     /// have moved it. Fails with `Store` only if `log` names a file, the line adds an entry, and the store failed in
     /// this step; then the followers are unchanged, and the file may have gained the entry's line or a front of it.
     ///
-    /// Cost: a commit costs one look-up of its id, and the cost of `Metadata::admit`. A line on a follower costs a
-    /// comparison with the names of the followers, and the cost of `Follower::deliver` or `Follower::snapshot`. The
-    /// image of an earlier epoch is made anew, which costs as much as committing its commands again.
+    /// Cost: a commit costs one look-up of its id, and the cost of `Metadata::admit`. The first one with a new id after
+    /// each 256th epoch also copies the image. A line on a follower costs a comparison with the names of the followers,
+    /// and the cost of `Follower::deliver` or `Follower::snapshot`. The image of an earlier epoch costs as
+    /// `Snapshots::state_at` says, with at most 255 commands.
     pub fn step<D: Store>(
         &mut self,
         line: &[u8],
@@ -248,6 +252,7 @@ impl Session {
             (D.files store.old) (D.files store.new) (D.faults store.old) (D.faults store.new) result }
         ensures unnamed { option_copied log.entry ≡ None → store.new ≡ store.old }
     {
+        self.keep_image()?;
         match self.admit(&command) {
             Ok(permit) => {
                 let epoch = self.log.last_epoch() + 1;

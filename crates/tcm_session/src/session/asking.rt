@@ -46,8 +46,8 @@ impl Session {
 
     /// Answers a query from the metadata at an epoch. If memory runs out, `out` still begins with its old content.
     ///
-    /// Cost: the metadata at the last epoch is kept. The metadata at an earlier epoch is made anew, which costs as much
-    /// as committing its commands again.
+    /// Cost: the metadata at the last epoch is kept. The metadata at an earlier epoch costs as `Snapshots::state_at`
+    /// says.
     fn query(&self, epoch: u64, query: Query, out: &mut ByteText) -> Result<(), Memory>
         ensures text { OnOk result (out.new
             ≡ out.old ++ query_text (image_at (commands_of self.now.log) epoch) query) }

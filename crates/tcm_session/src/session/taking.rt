@@ -38,7 +38,10 @@ impl Session {
         ensures err { OnErr result (self.new ≡ self.old) }
     {
         match content {
-            Line::Entry(entry) => self.take_entry(entry),
+            Line::Entry(entry) => {
+                self.keep_image()?;
+                self.take_entry(entry)
+            }
         }
     }
 

@@ -1,8 +1,7 @@
-use Rattle.std.proofs.Common.{◌≡◌, Some, None, position, set, sym, subst, ◌∙◌, ap, refl}
+use Rattle.std.proofs.Common.{position, set, sym, subst, ◌∙◌, ap}
 use Rattle.epoch_log.specs.Epochs.{entry_at}
 use Rattle.transformations.specs.Log.{commands_of}
 use Rattle.script_lang.specs.Texts.{no_text}
-use Rattle.follower_log.specs.Prefix.{with_entry}
 use Rattle.follower_log.proofs.CutLemmas.{entry_from}
 use Rattle.tcm_session.specs.Machine.{SessionState, deliver_to, follower_named, no_epoch, on_follower}
 use Rattle.tcm_session.specs.Steps.{Alone, OnlyAnswers}
@@ -57,7 +56,7 @@ invariant_of-self c =
     let has = has_follower s name c.in-Some.place c.index_mut-named.result.now _ c.self.invariant.2 at c.index_mut-named.ensures.value in
     let entry = entry_of s.log c.args.epoch c.in-Some-entry.entry.now c.self.invariant.1 (sym c.in-Some-entry.ensures.entry) in
     let follows = follows_shown s.log has.follows.taken _ c.deliver.result c.deliver.new.self (c.deliver.ensures.shows s.log has.follows.taken c.self.invariant.1 entry.among has.follows.stands) in
-    (c.self.invariant.0, c.self.invariant.1, moved_follow s name c.in-Some.place c.index_mut-named.result.now c.deliver.new.self has c.self.invariant.2 follows)
+    (c.self.invariant.0, c.self.invariant.1, moved_follow s name c.in-Some.place c.index_mut-named.result.now c.deliver.new.self has c.self.invariant.2 follows, c.self.invariant.3)
 
 pub returns : goal.returns
 returns c =

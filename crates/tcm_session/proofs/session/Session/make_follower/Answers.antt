@@ -1,4 +1,4 @@
-use Rattle.std.proofs.Common.{◌≡◌, None, Ok, position, is_some, sym, subst, ◌∙◌, ap, arith}
+use Rattle.std.proofs.Common.{None, Ok, position, is_some, sym, subst, ◌∙◌, ap, arith}
 use Rattle.tcm_session.specs.Machine.{SessionState, follower_reply}
 use Rattle.tcm_session.specs.Steps.{Alone}
 use Rattle.tcm_session.proofs.FollowerLemmas.{named}
@@ -28,7 +28,7 @@ returns-then-len-ge-MOST_FOLLOWERS c =
 
 pub invariant_of-self-2 : goal.invariant_of-self-2
 invariant_of-self-2 c =
-    (c.self.invariant.0, c.self.invariant.1, made_follows c.self.inside.log c.args.name c.self.inside.followers.items c.add_follower.new.followers.items c.self.invariant.2 c.in_ok-add_follower.ensures.ok)
+    (c.self.invariant.0, c.self.invariant.1, made_follows c.self.inside.log c.args.name c.self.inside.followers.items c.add_follower.new.followers.items c.self.invariant.2 c.in_ok-add_follower.ensures.ok, c.self.invariant.3)
 
 pub returns : goal.returns
 returns c =

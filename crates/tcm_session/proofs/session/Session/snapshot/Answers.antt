@@ -1,4 +1,4 @@
-use Rattle.std.proofs.Common.{◌≡◌, ◌≤◌, Some, None, Ok, IfOk, position, set, length, sym, subst, ◌∙◌, ap, refl, arith}
+use Rattle.std.proofs.Common.{◌≤◌, position, set, length, sym, subst, ◌∙◌, ap, arith}
 use Rattle.transformations.specs.History.{state_after}
 use Rattle.transformations.specs.Log.{commands_of}
 use Rattle.script_lang.specs.Texts.{no_text}
@@ -66,7 +66,7 @@ invariant_of-self c =
     let is = c.in_ok-image.ensures.image ∙ ap (λ (t : SessionState). state_after (commands_of t.log) c.args.epoch) (sym c.self.view_is) in
     let follows = follows_shown s.log has.follows.taken _ c.snapshot.result c.snapshot.new.self
     (c.snapshot.ensures.shows s.log has.follows.taken c.self.invariant.1 (image_of_log s.log c.args.epoch c.in_ok-image.image within is) has.follows.stands) in
-    (c.self.invariant.0, c.self.invariant.1, moved_follow s name c.in-Some.place c.index_mut-named.result.now c.snapshot.new.self has c.self.invariant.2 follows)
+    (c.self.invariant.0, c.self.invariant.1, moved_follow s name c.in-Some.place c.index_mut-named.result.now c.snapshot.new.self has c.self.invariant.2 follows, c.self.invariant.3)
 
 pub returns : goal.returns
 returns c =

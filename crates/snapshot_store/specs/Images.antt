@@ -1,0 +1,30 @@
+-- The images that are kept of a log.
+use Rattle.std.specs.Prelude.{◌≡◌, ℕ, ◌<◌, ◌≤◌, List, ◌∷◌, length, Option, Some, None}
+use Rattle.std.specs.List.{AllByRecursion, AllPairs, Contains}
+use Rattle.transformations.specs.History.{empty_image, state_after}
+use Rattle.transformations.specs.Meeting.{HaveReplications}
+use Rattle.transformations.specs.Valid.{IsValid}
+use Rattle.transformations.specs.declared.command.Command.{Command}
+use Rattle.transformations.specs.declared.image.Image.{Image}
+
+-- images that can be kept: their epochs ascend, each is valid, and each of their keyspaces has a replication
+pub record CanBeKept (images : List Image) : Type 0 where
+  pub ascend : AllPairs (λ image later. image.epoch < later.epoch) images
+  pub valid : AllByRecursion IsValid images
+  pub replications : AllByRecursion HaveReplications images
+
+-- the images are those of a history at their epochs, and none is past its last epoch
+abbrev pub AreOf : List Command → List Image → Type 0
+AreOf history images =
+    AllByRecursion (λ image. (image.epoch ≤ length history) × (image ≡ state_after history image.epoch)) images
+
+-- the epoch of an image, 0 if there is none
+abbrev pub epoch_of : Option Image → ℕ
+epoch_of None = 0
+epoch_of (Some image) = image.epoch
+
+-- the nearest image at or below an epoch: it is kept or the empty one, and no kept one lies between
+pub record IsNearest (images : List Image) (e : ℕ) (image : Image) : Type 0 where
+  pub among : Contains (empty_image ∷ images) image
+  pub below : image.epoch ≤ e
+  pub greatest : AllByRecursion (λ kept. kept.epoch ≤ e → kept.epoch ≤ image.epoch) images

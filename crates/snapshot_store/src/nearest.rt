@@ -1,0 +1,48 @@
+//! The metadata of the kept image that is nearest to an epoch.
+
+ghost use Rattle.std.specs.Prelude.{◌≡◌, ◌<◌, ◌≤◌, length, IfOk};
+ghost use Rattle.std.specs.List.Sorted.{IsPartitionPoint};
+ghost use Rattle.transformations.specs.Meeting.{HaveReplications};
+ghost use Rattle.transformations.specs.Valid.{IsValid};
+ghost use Rattle.snapshot_store.specs.Images.{CanBeKept, IsNearest};
+
+use cluster_metadata::{ImageFault, Metadata};
+use cluster_terms::{Memory, TryCopy};
+use std::alloc::Global;
+use transformations::Image;
+
+/// How many images are at or below an epoch.
+fn count_to(images: &[Image], e: u64) -> usize
+    requires { CanBeKept images.now }
+    ensures bound { result ≤ length images.now }
+    ensures split { IsPartitionPoint (λ image. image.epoch ≤ e) (λ image. e < image.epoch) images.now result }
+{
+    images.partition_point(|image| image.epoch <= e)
+}
+
+/// The metadata of a copy of an image. `Err` means that memory ran out.
+fn metadata_of(alloc: Global, image: &Image) -> Result<Metadata, Memory>
+    requires valid { IsValid image.now }
+    requires replications { HaveReplications image.now }
+    ensures { IfOk result (λ metadata. metadata ≡ image.now) }
+{
+    match Metadata::from_image(alloc, image.copy()?) {
+        Ok(metadata) => Ok(metadata),
+        Err((_image, ImageFault::Memory)) => Err(Memory),
+    }
+}
+
+/// The metadata of the greatest image at or below an epoch. If there is none, this is the metadata before the first
+/// command. `Err` means that memory ran out. The cost is a binary search, a copy of the image, and that of
+/// `Metadata::from_image`.
+pub fn nearest(alloc: Global, images: &[Image], e: u64) -> Result<Metadata, Memory>
+    requires { CanBeKept images.now }
+    ensures { IfOk result (λ metadata. IsNearest images.now e metadata) }
+{
+    let count = count_to(images, e);
+    if count == 0 {
+        return Metadata::empty(alloc);
+    }
+    let last = count - 1;
+    metadata_of(alloc, &images[last])
+}
