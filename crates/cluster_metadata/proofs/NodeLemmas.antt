@@ -1,5 +1,5 @@
 -- What an accepted command says of the nodes, and the changes of the nodes.
-use Rattle.std.proofs.Common.{◌≡◌, ℕ, suc, zero, ◌+◌, ◌<◌, true, false, not, ◌==◌, List, [], ◌∷◌, ◌++◌, length, map, get_or, set, Option, Some, None, IsSome, IsTrue, refl, sym, ap, ◌∙◌, subst, arith}
+use Rattle.std.proofs.Common.{◌≡◌, ℕ, suc, zero, ◌+◌, ◌<◌, Bool, true, false, if◌then◌else◌, find, option_map, not, ◌==◌, List, [], ◌∷◌, ◌++◌, length, map, get_or, set, Option, Some, None, IsSome, IsTrue, refl, sym, ap, ◌∙◌, subst, arith}
 use Rattle.std.proofs.lemmas.Option.{none-some}
 use Rattle.std.specs.Cmp.Lexicographic.{nat_list_eq_equiv}
 use Rattle.std.specs.List.{AllByRecursion, position, slice_get}
@@ -14,13 +14,13 @@ use Rattle.sequence_plans.proofs.BasisLemmas.{valid_rows}
 use Rattle.transformations.proofs.commands.AcceptedLemmas.{first_none, register_accepted, same_id, test_false}
 use Rattle.transformations.proofs.lists.ListLemmas.{found_passes, none_found}
 use Rattle.transformations.specs.History.{next_image}
-use Rattle.transformations.specs.Refusals.{early_refusal_of, in_sequence, is_registered, may_be_removed, no_node, wrong_state}
+use Rattle.transformations.specs.Refusals.{early_refusal_of, first_of, in_sequence, is_registered, may_be_removed, no_node, nodes_full, wrong_state}
 use Rattle.transformations.specs.Steps.{with_left}
 use Rattle.transformations.specs.Valid.{IsSound}
 use Rattle.transformations.specs.declared.command.Command.{Command}
 use Rattle.transformations.specs.declared.command.Command.TheVariants.{Register, Unregister}
 use Rattle.transformations.specs.declared.image.Image.{Image}
-use Rattle.transformations.specs.declared.refusal.Refusal.TheVariants.{NoNode}
+use Rattle.transformations.specs.declared.refusal.Refusal.TheVariants.{NameTaken, NoNode}
 use Rattle.cluster_metadata.proofs.MovementPlaces.{at_index, found_at, found_within, some_place}
 use Rattle.cluster_metadata.proofs.StepLemmas.{negated}
 use Rattle.cluster_metadata.specs.Change.{IsChange}
@@ -39,6 +39,23 @@ unnamed name (row ∷ rows) all =
 -- its name is free
 pub free_name : (image : Image) (name dc rack : List ℕ) → early_refusal_of image (Register name dc rack) ≡ None → node_named image.nodes name ≡ None
 free_name image name dc rack h = unnamed name image.nodes (register_accepted image name dc rack h).0
+
+-- its refusal is known from the node that has its name
+owned : (name : List ℕ) (rows : List NodeRow) → option_map (λ n. NameTaken n) (node_named rows name) ≡ option_map (λ row. NameTaken row.id) (find (λ row. bytes_eq row.name name) rows)
+owned name [] = refl
+owned name (row ∷ rows) = rw (nat_list_eq_equiv.symm name row.name) (by (bytes_eq row.name name) (owned name rows))
+  where
+    by : (b : Bool) → option_map (λ n. NameTaken n) (node_named rows name) ≡ option_map (λ row. NameTaken row.id) (find (λ row. bytes_eq row.name name) rows)
+        → option_map (λ n. NameTaken n) (option_map (λ (r : NodeRow). r.id) (if b then Some row else find (λ (r : NodeRow). bytes_eq name r.name) rows))
+        ≡ option_map (λ (r : NodeRow). NameTaken r.id) (if b then Some row else find (λ (r : NodeRow). bytes_eq r.name name) rows)
+    by true rest = refl
+    by false rest = rest
+
+pub owner_refused : (image : Image) (c : Command) (name dc rack : List ℕ) (owner : Option ℕ) → c ≡ Register name dc rack → owner ≡ node_named image.nodes name
+    → first_of (option_map (λ n. NameTaken n) owner ∷ nodes_full image ∷ []) ≡ early_refusal_of image c
+unfolding early_refusal_of
+owner_refused image c name dc rack owner is found =
+    ap (λ o. first_of (o ∷ nodes_full image ∷ [])) (ap (option_map (λ n. NameTaken n)) found ∙ owned name image.nodes) ∙ ap (early_refusal_of image) (sym is)
 
 pub registers : (image : Image) (name dc rack : List ℕ) (node : NewNode) → IsNew image.nodes image.next node → node.row ≡ new_row image.next name dc rack → IsChange image (Register name dc rack) (Registered node)
 unfolding next_image

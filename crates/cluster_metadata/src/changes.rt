@@ -21,6 +21,7 @@ use crate::preparing::{prepare, row_prepared};
 use crate::stepping::step;
 use cluster_terms::{Memory, Name, NodeId, Replication, Steps, TokenList, TryCopy};
 use locked_ranges::LockTable;
+use node_directory::Directory;
 use sequence_rows::pairs_with;
 use std::alloc::Global;
 use std::sync::ledger::Ledger;
@@ -113,18 +114,20 @@ fn settled(alloc: Global, image: &Image, cmd: &Command) -> Result<Change, Memory
     }
 }
 
-/// The change of a command that has no early refusal.
+/// The change of a command that has no early refusal. The directory must hold the nodes of the image.
 ///
 /// Errors: `Refused` if the ranges of the movement that the command prepares are locked; `Memory` if memory runs out.
 pub fn change_of<L: Ledger>(
     alloc: Global,
     image: &Image,
+    directory: &Directory,
     locks: &LockTable,
     cmd: &Command,
     walks: &mut Steps<L>,
 ) -> Result<Change, AdmitFault>
     requires next { image.now.next < 2 ^ 32 - 1 }
     requires sound { IsSound image.now }
+    requires nodes { directory.now.rows ≡ image.now.nodes }
     requires locks { AreLocksOf image.now image.now.sequences locks.now }
     requires formed { is_command cmd.now ≡ true }
     requires early { early_refusal_of image.now cmd.now ≡ None }
@@ -134,7 +137,7 @@ pub fn change_of<L: Ledger>(
     ensures uncounted { prepared_by image.now.tokens cmd.now ≡ None → walks.new ≡ walks.old }
 {
     if let Some(row) = row_prepared(alloc, image, cmd)? {
-        return prepare(alloc, image, locks, row, walks);
+        return prepare(alloc, image, directory, locks, row, walks);
     }
     Ok(settled(alloc, image, cmd)?)
 }

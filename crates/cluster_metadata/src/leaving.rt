@@ -1,13 +1,11 @@
 //! Which node has left once a movement is done.
 
-ghost use Rattle.std.specs.Prelude.{◌≡◌, ◌==◌, map, position, IfOk, IfSome};
-ghost use Rattle.cluster_terms.specs.NodeRow.{marked};
+ghost use Rattle.std.specs.Prelude.{◌≡◌, ◌==◌, position, IfOk, IfSome};
 ghost use Rattle.transformations.specs.Steps.{first_node, leaver, with_left};
 ghost use Rattle.transformations.specs.Valid.{IsSound};
 ghost use Rattle.cluster_metadata.specs.Nodes as spec;
 
-use cluster_terms::{Memory, NodeId, NodeRow, NodeRows, Pair, TryCopy};
-use std::alloc::Global;
+use cluster_terms::{Memory, NodeId, NodeRow, Pair, TryCopy};
 use transformations::{Image, Kind, SeqRow};
 
 /// The row of a node that leaves, marked as left, and its index among the nodes.
@@ -36,48 +34,6 @@ pub fn leaver(row: &SeqRow) -> Option<NodeId>
         Kind::Leave => Some(row.node),
         Kind::Replace => first_node(row.out_pairs.as_slice()),
         Kind::Join | Kind::Move => None,
-    }
-}
-
-/// A copy of a row. If it is the row of `node`, the copy is marked as left.
-fn marked(row: &NodeRow, node: NodeId) -> Result<NodeRow, Memory>
-    ensures { IfOk result (λ now. now ≡ marked node row.now) }
-{
-    let mut row = row.copy()?;
-    if row.id == node {
-        row.left = true;
-    }
-    Ok(row)
-}
-
-/// A copy of the rows, with the row of `node` marked as left.
-fn all_marked(alloc: Global, rows: &[NodeRow], node: NodeId) -> Result<NodeRows, Memory>
-    ensures { IfOk result (λ nodes. nodes ≡ map (marked node) rows.now) }
-{
-    let mut nodes = NodeRows::empty(alloc);
-    for row in rows {
-        nodes.push(marked(row, node)?)?;
-    }
-    Ok(nodes)
-}
-
-/// A copy of the nodes, with the leaver, if there is one, marked as left.
-pub fn with_left(alloc: Global, rows: &NodeRows, leaver: Option<NodeId>) -> Result<NodeRows, Memory>
-    ensures { IfOk result (λ nodes. nodes ≡ with_left rows.now leaver) }
-{
-    match leaver {
-        Some(node) => all_marked(alloc, rows.as_slice(), node),
-        None => rows.copy(),
-    }
-}
-
-/// The node that leaves with a row.
-pub fn left_node(left: &Option<LeftRow>) -> Option<NodeId>
-    ensures { result ≡ spec.left_node left.now }
-{
-    match left {
-        Some(left) => Some(left.row.id),
-        None => None,
     }
 }
 

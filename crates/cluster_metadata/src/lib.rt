@@ -5,7 +5,6 @@ mod admit_fault;
 mod applying;
 mod cancelling;
 mod change;
-mod changed;
 mod changes;
 mod enact;
 mod fitting;

@@ -4,7 +4,7 @@ ghost use Rattle.std.specs.Prelude.{◌≡◌, ◌-◌, ◌<◌, ◌^◌, IfOk, 
 ghost use Rattle.std.specs.List.{AllByRecursion};
 ghost use Rattle.cluster_terms.specs.Arc.{IsToken};
 ghost use Rattle.cluster_terms.specs.Row.{rows_between};
-ghost use Rattle.transformations.specs.Rings.{cuts};
+ghost use Rattle.transformations.specs.Rings.{cuts_among};
 ghost use Rattle.transformations.specs.Valid.{IsValid};
 ghost use Rattle.cluster_metadata.specs.Change as spec;
 ghost use Rattle.cluster_metadata.specs.MapSteps.{MapSteps};
@@ -15,7 +15,6 @@ ghost use Rattle.cluster_metadata.specs.Turns.{each_map, recut_rows};
 ghost use Rattle.cluster_metadata.specs.declared.change.Change.TheVariants as spec_change;
 
 use crate::change::Change;
-use crate::changed::changed;
 use crate::fitting::fits;
 use crate::map_book::MapBook;
 use crate::map_change::MapChange;
@@ -23,11 +22,22 @@ use crate::maps::maps_of;
 use crate::running::Running;
 use crate::turn::Turn;
 use crate::turning::{recut_book, turned_book};
-use cluster_terms::{Memory, PairList, Rows, rows_between};
+use cluster_terms::{Memory, PairList, TryCopy, rows_between};
 use node_directory::Directory;
 use placement_deltas::DeltaBook;
 use std::alloc::Global;
-use transformations::{Image, KeyspaceRows, cuts};
+use transformations::{Image, KeyspaceRows, SeqRows, cuts_among};
+
+/// The image of the next epoch, with another ring.
+fn with_tokens(image: &Image, tokens: &PairList) -> Result<Image, Memory>
+    requires { image.now.epoch < 2 ^ 64 - 1 }
+    ensures { IfOk result (λ next. next ≡ spec.changed image.now (spec_change.Tokens tokens.now)) }
+{
+    let mut next = image.copy()?;
+    next.epoch += 1;
+    next.tokens = tokens.copy()?;
+    Ok(next)
+}
 
 /// What new tokens do to the placement maps: all are placed anew. Without a keyspace there is none.
 fn maps_on(
@@ -47,7 +57,7 @@ fn maps_on(
     if keyspaces.is_empty() {
         return Ok(MapChange::Keep);
     }
-    let next = changed(alloc, image, change)?;
+    let next = with_tokens(image, tokens)?;
     let maps = maps_of(alloc, &next, keyspaces, directory, &MapBook::empty(alloc))?;
     Ok(MapChange::Anew(maps))
 }
@@ -76,35 +86,22 @@ fn maps_under(
     Ok(MapChange::Anew(maps))
 }
 
-/// The ranges between the cuts of the image after a change.
-fn ranges_after(alloc: Global, image: &Image, change: &Change) -> Result<Rows, Memory>
-    requires epochs { image.now.epoch < 2 ^ 64 - 1 }
-    requires follows { spec.Follows image.now.sequences change.now }
-    ensures ranges { IfOk result (λ ranges. ranges ≡ rows_between (cuts (spec.changed image.now change.now))) }
-    ensures tokens { OnOk result (AllByRecursion IsToken (cuts (spec.changed image.now change.now))) }
-{
-    let next = changed(alloc, image, change)?;
-    let cuts = cuts(alloc, &next)?;
-    rows_between(alloc, cuts.as_slice())
-}
-
-/// The maps of the ranges between the cuts of the image after a change, with the sets changed by the deltas of a
-/// movement.
-fn recut_after(
+/// The maps of the ranges between the cuts of a ring and these movements, with the sets that other maps have at their last
+/// tokens, changed by the deltas of a movement.
+fn recut_among(
     alloc: Global,
-    image: &Image,
+    tokens: &PairList,
+    sequences: &SeqRows,
     maps: &MapBook,
-    change: &Change,
     turn: Turn,
     deltas: &DeltaBook,
 ) -> Result<MapBook, Memory>
-    requires epochs { image.now.epoch < 2 ^ 64 - 1 }
-    requires follows { spec.Follows image.now.sequences change.now }
     ensures maps { IfOk result (λ next. next
-        ≡ each_map (recut_rows turn (rows_between (cuts (spec.changed image.now change.now)))) maps.now deltas.now) }
-    ensures tokens { OnOk result (AllByRecursion IsToken (cuts (spec.changed image.now change.now))) }
+        ≡ each_map (recut_rows turn (rows_between (cuts_among tokens.now sequences.now))) maps.now deltas.now) }
+    ensures tokens { OnOk result (AllByRecursion IsToken (cuts_among tokens.now sequences.now)) }
 {
-    let ranges = ranges_after(alloc, image, change)?;
+    let cuts = cuts_among(alloc, tokens, sequences.as_slice())?;
+    let ranges = rows_between(alloc, cuts.as_slice())?;
     recut_book(alloc, turn, maps, deltas, ranges.as_slice())
 }
 
@@ -114,8 +111,8 @@ fn recut_after(
 /// A change of nodes keeps the maps, and so does one of keyspaces that leaves their replications. New tokens place them
 /// anew, and new keyspaces those under new replications; the others are copied. If a
 /// movement begins or ends, the maps are copied, and the sets of each row are changed by the deltas of the movement.
-/// This needs the cuts of the next image, and so a copy of the image, and a sort of its tokens. All other changes give
-/// new sets to the rows that the deltas change.
+/// This needs the cuts of the next image, and so a sort of its tokens. All other changes give new sets to the rows that
+/// the deltas change.
 pub fn maps_for(
     alloc: Global,
     image: &Image,
@@ -141,8 +138,19 @@ pub fn maps_for(
         Change::Unregistered { .. } => Ok(MapChange::Keep),
         Change::Tokens(tokens) => maps_on(alloc, image, directory, tokens, change),
         Change::Keyspaces(rows) => maps_under(alloc, image, directory, maps, rows, change),
-        Change::Begun { plan, .. } => {
-            let next = recut_after(alloc, image, maps, change, Turn::Keep, &plan.gain)?;
+        Change::Begun {
+            plan,
+            sequences,
+            ..
+        } => {
+            let next = recut_among(
+                alloc,
+                &image.tokens,
+                sequences,
+                maps,
+                Turn::Keep,
+                &plan.gain,
+            )?;
             Ok(MapChange::Anew(next))
         }
         Change::Started { at, .. } => {
@@ -153,15 +161,20 @@ pub fn maps_for(
             let swap = &running[*at].plan().swap;
             Ok(MapChange::Sets(turned_book(alloc, Turn::Reads, maps, swap)?))
         }
-        Change::Finished { at, .. } => {
+        Change::Finished {
+            at,
+            tokens,
+            sequences,
+            ..
+        } => {
             let lose = &running[*at].plan().lose;
-            let next = recut_after(alloc, image, maps, change, Turn::Writes, lose)?;
+            let next = recut_among(alloc, tokens, sequences, maps, Turn::Writes, lose)?;
             Ok(MapChange::Anew(next))
         }
-        Change::Ended { at, .. } => {
+        Change::Ended { at, sequences } => {
             let movement = &running[*at];
             let (turn, gain) = (movement.undoing(), &movement.plan().gain);
-            let next = recut_after(alloc, image, maps, change, turn, gain)?;
+            let next = recut_among(alloc, &image.tokens, sequences, maps, turn, gain)?;
             Ok(MapChange::Anew(next))
         }
         Change::BroughtBack { at, .. } => {

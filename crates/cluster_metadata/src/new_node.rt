@@ -33,9 +33,18 @@ pub fn new_row(id: u32, name: &Name, dc: &Name, rack: &Name) -> Result<NodeRow, 
     })
 }
 
+/// How many nodes a permit has room for, with this many in the image: the next multiple of 64, and 64 more. So lists
+/// seldom move, and permits in a row ask for the same memory.
+fn room_beside(count: usize) -> usize
+    requires { count < 2 ^ 63 }
+    ensures { count < result }
+{
+    64 * (count / 64 + 2)
+}
+
 impl NewNode {
-    /// The new node of a row, with memory for twice the nodes of the image. The memory is used only if the image or the
-    /// directory has none to spare. `Err` means that memory ran out.
+    /// The new node of a row, with memory for all nodes of the image and 64 to 128 more. The memory is used only if the
+    /// image or the directory has none to spare. `Err` means that memory ran out.
     pub fn of_row(alloc: Global, image: &Image, row: NodeRow) -> Result<NewNode, Memory>
         requires next { image.now.next < 2 ^ 32 - 1 }
         requires row { row ≡ spec.new_row image.now.next row.name row.dc row.rack }
@@ -43,7 +52,7 @@ impl NewNode {
         ensures new { IfOk result (spec.IsNew image.now.nodes image.now.next) }
         ensures row { IfOk result (λ node. node.row ≡ row) }
     {
-        let count = 2 * image.nodes.as_slice().len() + 1;
+        let count = room_beside(image.nodes.as_slice().len());
         let nodes = Room::for_items(alloc, count)?;
         let directory = DirectoryRoom::for_node(alloc, &row.name, count)?;
         Ok(NewNode {

@@ -23,7 +23,7 @@ use std::alloc::Global;
 use std::marker::Model;
 use std::snapshot::Snapshot;
 use std::sync::ledger::Ledger;
-use transformations::{Command, Image, early_refusal};
+use transformations::{Command, Image, Refusal, early_refusal, register_refusal};
 
 /// An empty vector. If the change begins a movement, it has room for the values of all movements.
 fn room_for(alloc: Global, change: &Change) -> Result<Vec<Running>, Memory>
@@ -34,6 +34,23 @@ fn room_for(alloc: Global, change: &Change) -> Result<Vec<Running>, Memory>
         _ => 0,
     };
     Ok(Vec::with_capacity(alloc, count)?)
+}
+
+/// The first refusal of a command, apart from `Locked`. The name of a new node is looked up in the directory, which must
+/// hold the nodes of the image. `Err` means that memory ran out.
+fn first_refusal(
+    alloc: Global,
+    image: &Image,
+    directory: &Directory,
+    cmd: &Command,
+) -> Result<Option<Refusal>, Memory>
+    requires { directory.now.rows ≡ image.now.nodes }
+    ensures { IfOk result (λ found. found ≡ early_refusal_of image.now cmd.now) }
+{
+    match cmd {
+        Command::Register { name, .. } => Ok(register_refusal(image, directory.find(name))),
+        _ => early_refusal(alloc, image, cmd),
+    }
 }
 
 /// The permission to enact a command in an image that accepts it. Contracts see it as this image and this command. It
@@ -106,10 +123,10 @@ pub(crate) fn permit_for<L: Ledger>(
     ensures uncounted { prepared_by image.now.tokens cmd.now ≡ None → walks.new ≡ walks.old }
     ensures early { IsSome (early_refusal_of image.now cmd.now) → walks.new ≡ walks.old }
 {
-    if let Some(refusal) = early_refusal(alloc, image, cmd)? {
+    if let Some(refusal) = first_refusal(alloc, image, directory, cmd)? {
         return Err(AdmitFault::Refused(refusal));
     }
-    let change = change_of(alloc, image, locks, cmd, walks)?;
+    let change = change_of(alloc, image, directory, locks, cmd, walks)?;
     let maps = maps_for(alloc, image, directory, maps, running, &change)?;
     let lock = NewLock::of_change(alloc, &change)?;
     let room = room_for(alloc, &change)?;

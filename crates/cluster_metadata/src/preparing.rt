@@ -20,8 +20,9 @@ use crate::admit_fault::AdmitFault;
 use crate::change::Change;
 use cluster_terms::{Memory, NodeId, Steps, TryCopy};
 use locked_ranges::LockTable;
+use node_directory::Directory;
 use placement_deltas::Plan;
-use sequence_plans::plan;
+use sequence_plans::plan_in;
 use sequence_rows::{join_row, leave_row, move_row, replace_row};
 use std::alloc::Global;
 use std::sync::ledger::Ledger;
@@ -80,13 +81,14 @@ pub fn row_prepared(alloc: Global, image: &Image, cmd: &Command) -> Result<Optio
     Ok(Some(row))
 }
 
-/// The change that begins the movement of a node that has none.
+/// The change that begins the movement of a node that has none. The directory must hold the nodes of the image.
 ///
 /// Errors: `Refused` if its ranges are locked: they share a token with the ranges of a movement in flight, under the
 /// replication of one keyspace; `Memory` if memory runs out.
 pub fn prepare<L: Ledger>(
     alloc: Global,
     image: &Image,
+    directory: &Directory,
     locks: &LockTable,
     row: SeqRow,
     walks: &mut Steps<L>,
@@ -95,11 +97,12 @@ pub fn prepare<L: Ledger>(
     requires new { AllByRecursion (λ s. (s.node == row.node) ≡ false) image.now.sequences }
     requires sound { IsSound (with_movement image.now row) }
     requires movements { IsStrictlySortedBy by_node image.now.sequences }
+    requires nodes { directory.now.rows ≡ image.now.nodes }
     requires locks { AreLocksOf image.now image.now.sequences locks.now }
     ensures change { IfOk result (Begins image.now row) }
     ensures refusal { AdmitsUnless (locked (with_movement image.now row) row) result }
 {
-    let plan = match plan(alloc, image, row, walks) {
+    let plan = match plan_in(alloc, image, directory, row, walks) {
         Ok(plan) => plan,
         Err((_row, memory)) => return Err(AdmitFault::from(memory)),
     };

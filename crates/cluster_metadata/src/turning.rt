@@ -1,6 +1,6 @@
 //! Changes placement maps by the deltas of a movement.
 
-ghost use Rattle.std.specs.Prelude.{◌≡◌, ◌<◌, length, IfOk, OnOk};
+ghost use Rattle.std.specs.Prelude.{◌≡◌, length, IfOk, OnOk};
 ghost use Rattle.range_placements.specs.Exchanging.{exchanged};
 ghost use Rattle.cluster_metadata.specs.MapChanges.{each_exchanged};
 ghost use Rattle.cluster_metadata.specs.Turns as spec;
@@ -9,13 +9,11 @@ use crate::map_book::MapBook;
 use crate::map_change::BookChanges;
 use crate::map_row::MapRow;
 use crate::turn::Turn;
-use cluster_terms::{Memory, RightEnd, Steps, TokenRange, TryCopy};
+use cluster_terms::{Memory, RightEnd, TokenRange, TryCopy};
 use node_sets::NodeSet;
 use placement_deltas::{Delta, DeltaBook};
 use range_placements::{PlacementMap, PlacementRow, RowChange, RowChanges, with_change};
 use std::alloc::Global;
-use std::marker::Brand;
-use std::sync::ledger::{Blank, Ledger};
 
 /// A row with this right end and these reads and writes, changed by the nodes gained and the nodes lost.
 fn turned_sets(
@@ -58,17 +56,18 @@ fn turned_sets(
     }
 }
 
-/// Adds the new sets of a row, if the delta shows a change at its last token.
+/// Adds the new sets of a row, if the delta shows a change at its last token. `near` is where the delta is looked at.
 fn push_turned(
     changes: &mut RowChanges,
     turn: Turn,
     at: usize,
     row: &PlacementRow,
     delta: &Delta,
+    near: &mut usize,
 ) -> Result<(), Memory>
     ensures { OnOk result (spec.AddsTurned turn delta.now at row.now changes.old changes.new) }
 {
-    let (gained, lost) = delta.at(row.last_token());
+    let (gained, lost) = delta.at_near(row.last_token(), near);
     if gained.is_empty() && lost.is_empty() {
         return Ok(());
     }
@@ -90,50 +89,58 @@ fn turned_rows(
     ensures { IfOk result (λ changes. exchanged changes map.now ≡ spec.turned_rows turn map.now delta.now) }
 {
     let mut changes = RowChanges::empty(alloc);
+    let mut near = 0;
     for (at, row) in map.rows().iter().enumerate() {
-        push_turned(&mut changes, turn, at, row, delta)?;
+        push_turned(&mut changes, turn, at, row, delta, &mut near)?;
     }
     Ok(changes)
 }
 
+/// Where a pass over ascending tokens has come in a map and in a delta.
+#[derive(Drop)]
+struct Places {
+    map: usize,
+    delta: usize,
+}
+
 /// The row of a range, with the sets of its last token in a map, changed by what the delta shows there.
-fn recut_row<L: Ledger>(
+fn recut_row(
     turn: Turn,
     map: &PlacementMap,
     delta: &Delta,
     range: &TokenRange,
-    steps: &mut Steps<L>,
+    places: &mut Places,
 ) -> Result<PlacementRow, Memory>
     ensures { IfOk result (λ row. row ≡ spec.row_with (spec.turned_at turn map.now delta.now) range.now) }
 {
     let last = range.last_token();
-    let (reads, writes) = map.at(last, steps);
-    let (gained, lost) = delta.at(last);
+    let (reads, writes) = map.at_near(last, &mut places.map);
+    let (gained, lost) = delta.at_near(last, &mut places.delta);
     turned_sets(turn, range.right, reads, writes, gained, lost)
 }
 
 /// A map of these ranges, with the sets of their last tokens in another map, changed by what the delta shows there.
-fn recut_map<L: Ledger>(
+fn recut_map(
     alloc: Global,
     turn: Turn,
     map: &PlacementMap,
     delta: &Delta,
     ranges: &[TokenRange],
-    steps: &mut Steps<L>,
 ) -> Result<PlacementMap, Memory>
     requires { spec.AreMapRanges ranges.now }
     ensures { IfOk result (λ next. next ≡ spec.recut_rows turn ranges.now map.now delta.now) }
 {
     let mut next = Vec::with_capacity(alloc, ranges.len())?;
+    let mut places = Places { map: 0, delta: 0 };
     for range in ranges {
-        next.push(recut_row(turn, map, delta, range, steps)?)?;
+        next.push(recut_row(turn, map, delta, range, &mut places)?)?;
     }
     Ok(PlacementMap::from_rows(next))
 }
 
 /// The new sets of the rows of a book's maps that the deltas of a movement change. The deltas are under the same
-/// replications in the same order. `Err` means that memory ran out. Cost: under each replication a binary search in the
-/// delta for each row, and a pass over the sets for each row that changes.
+/// replications in the same order. `Err` means that memory ran out. Cost: under each replication one pass over the map and
+/// the delta, and a pass over the sets for each row that changes.
 pub fn turned_book(
     alloc: Global,
     turn: Turn,
@@ -150,35 +157,9 @@ pub fn turned_book(
     Ok(changes)
 }
 
-/// The maps of these ranges, as `recut_book` makes them, with a counter of steps for the searches.
-fn recut<L: Ledger>(
-    alloc: Global,
-    turn: Turn,
-    book: &MapBook,
-    deltas: &DeltaBook,
-    ranges: &[TokenRange],
-    blank: Blank,
-) -> Result<MapBook, Memory>
-    requires name { blank.name ≡ L.name }
-    requires parts { blank.parts ≡ L.parts }
-    requires some { 0 < blank.parts }
-    requires ranges { spec.AreMapRanges ranges.now }
-    ensures { IfOk result (λ next. next ≡ spec.each_map (spec.recut_rows turn ranges.now) book.now deltas.now) }
-{
-    let mut steps = Steps::<L>::begin(blank);
-    let mut next = MapBook::empty(alloc);
-    for (row, deltas) in book.as_slice().iter().zip(deltas.as_slice()) {
-        next.push(MapRow {
-            replication: row.replication.copy()?,
-            map: recut_map(alloc, turn, &row.map, &deltas.delta, ranges, &mut steps)?,
-        })?;
-    }
-    Ok(next)
-}
-
 /// The maps of these ranges, with the sets of their last tokens in the maps of a book, changed by the deltas of a
 /// movement. The deltas are under the same replications in the same order. `Err` means that memory ran out. Cost: under
-/// each replication two binary searches and a pass over the sets for each range.
+/// each replication one pass over the map, the delta and the ranges, and a copy of the sets for each range.
 pub fn recut_book(
     alloc: Global,
     turn: Turn,
@@ -189,5 +170,12 @@ pub fn recut_book(
     requires { spec.AreMapRanges ranges.now }
     ensures { IfOk result (λ next. next ≡ spec.each_map (spec.recut_rows turn ranges.now) book.now deltas.now) }
 {
-    recut::<Brand>(alloc, turn, book, deltas, ranges, Blank::new(1))
+    let mut next = MapBook::empty(alloc);
+    for (row, deltas) in book.as_slice().iter().zip(deltas.as_slice()) {
+        next.push(MapRow {
+            replication: row.replication.copy()?,
+            map: recut_map(alloc, turn, &row.map, &deltas.delta, ranges)?,
+        })?;
+    }
+    Ok(next)
 }

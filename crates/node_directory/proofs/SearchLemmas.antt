@@ -40,7 +40,7 @@ index-le : (m k n : ℕ) → m ≤ k → ordering_index (nat_cmp m n) ≤ orderi
 index-le m k n le = grind (arith, nat_tests)
 
 -- the place of a row with the id of a node
-place-from_id : (least : ℕ) (rows : List NodeRow) (next n at : ℕ) → are_ascending least (ids_of rows) next ≡ true → at < length rows → HoldsAt (λ row. row.id ≡ n) rows at → IsPlace rows n at
+pub place-from_id : (least : ℕ) (rows : List NodeRow) (next n at : ℕ) → are_ascending least (ids_of rows) next ≡ true → at < length rows → HoldsAt (λ row. row.id ≡ n) rows at → IsPlace rows n at
 place-from_id least [] next n at h lt id = absurd (omega arith)
 place-from_id least (row ∷ rows) next n at h lt id =
     record { in_range = lt; row = slice_get-get_or (row ∷ rows) at row lt ∙ sym (row_of-at least (row ∷ rows) next h at row lt) ∙ ap (row_of (row ∷ rows)) (id row); id = id }

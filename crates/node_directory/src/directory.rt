@@ -3,7 +3,7 @@ ghost use Rattle.std.specs.Option.{option_copied, option_map};
 ghost use Rattle.cluster_terms.specs.NodeRow.{row_of};
 ghost use Rattle.cluster_terms.specs.Replication.{rack_within};
 ghost use Rattle.node_directory.specs.Directory.{is_directory, node_named, place_in, registered, other_rows, marked_left};
-ghost use Rattle.node_directory.specs.Kept.{IsPlaceOf};
+ghost use Rattle.node_directory.specs.Kept.{IsPlace, IsPlaceOf};
 
 use crate::kept::{by_name, ids_ascend, push_copy};
 use crate::room::DirectoryRoom;
@@ -223,13 +223,36 @@ impl Directory {
         Some(row)
     }
 
-    /// The position of a node's row. Returns `None` if and only if the node is not registered.
-    fn place(&self, n: NodeId) -> Option<usize>
+    /// Whether the row at a position is that of a node.
+    fn is_at(&self, at: usize, n: NodeId) -> bool
+        ensures { IsTrue result → IsPlace self.now.rows n at }
+    {
+        let _next = self.next_id();
+        match self.row(at) {
+            Some(row) => row.id == n,
+            None => false,
+        }
+    }
+
+    /// The position of a node's row, by a binary search. Returns `None` if and only if the node is not registered.
+    fn search(&self, n: NodeId) -> Option<usize>
         ensures { IsPlaceOf self.now.rows n result }
     {
         self.nodes
             .binary_search_by_key(&n.0, |_name, row| row.id.0)
             .ok()
+    }
+
+    /// The position of a node's row. Returns `None` if and only if the node is not registered. As long as no node was
+    /// removed, the position is the id less one, and nothing is searched.
+    fn place(&self, n: NodeId) -> Option<usize>
+        ensures { IsPlaceOf self.now.rows n result }
+    {
+        let at = (n.0 as usize).saturating_sub(1);
+        if self.is_at(at, n) {
+            return Some(at);
+        }
+        self.search(n)
     }
 }
 

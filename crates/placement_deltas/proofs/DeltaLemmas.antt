@@ -1,7 +1,8 @@
 -- Deltas: the row of a token, and the inverse.
-use Rattle.std.proofs.Common.{◌≡◌, ℕ, zero, suc, ◌<◌, ◌≤◌, Bool, true, false, if◌then◌else◌, ℤ, ◌≤ℤ◌, int_lt, int_le, List, [], ◌∷◌, length, get_or, refl, sym, ap, ◌∙◌, arith}
+use Rattle.std.proofs.Common.{◌≡◌, ℕ, zero, suc, ◌-◌, ◌<◌, ◌≤◌, Bool, true, false, if◌then◌else◌, ℤ, ◌≤ℤ◌, int_lt, int_le, List, [], ◌∷◌, length, get_or, refl, sym, ap, ◌∙◌, arith}
 use Rattle.std.specs.List.{AllByRecursion}
 use Rattle.std.specs.List.Sorted.{IsPartitionPoint, IsPartitionedBy}
+use Rattle.std.proofs.lemmas.Bool.{true≢false}
 use Rattle.std.proofs.lemmas.Int.{ints}
 use Rattle.cluster_terms.proofs.AscendingLemmas.{weaker}
 use Rattle.cluster_terms.specs.Arc.{greatest_token}
@@ -55,6 +56,19 @@ some_left (row ∷ []) t (suc k) delta top within split =
 some_left (row ∷ next ∷ rows) t (suc k) delta top within split =
     let rest = some_left (next ∷ rows) t k delta.2 top (omega arith) (λ j e from below. split.0 (suc j) e (omega arith) (omega arith), λ j e from below. split.1 (suc j) e (omega arith) (omega arith)) in
     omega arith
+
+-- where a row doesn't end before a token, and the row before it does if there is one, the rows split there
+pub splits_here : (rows : List DeltaRow) (t : ℤ) (i : ℕ) → IsDelta rows → i < length rows
+    → ((d : DeltaRow) → int_lt (last_token (get_or rows i d).right) t ≡ false) → ((d : DeltaRow) → 1 ≤ i → int_lt (last_token (get_or rows (i - 1) d).right) t ≡ true)
+    → IsPartitionPoint (λ r. int_lt (last_token r.right) t ≡ true) (λ r. int_lt (last_token r.right) t ≡ false) rows i
+splits_here rows t i delta within here before = (
+  λ k d from below. ends_climb rows t delta k (i - 1) d (omega arith) (omega arith) (before d (omega arith)),
+  λ k d from below. high k d from below (int_lt (last_token (get_or rows k d).right) t) refl,
+)
+  where
+    high : (k : ℕ) (d : DeltaRow) → i ≤ k → k < length rows → (b : Bool) → int_lt (last_token (get_or rows k d).right) t ≡ b → int_lt (last_token (get_or rows k d).right) t ≡ false
+    high k d from below false e = e
+    high k d from below true e = absurd (true≢false (sym (ends_climb rows t delta i k d from below e) ∙ here d))
 
 -- where k rows end before a token, the next row tells what is gained and lost at the token
 pub found_at : (rows : List DeltaRow) (t : ℤ) (k : ℕ) (d : DeltaRow)

@@ -1,4 +1,4 @@
-ghost use Rattle.std.specs.Prelude.{◌≡◌, int_lt, true, false, ◌<◌, length, IfOk};
+ghost use Rattle.std.specs.Prelude.{◌≡◌, int_lt, true, false, ◌<◌, length, IfOk, IsTrue};
 ghost use Rattle.std.specs.List.Sorted.{IsPartitionPoint, IsStrictlySortedBy};
 ghost use Rattle.std.specs.Ordering.{int_cmp};
 ghost use Rattle.cluster_terms.specs.Row.{last_token, rows_between};
@@ -39,6 +39,42 @@ fn count_before(rows: &[DeltaRow], t: Token) -> usize
 {
     let number = t.value();
     rows.partition_point(|row| row.last_token().value() < number)
+}
+
+/// Whether the row at an index is the first one that ends at or after a token.
+fn is_row_of(rows: &[DeltaRow], at: usize, t: Token) -> bool
+    requires { IsDelta rows.now }
+    ensures bound { IsTrue result → at < length rows.now }
+    ensures split { IsTrue result → IsPartitionPoint (λ r. int_lt (last_token r.right) t ≡ true)
+        (λ r. int_lt (last_token r.right) t ≡ false) rows.now at }
+{
+    if at >= rows.len() {
+        return false;
+    }
+    if rows[at].last_token() < t {
+        return false;
+    }
+    if at == 0 {
+        return true;
+    }
+    rows[at - 1].last_token() < t
+}
+
+/// How many rows end before a token: `near` or one more, if that is right, and otherwise by a binary search.
+fn count_near(rows: &[DeltaRow], near: usize, t: Token) -> usize
+    requires { IsDelta rows.now }
+    ensures bound { result < length rows.now }
+    ensures split { IsPartitionPoint (λ r. int_lt (last_token r.right) t ≡ true)
+        (λ r. int_lt (last_token r.right) t ≡ false) rows.now result }
+{
+    if is_row_of(rows, near, t) {
+        return near;
+    }
+    let next = near.saturating_add(1);
+    if is_row_of(rows, next, t) {
+        return next;
+    }
+    count_before(rows, t)
 }
 
 /// The row with the nodes gained and the nodes lost exchanged.
@@ -86,6 +122,21 @@ impl Delta {
     {
         let rows = self.rows();
         let row = &rows[count_before(rows, t)];
+        (&row.gained, &row.lost)
+    }
+
+    /// The nodes gained and the nodes lost at a token, as `at` gives them. Takes no memory.
+    ///
+    /// `near` may be any index, and becomes that of the token's row. If it was this index or the one before, only these
+    /// rows are looked at, so for ascending tokens that miss no row a look-up costs a few comparisons. Otherwise the
+    /// cost is a binary search.
+    pub fn at_near(&self, t: Token, near: &mut usize) -> (&NodeSet, &NodeSet)
+        ensures { (result.0.now, result.1.now) ≡ delta_at self.now t }
+    {
+        let rows = self.rows();
+        let found = count_near(rows, *near, t);
+        *near = found;
+        let row = &rows[found];
         (&row.gained, &row.lost)
     }
 

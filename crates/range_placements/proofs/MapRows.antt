@@ -84,6 +84,19 @@ some_left (row ∷ next ∷ rows) t (suc k) map top within split =
     let rest = some_left (next ∷ rows) t k map.1 top (omega arith) (splits_tail row (next ∷ rows) t k within split) in
     omega arith
 
+-- where a row doesn't end before a token, and the row before it does if there is one, the rows split there
+pub splits_here : (rows : List PlacementRow) (t : ℤ) (i : ℕ) → IsPlacementMap rows → i < length rows
+    → ((d : PlacementRow) → int_lt (last_token (get_or rows i d).right) t ≡ false) → ((d : PlacementRow) → 1 ≤ i → int_lt (last_token (get_or rows (i - 1) d).right) t ≡ true)
+    → Splits t rows i
+splits_here rows t i map within here before = (
+  λ k d from below. ends_climb rows t map k (i - 1) d (omega arith) (omega arith) (before d (omega arith)),
+  λ k d from below. high k d from below (int_lt (last_token (get_or rows k d).right) t) refl,
+)
+  where
+    high : (k : ℕ) (d : PlacementRow) → i ≤ k → k < length rows → (b : Bool) → int_lt (last_token (get_or rows k d).right) t ≡ b → int_lt (last_token (get_or rows k d).right) t ≡ false
+    high k d from below false e = e
+    high k d from below true e = absurd (true≢false (sym (ends_climb rows t map i k d from below e) ∙ here d))
+
 -- where k rows end before a token, the next row has the reads and the writes at the token
 pub found_at : (rows : List PlacementRow) (t : ℤ) (k : ℕ) (d : PlacementRow) → Splits t rows k → k < length rows → placement_in (get_or rows k d) ≡ map_at rows t
 found_at [] t k d split within = absurd (omega arith)

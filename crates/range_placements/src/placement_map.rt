@@ -1,4 +1,4 @@
-ghost use Rattle.std.specs.Prelude.{◌≡◌, ℤ, ◌≤ℤ◌, int_lt, true, false, not, ◌+◌, ◌*◌, ◌-◌, ◌^◌, ◌<◌, ◌≤◌, length, filter, IfOk, MatchResult};
+ghost use Rattle.std.specs.Prelude.{◌≡◌, ℤ, ◌≤ℤ◌, int_lt, true, false, not, ◌+◌, ◌*◌, ◌-◌, ◌^◌, ◌<◌, ◌≤◌, length, filter, IfOk, IsTrue, MatchResult};
 ghost use Rattle.std.specs.List.Sorted.{IsPartitionPoint};
 ghost use Rattle.std.specs.Ordering.{int_cmp, int_eq};
 ghost use Rattle.cluster_terms.specs.Arc.{IsToken, greatest_token};
@@ -79,6 +79,42 @@ fn find<L: Ledger>(rows: &[PlacementRow], t: Token, steps: &mut Steps<L>) -> usi
     low
 }
 
+/// Whether the row at an index is the first one that ends at or after a token.
+fn is_row_of(rows: &[PlacementRow], at: usize, t: Token) -> bool
+    requires { IsPlacementMap rows.now }
+    ensures bound { IsTrue result → at < length rows.now }
+    ensures split { IsTrue result → IsPartitionPoint (λ r. int_lt (last_token r.right) t ≡ true)
+        (λ r. int_lt (last_token r.right) t ≡ false) rows.now at }
+{
+    if at >= rows.len() {
+        return false;
+    }
+    if rows[at].last_token() < t {
+        return false;
+    }
+    if at == 0 {
+        return true;
+    }
+    rows[at - 1].last_token() < t
+}
+
+/// How many rows end before a token: `near` or one more, if that is right, and otherwise by a binary search.
+fn count_near(rows: &[PlacementRow], near: usize, t: Token) -> usize
+    requires { IsPlacementMap rows.now }
+    ensures bound { result < length rows.now }
+    ensures split { IsPartitionPoint (λ r. int_lt (last_token r.right) t ≡ true)
+        (λ r. int_lt (last_token r.right) t ≡ false) rows.now result }
+{
+    if is_row_of(rows, near, t) {
+        return near;
+    }
+    let next = near.saturating_add(1);
+    if is_row_of(rows, next, t) {
+        return next;
+    }
+    count_before(rows, t)
+}
+
 /// Makes a token a cut of the rows.
 fn split(rows: &mut PlacementRows, t: Token) -> Result<(), Memory>
     requires { IsPlacementMap rows.old.items }
@@ -136,6 +172,21 @@ impl PlacementMap {
     {
         let rows = self.rows();
         let row = &rows[find(rows, t, steps)];
+        (&row.reads, &row.writes)
+    }
+
+    /// The reads and the writes at a token, as `at` gives them. Takes no memory.
+    ///
+    /// `near` may be any index, and becomes that of the token's row. If it was this index or the one before, only these
+    /// rows are looked at, so for ascending tokens that miss no row a look-up costs a few comparisons. Otherwise the
+    /// cost is a binary search.
+    pub fn at_near(&self, t: Token, near: &mut usize) -> (&NodeSet, &NodeSet)
+        ensures { (result.0.now, result.1.now) ≡ map_at self.now t }
+    {
+        let rows = self.rows();
+        let found = count_near(rows, *near, t);
+        *near = found;
+        let row = &rows[found];
         (&row.reads, &row.writes)
     }
 

@@ -1,10 +1,8 @@
-pub mod EndLemmas
+pub mod ChangeLemmas
 pub mod MappedItems
-pub mod MarkLemmas
-pub mod MergeLemmas
-pub mod NodeAt
-pub mod PassLemmas
-pub mod ReachedLemmas
-pub mod SweepLemmas
-pub mod SweepOrder
+pub mod PartLemmas
+pub mod RoundLemmas
+pub mod RowLemmas
 pub mod TokenLemmas
+pub mod WalkLemmas
+pub mod WindowLemmas

@@ -1,66 +1,49 @@
--- Ascending tokens: by position, and by search.
-use Rattle.std.proofs.Common.{◌≡◌, ℕ, suc, zero, ◌<◌, ◌≤◌, Bool, true, false, ℤ, ◌<ℤ◌, ◌≤ℤ◌, int_lt, List, [], ◌∷◌, length, get_or, refl, sym, ◌⊎◌, inl, inr, arith}
-use Rattle.std.specs.List.{AllByRecursion}
-use Rattle.std.specs.List.Sorted.{IsPartitionPoint, IsPartitionedBy, IsStrictlySortedBy}
-use Rattle.std.specs.Ordering.{int_cmp, int_eq}
+-- Tokens among tokens.
+use Rattle.std.proofs.Common.{◌≡◌, ℕ, ◌<◌, Bool, true, false, ◌||◌, ℤ, List, [], ◌∷◌, ◌++◌, length, get_or, Some, refl, sym, ap, ◌∙◌, subst}
+use Rattle.std.proofs.lemmas.Bool.{false≢true, or_left, or_right}
+use Rattle.std.proofs.lemmas.Bool.Decides.{Decides-int_eq}
+use Rattle.std.proofs.lemmas.List.Folds.{list_any-append, list_any_at}
+use Rattle.std.specs.List.{AllByRecursion, list_any, slice_get}
+use Rattle.std.specs.Ordering.{int_eq}
 use Rattle.std.specs.Set.{is_member}
-use Rattle.std.specs.declared.cmp.Ordering.TheVariants.{Less}
-use Rattle.std.proofs.lemmas.Bool.{cases_lt}
-use Rattle.std.proofs.lemmas.Int.{ints}
-use Rattle.std.proofs.lemmas.List.{get_or_default}
-use Rattle.std.proofs.lemmas.List.Folds.{list_any_at, list_any_none}
-use Rattle.std.proofs.lemmas.Map.Keys.{sorted_head, sorted_tail}
+use Rattle.ring_reach.specs.Moved.{AreAmong}
 
--- ---- by position
+pub itself : (t : ℤ) (ts : List ℤ) → is_member int_eq (t ∷ ts) t ≡ true
+itself t ts = or_left (int_eq t t) (is_member int_eq ts t) ((Decides-int_eq t t).1 refl)
 
--- what holds of each item holds of the one at a position
-pub all_at : {X : Type 0} (P : X → Type 0) (xs : List X) → AllByRecursion P xs → (k : ℕ) (d : X) → k < length xs → P (get_or xs k d)
-all_at P [] all k d in_k = absurd (omega arith)
-all_at P (x ∷ xs) all zero d in_k = all.0
-all_at P (x ∷ xs) all (suc k) d in_k = all_at P xs all.1 k d (omega arith)
+-- the token at a position, and the first one
+pub member_at : (ts : List ℤ) (i : ℕ) (t : ℤ) → i < length ts → t ≡ get_or ts i t → is_member int_eq ts t ≡ true
+member_at ts i t in_i here = list_any_at (int_eq t) ts i t in_i ((Decides-int_eq t (get_or ts i t)).1 here)
 
--- the tokens at two positions are in the order of the positions
-pub ascend-lt : (ts : List ℤ) → IsStrictlySortedBy int_cmp ts → (i j : ℕ) (d e : ℤ) → i < j → j < length ts → get_or ts i d <ℤ get_or ts j e
-ascend-lt [] up i j d e lt in_j = absurd (omega arith)
-ascend-lt (t ∷ ts) up i zero d e lt in_j = absurd (omega arith)
-ascend-lt (t ∷ ts) up zero (suc j) d e lt in_j =
-    let less = all_at (λ u. int_cmp t u ≡ Less) ts (sorted_head int_cmp t ts up) j e (omega arith) in grind (arith, ints, less)
-ascend-lt (t ∷ ts) up (suc i) (suc j) d e lt in_j = ascend-lt ts (sorted_tail int_cmp t ts up) i j d e (omega arith) (omega arith)
+pub first_member : (ts : List ℤ) (t : ℤ) → Some t ≡ slice_get ts 0 → is_member int_eq ts t ≡ true
+first_member [] t e = absurd (cc)
+first_member (u ∷ ts) t e = or_left (int_eq t u) (is_member int_eq ts t) ((Decides-int_eq t u).1 (let same : Some t ≡ Some u = e in cc))
 
-pub ascend-le : (ts : List ℤ) → IsStrictlySortedBy int_cmp ts → (i j : ℕ) (d e : ℤ) → i ≤ j → j < length ts → get_or ts i d ≤ℤ get_or ts j e
-ascend-le ts up i j d e le in_j = by (cases_lt i j)
+-- what holds of all tokens holds of one among them
+pub at_member : (P : ℤ → Type 0) (ts : List ℤ) (t : ℤ) → AllByRecursion P ts → is_member int_eq ts t ≡ true → P t
+at_member P [] t all h = absurd (false≢true h)
+at_member P (u ∷ ts) t all h = by (int_eq t u) refl h (at_member P ts t all.1)
   where
-    by : (i < j) ⊎ (j ≤ i) → get_or ts i d ≤ℤ get_or ts j e
-    by (inl lt) = let l = ascend-lt ts up i j d e lt in_j in omega (arith, ints, l)
-    by (inr ge) =
-        let same : i ≡ j = omega arith in
-        let in_i : i < length ts = omega arith in
-        rw (get_or_default ts i d e in_i, same) (omega (arith, ints))
+    by : (b : Bool) → int_eq t u ≡ b → (b || is_member int_eq ts t) ≡ true → (is_member int_eq ts t ≡ true → P t) → P t
+    by true e h rest = subst P (sym ((Decides-int_eq t u).0 e)) all.0
+    by false e h rest = rest h
 
--- ---- by search
-
--- the tokens below t stand before the others
-pub below_first : (ts : List ℤ) (t : ℤ) → IsStrictlySortedBy int_cmp ts → IsPartitionedBy (λ u. int_lt u t) ts
-below_first ts t up i j d le in_j low = let l = ascend-le ts up i j d d le in_j in grind (arith, ints, low, l)
-
-pub split_from_tests : (ts : List ℤ) (t : ℤ) (n : ℕ) → IsPartitionPoint (λ u. int_lt u t ≡ true) (λ u. int_lt u t ≡ false) ts n → IsPartitionPoint (λ u. u <ℤ t) (λ u. t ≤ℤ u) ts n
-split_from_tests ts t n split =
-    (λ k d zero lt. let low = split.0 k d zero lt in grind (arith, ints, low), λ k d le lt. let high = split.1 k d le lt in grind (arith, ints, high))
-
--- t is among ascending tokens exactly where the first one that is not below it is t
-pub has_first : (ts : List ℤ) (t : ℤ) (n : ℕ) → IsStrictlySortedBy int_cmp ts → IsPartitionPoint (λ u. u <ℤ t) (λ u. t ≤ℤ u) ts n → (d : ℤ) → n < length ts → int_eq (get_or ts n d) t ≡ is_member int_eq ts t
-has_first ts t n up split d in_n = by (int_eq (get_or ts n d) t) refl
+pub any_member : (f : ℤ → Bool) (ts : List ℤ) (t : ℤ) → is_member int_eq ts t ≡ true → f t ≡ true → list_any f ts ≡ true
+any_member f [] t h passes = absurd (false≢true h)
+any_member f (u ∷ ts) t h passes = by (int_eq t u) refl h (λ k. any_member f ts t k passes)
   where
-    by : (b : Bool) → int_eq (get_or ts n d) t ≡ b → b ≡ is_member int_eq ts t
-    by true e = sym (list_any_at (int_eq t) ts n d in_n (let at = e in grind (arith, ints, at)))
-    by false e = sym (list_any_none (int_eq t) ts apart)
-      where
-        apart : (k : ℕ) (f : ℤ) → k < length ts → int_eq t (get_or ts k f) ≡ false
-        apart k f in_k = at (cases_lt k n)
-          where
-            at : (k < n) ⊎ (n ≤ k) → int_eq t (get_or ts k f) ≡ false
-            at (inl low) = let l = split.0 k f (omega arith) low in grind (arith, ints, l)
-            at (inr high) = let l = ascend-le ts up n k d f high in_k in let m = split.1 n d (omega arith) in_n in grind (arith, ints, l, m, e)
+    by : (b : Bool) → int_eq t u ≡ b → (b || is_member int_eq ts t) ≡ true → (is_member int_eq ts t ≡ true → list_any f ts ≡ true) → (f u || list_any f ts) ≡ true
+    by true e h rest = or_left (f u) (list_any f ts) (ap f (sym ((Decides-int_eq t u).0 e)) ∙ passes)
+    by false e h rest = or_right (f u) (list_any f ts) (rest h)
 
-pub has_none : (ts : List ℤ) (t : ℤ) (n : ℕ) → IsPartitionPoint (λ u. u <ℤ t) (λ u. t ≤ℤ u) ts n → length ts ≤ n → false ≡ is_member int_eq ts t
-has_none ts t n split all = sym (list_any_none (int_eq t) ts (λ k f in_k. let l = split.0 k f (omega arith) (omega arith) in grind (arith, ints, l)))
+pub member_left : (ts us : List ℤ) (t : ℤ) → is_member int_eq ts t ≡ true → is_member int_eq (ts ++ us) t ≡ true
+member_left ts us t h = list_any-append (int_eq t) ts us ∙ or_left (is_member int_eq ts t) (is_member int_eq us t) h
+
+pub member_right : (ts us : List ℤ) (t : ℤ) → is_member int_eq us t ≡ true → is_member int_eq (ts ++ us) t ≡ true
+member_right ts us t h = list_any-append (int_eq t) ts us ∙ or_right (is_member int_eq ts t) (is_member int_eq us t) h
+
+-- what holds of all tokens holds of all that are among them
+pub all_among : (P : ℤ → Type 0) (ts us : List ℤ) → AreAmong ts us → AllByRecursion P us → AllByRecursion P ts
+all_among P [] us among all = tt
+all_among P (t ∷ ts) us among all =
+    (at_member P us t all (among t (itself t ts)), all_among P ts us (λ u h. among u (or_right (int_eq u t) (is_member int_eq ts u) h)) all)

@@ -1,7 +1,8 @@
 -- The tokens that a change of a ring reaches.
 -- Of the code: no promise rests on these.
-use Rattle.std.specs.Prelude.{Bool, ℤ, List}
+use Rattle.std.specs.Prelude.{Bool, ℤ, List, ◌++◌}
 use Rattle.cluster_terms.specs.Group.{Group}
+use Rattle.cluster_terms.specs.Pair.{tokens_of}
 use Rattle.cluster_terms.specs.Reach.{is_reached, is_reached_in}
 use Rattle.ring_reach.specs.declared.change.Change.{Change}
 
@@ -11,3 +12,7 @@ reaches_in change g = λ x. is_reached_in change.fixed.now change.widest.now cha
 
 abbrev pub reaches_any : Change → List Group → ℤ → Bool
 reaches_any change gs = λ x. is_reached gs change.fixed.now change.widest.now change.moved.now x
+
+-- the tokens of the pairs that stay and of those that come or go
+abbrev pub tokens_of_both : Change → List ℤ
+tokens_of_both change = tokens_of change.fixed.now ++ tokens_of change.moved.now

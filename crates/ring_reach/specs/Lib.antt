@@ -1,4 +1,5 @@
 pub mod Change
 pub mod Moved
 pub mod Settled
-pub mod Sweep
+pub mod Walk
+pub mod Windows

@@ -1,13 +1,14 @@
-ghost use Rattle.std.specs.Prelude.{◌≡◌, IfOk, OnOk, length, map, true};
+ghost use Rattle.std.specs.Prelude.{◌≡◌, ℤ, IfOk};
 ghost use Rattle.node_directory.specs.Members.{group_of};
-ghost use Rattle.ring_reach.specs.Change.{reaches_in};
-ghost use Rattle.ring_reach.specs.Moved.{AreEnds, HaveSameTokens, tokens_in};
-ghost use Rattle.ring_reach.specs.Sweep.{either};
+ghost use Rattle.ring_reach.specs.Change.{reaches_in, tokens_of_both};
+ghost use Rattle.ring_reach.specs.Moved.{AreAmong, HaveSameTokens, tokens_in};
+ghost use Rattle.ring_reach.specs.Windows.{bounds_of, have};
 
 use crate::shape::common_shape;
-use crate::sweep::Sweep;
 use crate::token_set::TokenSet;
-use cluster_terms::{Memory, Pair, Token};
+use crate::walk::Walk;
+use crate::windows::Windows;
+use cluster_terms::{Memory, Pair};
 use node_directory::Members;
 use std::alloc::Global;
 use token_ring::Ring;
@@ -33,47 +34,27 @@ fn tokens_of(alloc: Global, members: &Members, pairs: &[Pair]) -> Result<TokenSe
     Ok(TokenSet::from_tokens(tokens))
 }
 
-/// Marks all rows.
-fn mark_all(marks: &mut [bool])
-    ensures { marks.new ≡ map (λ _. true) marks.old }
-{
-    for mark in marks.iter_mut() {
-        *mark = true;
-    }
-}
-
 impl<'a> Change<'a> {
-    /// Marks the rows that the change reaches in a group. `ends` has the last token of each row. Earlier marks stay. If
-    /// memory runs out, some rows may be marked.
-    pub fn mark_reached(
-        &self,
-        alloc: Global,
-        members: &Members<'a>,
-        ends: &[Token],
-        marks: &mut [bool],
-    ) -> Result<(), Memory>
-        requires ends { AreEnds self.now.fixed.now self.now.moved.now ends.now }
-        requires size { length ends.now ≡ length marks.old }
-        ensures { OnOk result (marks.new
-            ≡ either marks.old (map (reaches_in self.now (group_of members.now)) ends.now)) }
+    /// The windows of the tokens that the change reaches in a group.
+    pub fn windows(&self, alloc: Global, members: &Members<'a>) -> Result<Windows, Memory>
+        ensures reach { IfOk result (λ windows. (x : ℤ)
+            → have windows x ≡ reaches_in self.now (group_of members.now) x) }
+        ensures bounds { IfOk result (λ windows. AreAmong (bounds_of windows) (tokens_of_both self.now)) }
     {
         let moved = tokens_of(alloc, members, self.moved)?;
-        if moved.is_empty() {
-            return Ok(());
-        }
+        let Some(first) = moved.as_slice().first() else {
+            return Ok(Windows::empty(alloc));
+        };
         match common_shape(alloc, members, self.fixed.pairs(), self.widest)? {
             Some(shape) => {
-                let sweep = Sweep {
+                let walk = Walk {
                     fixed: self.fixed,
                     members,
-                    moved,
+                    shape,
                 };
-                sweep.mark(alloc, shape, ends, marks)
+                walk.windows(alloc, &moved)
             }
-            None => {
-                mark_all(marks);
-                Ok(())
-            }
+            None => Windows::whole_ring(alloc, *first),
         }
     }
 }

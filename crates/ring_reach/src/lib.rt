@@ -3,11 +3,13 @@
 
 mod change;
 mod differ;
+mod groups;
 mod reach;
 mod rows;
 mod shape;
-mod sweep;
 mod token_set;
+mod walk;
+mod windows;
 
 pub use differ::shape_differs;
 pub use reach::reached;

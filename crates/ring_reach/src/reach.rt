@@ -8,7 +8,8 @@ ghost use Rattle.token_ring.specs.Ranges.{AreCutOut, HaveTokens, have_token};
 ghost use Rattle.cluster_terms.specs.Pair.{tokens_of};
 
 use crate::change::Change;
-use crate::rows::{reached_rows, tokens_of_both};
+use crate::groups::windows_in_groups;
+use crate::rows::{cuts_of, reached_rows};
 use cluster_terms::{Memory, Pair, Replication};
 use node_directory::Directory;
 use std::alloc::Global;
@@ -24,9 +25,10 @@ use token_ring::{RangeList, Ring};
 /// The bounds of the ranges are tokens of fixed or moved pairs. Outside the ranges, two rings between the fixed ring
 /// and the widest set of pairs place a token alike if they differ only in moved pairs.
 ///
-/// For `k` moved pairs and a ring of `n` pairs, putting the tokens in order costs about `n + k log k`. Each group costs
-/// about `n + k` times the factor, and a search for each of the `n + k` tokens. A group without a node of a moved pair
-/// costs only `k` look-ups.
+/// For `k` moved pairs, a group costs `k` look-ups. If one of these pairs has a node of the group, it also costs up to
+/// one pass over the fixed and the widest pairs, to compare the shapes, and about `k log k` to put the tokens in order.
+/// Each moved token then costs a search in the ring, and a step for each fixed pair on the way back to where enough
+/// replicas are met, or to the moved token before it. The memory taken is about `k`.
 pub fn reached(
     alloc: Global,
     fixed: &Ring,
@@ -45,12 +47,13 @@ pub fn reached(
         → place (groups_of dir.now.rows replication.now) x one
         ≡ place (groups_of dir.now.rows replication.now) x other) }
 {
-    let cuts = tokens_of_both(alloc, fixed.pairs(), moved)?;
     let change = Change {
         fixed,
         widest,
         moved,
     };
-    let rows = reached_rows(alloc, &change, dir, replication, cuts.as_slice())?;
+    let groups = windows_in_groups(alloc, &change, dir, replication)?;
+    let cuts = cuts_of(alloc, &groups)?;
+    let rows = reached_rows(alloc, &groups, cuts.as_slice())?;
     RangeList::from_rows(alloc, cuts.as_slice(), &rows)
 }

@@ -31,7 +31,7 @@ pub record AreRangesUnder (image : Image) (s : SeqRow) (replications : List Repl
 
 -- ---- movements of a sound image
 
-all_at : {X : Type 0} (P : X → Type 0) (xs : List X) (i : ℕ) (x : X) → AllByRecursion P xs → i < length xs → x ≡ get_or xs i x → P x
+pub all_at : {X : Type 0} (P : X → Type 0) (xs : List X) (i : ℕ) (x : X) → AllByRecursion P xs → i < length xs → x ≡ get_or xs i x → P x
 all_at P [] i x all within is = absurd (omega arith)
 all_at P (y ∷ xs) zero x all within is = subst P (sym is) all.0
 all_at P (y ∷ xs) (suc i) x all within is = all_at P xs i x all.1 (omega arith) is

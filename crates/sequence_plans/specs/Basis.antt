@@ -16,7 +16,7 @@ use Rattle.sequence_plans.specs.declared.basis.Basis.{Basis}
 pub record IsBasis (basis : Basis) : Type 0 where
   pub fixed : IsPermutation (fixed_ring basis.image.now) basis.fixed
   pub widest : basis.widest ≡ widest basis.image.now
-  pub nodes : basis.directory.rows ≡ basis.image.now.nodes
+  pub nodes : basis.directory.now.rows ≡ basis.image.now.nodes
   pub replications : basis.replications ≡ replications_of basis.image.now.keyspaces
 
 -- the pairs that a movement takes out or puts in are among the widest set

@@ -2,6 +2,7 @@ pub mod Basis
 pub mod DeltaParts
 pub mod Deltas
 pub mod MovementPlacers
+pub mod NearCuts
 pub mod Placers
 pub mod Plan
 pub mod Replications

@@ -27,7 +27,7 @@ pub struct Basis<'a> {
     image: &'a Image,
     fixed: Ring,
     widest: PairList,
-    directory: Directory,
+    directory: &'a Directory,
     replications: Replications,
 }
 
@@ -41,9 +41,14 @@ fn moved_by(row: &SeqRow) -> Result<PairList, Memory>
 }
 
 impl<'a> Basis<'a> {
-    /// The basis of an image's ranges. `Err` means that memory ran out.
-    pub fn of_image(alloc: Global, image: &'a Image) -> Result<Basis<'a>, Memory>
-        requires { IsSound image.now }
+    /// The basis of an image's ranges. The directory must hold the nodes of the image. `Err` means that memory ran out.
+    pub fn of_image(
+        alloc: Global,
+        image: &'a Image,
+        directory: &'a Directory,
+    ) -> Result<Basis<'a>, Memory>
+        requires sound { IsSound image.now }
+        requires nodes { directory.now.rows ≡ image.now.nodes }
         ensures image { IfOk result (λ basis. basis.image.now ≡ image.now) }
         ensures basis { IfOk result IsBasis }
     {
@@ -53,7 +58,7 @@ impl<'a> Basis<'a> {
             image,
             fixed: Ring::from_distinct(alloc, fixed.as_slice())?,
             widest: widest(image)?,
-            directory: Directory::from_valid(alloc, image.nodes.as_slice(), image.next)?,
+            directory,
             replications: replications_of(alloc, image.keyspaces.as_slice())?,
         })
     }
@@ -71,7 +76,7 @@ impl<'a> Basis<'a> {
             self.alloc,
             &self.fixed,
             self.widest.as_slice(),
-            &self.directory,
+            self.directory,
             moved.as_slice(),
             replication,
         )
@@ -114,7 +119,7 @@ impl<'a> Basis<'a> {
             self.alloc,
             self.image,
             row,
-            &self.directory,
+            self.directory,
             ranges,
             cuts,
             walks,

@@ -2,7 +2,7 @@
 
 ghost use Rattle.std.specs.Prelude.{◌≡◌, [], ◌∷◌, ◌++◌, IfOk, OnOk};
 ghost use Rattle.std.specs.List.{AllByRecursion, Contains};
-ghost use Rattle.token_ring.specs.Ranges.{HaveTokens};
+ghost use Rattle.token_ring.specs.Ranges.{AreCutOut, HaveTokens};
 ghost use Rattle.transformations.specs.Ranges.{in_ranges};
 ghost use Rattle.transformations.specs.Rings as spec;
 ghost use Rattle.transformations.specs.Valid.{IsSound};
@@ -10,6 +10,7 @@ ghost use Rattle.sequence_plans.specs.DeltaParts.{AreBooks, AreExact};
 ghost use Rattle.sequence_plans.specs.MovementPlacers.{PlacesMovement};
 
 use crate::movement_rings::{MovementPlacers, MovementRings};
+use crate::near_cuts::near_cuts;
 use crate::row_sets::RowSets;
 use cluster_terms::{Memory, Replication, Steps, Token, TryCopy, rows_between};
 use node_directory::Directory;
@@ -35,7 +36,8 @@ pub struct DeltaBooks {
     pub lose: DeltaBook,
 }
 
-/// The deltas of a movement under one replication. Two walks for each row between cuts that is in its ranges.
+/// The deltas of a movement under one replication. Two walks for each row between cuts that is in its ranges. The rest
+/// costs two binary searches in the cuts for each range, and about k log m for m ranges with k cuts near them.
 fn deltas_under<L: Ledger>(
     alloc: Global,
     image: &Image,
@@ -50,15 +52,17 @@ fn deltas_under<L: Ledger>(
     requires moves { Contains image.now.sequences row.now }
     requires placers { PlacesMovement image.now row.now replication.now placers.now }
     requires ranges { HaveTokens (in_ranges image.now replication.now row.now) ranges.now }
+    requires bounds { AreCutOut (spec.cuts image.now) ranges.now }
     requires cuts { cuts.now ≡ spec.cuts image.now }
     ensures { IfOk result (AreExact image.now row.now replication.now) }
 {
-    let rows = rows_between(alloc, cuts)?;
+    let near = near_cuts(alloc, cuts, ranges.as_slice())?;
+    let rows = rows_between(alloc, &near)?;
     let sets = RowSets::of_rows(alloc, placers, ranges, rows.as_slice(), walks)?;
     Ok(Deltas {
-        gain: Delta::between(alloc, cuts, &sets.none, &sets.gained)?,
-        swap: Delta::between(alloc, cuts, &sets.before, &sets.after)?,
-        lose: Delta::between(alloc, cuts, &sets.lost, &sets.none)?,
+        gain: Delta::between(alloc, &near, &sets.none, &sets.gained)?,
+        swap: Delta::between(alloc, &near, &sets.before, &sets.after)?,
+        lose: Delta::between(alloc, &near, &sets.lost, &sets.none)?,
     })
 }
 
@@ -113,7 +117,9 @@ impl DeltaBooks {
         requires sound { IsSound image.now }
         requires moves { Contains image.now.sequences row.now }
         requires nodes { dir.now.rows ≡ image.now.nodes }
-        requires ranges { AllByRecursion (λ r. HaveTokens (in_ranges image.now r.replication row.now) r.ranges) ranges.now }
+        requires ranges { AllByRecursion
+            (λ r. HaveTokens (in_ranges image.now r.replication row.now) r.ranges) ranges.now }
+        requires bounds { AllByRecursion (λ r. AreCutOut (spec.cuts image.now) r.ranges) ranges.now }
         requires cuts { cuts.now ≡ spec.cuts image.now }
         ensures { IfOk result (AreBooks image.now row.now ranges.now) }
     {

@@ -4,10 +4,11 @@
 mod basis;
 mod deltas;
 mod movement_rings;
+mod near_cuts;
 pub mod placer;
 mod planning;
 mod replications;
 mod row_sets;
 
 pub use placer::Placer;
-pub use planning::plan;
+pub use planning::{plan, plan_in};

@@ -8,6 +8,7 @@ ghost use Rattle.sequence_plans.specs.Plan.{IsPlan};
 
 use crate::basis::Basis;
 use cluster_terms::{Memory, Steps, TryCopy};
+use node_directory::Directory;
 use placement_deltas::Plan;
 use std::alloc::Global;
 use std::sync::ledger::Ledger;
@@ -26,14 +27,16 @@ fn with_movement(image: &Image, row: &SeqRow) -> Result<Image, Memory>
 fn planned<L: Ledger>(
     alloc: Global,
     image: &Image,
+    directory: &Directory,
     row: &SeqRow,
     walks: &mut Steps<L>,
 ) -> Result<Plan, Memory>
-    requires { IsSound (with_movement image.now row.now) }
+    requires sound { IsSound (with_movement image.now row.now) }
+    requires nodes { directory.now.rows ≡ image.now.nodes }
     ensures { IfOk result (IsPlan (with_movement image.now row.now) row.now) }
 {
     let wide = with_movement(image, row)?;
-    let basis = Basis::of_image(alloc, &wide)?;
+    let basis = Basis::of_image(alloc, &wide, directory)?;
     let cuts = cuts(alloc, &wide)?;
     let ranges = basis.book_of(row)?;
     let books = basis.deltas_of(row, ranges.as_slice(), cuts.as_slice(), walks)?;
@@ -55,10 +58,7 @@ fn planned<L: Ledger>(
 /// The deltas stay exact whatever other movements do: as long as the movement lives, they are its deltas in each later
 /// image.
 ///
-/// Cost: copies the image, and makes its fixed ring, its widest set of pairs, its directory and the two rings of the
-/// movement once. For n tokens of the ring and of all movements, the cuts cost about n log n. For m movements with the
-/// new one and r replications, `reached` is called m·r times. Under each replication two walks are counted for each
-/// row between cuts that is in the movement's ranges, and none elsewhere.
+/// Cost: makes the directory of the image, and does what `plan_in` does.
 pub fn plan<L: Ledger>(
     alloc: Global,
     image: &Image,
@@ -68,9 +68,38 @@ pub fn plan<L: Ledger>(
     requires prepared { row.phase ≡ phase.Prepared }
     requires sound { IsSound (with_movement image.now row) }
     ensures plan { MatchResult result (IsPlan (with_movement image.now row) row) (λ e. e.0 ≡ row) }
-    ensures persists { IfOk result (λ plan. IsValid (begun image.now row) → StaysExact (begun image.now row) plan) }
+    ensures persists { IfOk result
+        (λ plan. IsValid (begun image.now row) → StaysExact (begun image.now row) plan) }
 {
-    match planned(alloc, image, &row, walks) {
+    let directory = match Directory::from_valid(alloc, image.nodes.as_slice(), image.next) {
+        Ok(directory) => directory,
+        Err(memory) => return Err((row, memory)),
+    };
+    plan_in(alloc, image, &directory, row, walks)
+}
+
+/// The plan that `plan` makes, for a caller that has a directory with the nodes of the image.
+///
+/// Cost: copies the image, and makes its fixed ring, its widest set of pairs and the two rings of the movement once. For
+/// n tokens of the ring and of all movements, the cuts cost about n log n. For m movements with the new one and r
+/// replications, `reached` is called m·r times. Under each replication two walks are counted for each row between cuts
+/// that is in the movement's ranges, and none elsewhere. Outside the ranges the deltas cost two binary searches in the
+/// cuts for each range.
+pub fn plan_in<L: Ledger>(
+    alloc: Global,
+    image: &Image,
+    directory: &Directory,
+    row: SeqRow,
+    walks: &mut Steps<L>,
+) -> Result<Plan, (SeqRow, Memory)>
+    requires prepared { row.phase ≡ phase.Prepared }
+    requires sound { IsSound (with_movement image.now row) }
+    requires nodes { directory.now.rows ≡ image.now.nodes }
+    ensures plan { MatchResult result (IsPlan (with_movement image.now row) row) (λ e. e.0 ≡ row) }
+    ensures persists { IfOk result
+        (λ plan. IsValid (begun image.now row) → StaysExact (begun image.now row) plan) }
+{
+    match planned(alloc, image, directory, &row, walks) {
         Ok(plan) => Ok(plan),
         Err(memory) => Err((row, memory)),
     }

@@ -92,7 +92,8 @@ impl RowSets {
         rows: &[TokenRange],
         walks: &mut Steps<L>,
     ) -> Result<RowSets, Memory>
-        ensures { IfOk result (AreRowSets ranges.now (placed_by placers.now.before) (placed_by placers.now.after) rows.now) }
+        ensures { IfOk result (AreRowSets ranges.now
+            (placed_by placers.now.before) (placed_by placers.now.after) rows.now) }
     {
         let mut sets = RowSets::empty(alloc, rows.len())?;
         for row in rows {

@@ -65,15 +65,24 @@ writes_at image replication x =
     put_all nat_cmp (place groups x (low_ring image)) (place groups x (high_ring image))
 
 -- the pairs that stay in the ring whatever happens to the movements, and all pairs that may come to be in it
+abbrev pub fixed_among : List Pair → List SeqRow → List Pair
+fixed_among tokens sequences = without_pairs tokens (outgoing sequences)
+
+abbrev pub widest_among : List Pair → List SeqRow → List Pair
+widest_among tokens sequences = tokens ++ incoming sequences
+
 abbrev pub fixed_ring : Image → List Pair
-fixed_ring image = without_pairs image.tokens (outgoing image.sequences)
+fixed_ring image = fixed_among image.tokens image.sequences
 
 abbrev pub widest : Image → List Pair
-widest image = image.tokens ++ incoming image.sequences
+widest image = widest_among image.tokens image.sequences
 
 -- the cuts: the tokens of the ring and those that movements bring, ascending
+abbrev pub cuts_among : List Pair → List SeqRow → List ℤ
+cuts_among tokens sequences = ascending int_cmp (tokens_of (widest_among tokens sequences))
+
 abbrev pub cuts : Image → List ℤ
-cuts image = ascending int_cmp (tokens_of (widest image))
+cuts image = cuts_among image.tokens image.sequences
 
 -- a row stands for its tokens: at each of them the same nodes are read, and the same are written, as at its last token
 pub record StandsForTokens (image : Image) (r : Replication) (row : TokenRange) : Type 0 where

@@ -22,8 +22,11 @@ pub use entry::Entry;
 pub use image::Image;
 pub use keyspace::{KeyspaceRow, KeyspaceRows};
 pub use refusal::Refusal;
-pub use refusals::early_refusal;
-pub use rings::{RingKind, cuts, fixed_ring, ring_with, ring_with_movement, widest};
+pub use refusals::{early_refusal, register_refusal};
+pub use rings::{
+    RingKind, cuts, cuts_among, fixed_among, fixed_ring, ring_with, ring_with_movement, widest,
+    widest_among,
+};
 pub use sequence::{Goal, Kind, Phase, SeqRow, SeqRows};
 pub use state::{NodeState, node_state, state_of};
 pub use steps::movement_of;

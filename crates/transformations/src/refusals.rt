@@ -1,4 +1,4 @@
-ghost use Rattle.std.specs.Prelude.{◌≡◌, [], ◌∷◌, not, IfOk, IsTrue, MatchOption};
+ghost use Rattle.std.specs.Prelude.{◌≡◌, [], ◌∷◌, not, option_map, IfOk, IsTrue, MatchOption};
 ghost use Rattle.std.specs.List.{list_any};
 ghost use Rattle.std.specs.List.Sorted.{IsStrictlySortedBy};
 ghost use Rattle.std.specs.Ordering.{int_eq};
@@ -292,6 +292,17 @@ fn register(image: &Image, name: &Name) -> Option<Refusal>
     ensures { result ≡ first_of (name_taken image.now name.now ∷ nodes_full image.now ∷ []) }
 {
     name_taken(image, name).or_else(|| nodes_full(image))
+}
+
+/// The first refusal of `Register`, as `early_refusal` gives it, for a caller that has looked up its name: `owner` is the
+/// node that has this name, if there is one.
+pub fn register_refusal(image: &Image, owner: Option<NodeId>) -> Option<Refusal>
+    ensures { result ≡ first_of (option_map Refusal.NameTaken owner ∷ nodes_full image.now ∷ []) }
+{
+    match owner {
+        Some(node) => Some(Refusal::NameTaken(node)),
+        None => nodes_full(image),
+    }
 }
 
 /// The first refusal of `Unregister`.

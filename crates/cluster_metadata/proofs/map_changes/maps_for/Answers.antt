@@ -1,8 +1,10 @@
-use Rattle.std.proofs.Common.{◌≡◌, length, refl, ap, sym, ◌∙◌, subst}
+use Rattle.std.proofs.Common.{◌≡◌, ℤ, List, length, refl, ap, sym, ◌∙◌, subst}
+use Rattle.std.specs.List.{AllByRecursion}
+use Rattle.cluster_terms.specs.Arc.{IsToken}
 use Rattle.cluster_terms.specs.Row.{rows_between}
 use Rattle.placement_deltas.specs.declared.plan.Plan.{Plan}
 use Rattle.sequence_plans.specs.Deltas.{gained_by, no_nodes}
-use Rattle.transformations.specs.Rings.{cuts}
+use Rattle.transformations.specs.Rings.{cuts, cuts_among}
 use Rattle.cluster_metadata.proofs.placement_maps.ChangeSteps.{back_at, back_moves, begun_deltas, begun_moves, ended_at, ended_moves, finished_at, finished_moves, mid_at, mid_moves, registered_stays, started_at, started_moves, unregistered_stays}
 use Rattle.cluster_metadata.proofs.placement_maps.ExchangedMaps.{made_anew, made_from}
 use Rattle.cluster_metadata.proofs.placement_maps.TurnedMaps.{back_maps, begin_maps, end_maps, finish_maps, mid_maps, nodes_maps, start_maps}
@@ -11,6 +13,7 @@ use Rattle.cluster_metadata.specs.Maps.{AreMaps}
 use Rattle.cluster_metadata.specs.MapChanges.{each_exchanged}
 use Rattle.cluster_metadata.specs.Running.{phase_of, plan_of}
 use Rattle.cluster_metadata.specs.Turns.{each_map, recut_rows, turned_rows, undoing}
+use Rattle.cluster_metadata.specs.declared.change.Change.{Change}
 use Rattle.cluster_metadata.specs.declared.change.Change.TheVariants.{Begun}
 use Rattle.cluster_metadata.specs.declared.map_change.MapChange.TheVariants.{Anew, Sets}
 use Rattle.cluster_metadata.specs.declared.turn.Turn.{Turn}
@@ -30,10 +33,13 @@ returns-in_ok-next-in-Begun c =
     let image = c.args.image.now in
     let change = c.args.change.now in
     let b = c.in-Begun in
+    let cut : cuts (changed image change) ≡ cuts_among image.tokens b.sequences = ap (λ (ch : Change). cuts (changed image ch)) b.is in
+    let made =
+    c.in_ok-next-in-Begun.ensures.maps ∙ ap (λ (ts : List ℤ). each_map (recut_rows turn.Keep (rows_between ts)) c.args.maps.now b.plan.gain) (sym cut) in
     made_anew image change (Anew c.in_ok-next-in-Begun.next) c.in_ok-next-in-Begun.next (λ book. refl)
-    (subst (AreMaps (changed image change)) (sym c.in_ok-next-in-Begun.ensures.maps)
+    (subst (AreMaps (changed image change)) (sym made)
     (begin_maps image (changed image change) c.args.maps.now (gained_by (changed image (Begun b.at b.plan b.sequences)) b.plan.row) no_nodes b.plan.gain c.requires.maps (begun_deltas image change b.at b.sequences b.plan b.is c.requires.brings).gains
-    c.in_ok-next-in-Begun.ensures.tokens (begun_moves image change b.at b.sequences b.plan b.is c.requires.steps)))
+    (subst (AllByRecursion IsToken) (sym cut) c.in_ok-next-in-Begun.ensures.tokens) (begun_moves image change b.at b.sequences b.plan b.is c.requires.steps)))
 
 pub returns-in_ok-turned_book-in-Started : goal.returns-in_ok-turned_book-in-Started
 returns-in_ok-turned_book-in-Started c =
@@ -80,12 +86,15 @@ returns-in_ok-next-in-Finished c =
     let change = c.args.change.now in
     let s = c.in-Finished in
     let found = finished_at image change s.at s.sequences s.left s.tokens s.is c.requires.follows in
+    let cut : cuts (changed image change) ≡ cuts_among s.tokens s.sequences = ap (λ (ch : Change). cuts (changed image ch)) s.is in
     let made =
-    c.in_ok-next-in-Finished.ensures.maps ∙ ap (λ (p : Plan). each_map (recut_rows turn.Writes (rows_between (cuts (changed image change)))) c.args.maps.now p.lose) c.plan-in-Finished.ensures in
+    c.in_ok-next-in-Finished.ensures.maps
+    ∙ ap (λ (ts : List ℤ). each_map (recut_rows turn.Writes (rows_between ts)) c.args.maps.now c.plan-in-Finished.result.now.lose) (sym cut)
+    ∙ ap (λ (p : Plan). each_map (recut_rows turn.Writes (rows_between (cuts (changed image change)))) c.args.maps.now p.lose) c.plan-in-Finished.ensures in
     made_anew image change (Anew c.in_ok-next-in-Finished.next) c.in_ok-next-in-Finished.next (λ book. refl)
     (subst (AreMaps (changed image change)) (sym made)
     (finish_maps image c.args.maps.now c.args.running.now s.at c.index-running-at-in-Finished.result found.row c.requires.maps c.requires.running c.requires.deltas found.here c.index-running-at-in-Finished.is (changed image change)
-    c.in_ok-next-in-Finished.ensures.tokens (finished_moves image change s.at s.sequences s.left s.tokens s.is c.requires.steps)))
+    (subst (AllByRecursion IsToken) (sym cut) c.in_ok-next-in-Finished.ensures.tokens) (finished_moves image change s.at s.sequences s.left s.tokens s.is c.requires.steps)))
 
 pub returns-in_ok-next-in-Ended : goal.returns-in_ok-next-in-Ended
 returns-in_ok-next-in-Ended c =
@@ -93,12 +102,14 @@ returns-in_ok-next-in-Ended c =
     let change = c.args.change.now in
     let s = c.in-Ended in
     let found = ended_at image change s.at s.sequences s.is c.requires.follows in
+    let cut : cuts (changed image change) ≡ cuts_among image.tokens s.sequences = ap (λ (ch : Change). cuts (changed image ch)) s.is in
     let ranges = rows_between (cuts (changed image change)) in
     let made =
     c.in_ok-next-in-Ended.ensures.maps
+    ∙ ap (λ (ts : List ℤ). each_map (recut_rows c.undoing-turn.result (rows_between ts)) c.args.maps.now c.plan-in-Ended.result.now.gain) (sym cut)
     ∙ ap (λ (t : Turn). each_map (recut_rows t ranges) c.args.maps.now c.plan-in-Ended.result.now.gain) c.undoing-turn.ensures
     ∙ ap (λ (p : Plan). each_map (recut_rows (undoing (phase_of c.index-running-at-in-Ended.result)) ranges) c.args.maps.now p.gain) c.plan-in-Ended.ensures in
     made_anew image change (Anew c.in_ok-next-in-Ended.next) c.in_ok-next-in-Ended.next (λ book. refl)
     (subst (AreMaps (changed image change)) (sym made)
     (end_maps image c.args.maps.now c.args.running.now s.at c.index-running-at-in-Ended.result found.row c.requires.maps c.requires.running c.requires.deltas found.here c.index-running-at-in-Ended.is (changed image change) found.holds
-    c.in_ok-next-in-Ended.ensures.tokens (ended_moves image change s.at s.sequences s.is c.requires.steps)))
+    (subst (AllByRecursion IsToken) (sym cut) c.in_ok-next-in-Ended.ensures.tokens) (ended_moves image change s.at s.sequences s.is c.requires.steps)))

@@ -9,15 +9,15 @@ use Rattle.cluster_metadata.proofs.turning.push_turned.Goals as goal
 
 pub returns-then-is_empty-2 : goal.returns-then-is_empty-2
 returns-then-is_empty-2 c =
-    let gained : length c.at.result.0.now ≡ 0 = search rules in
-    let lost : length c.at.result.1.now ≡ 0 = search rules in
-    turned_kept c.args.turn c.args.delta.now c.args.at c.args.row.now c.args.changes.now c.at.result.0.now c.at.result.1.now
-    (c.at.ensures ∙ ap (delta_at c.args.delta.now) c.last_token.ensures) gained lost
+    let gained : length c.at_near.result.0.now ≡ 0 = search rules in
+    let lost : length c.at_near.result.1.now ≡ 0 = search rules in
+    turned_kept c.args.turn c.args.delta.now c.args.at c.args.row.now c.args.changes.now c.at_near.result.0.now c.at_near.result.1.now
+    (c.at_near.ensures ∙ ap (delta_at c.args.delta.now) c.last_token.ensures) gained lost
 
 pub returns : goal.returns
 returns c =
     let row = c.args.row.now in
-    let at = c.at.ensures ∙ ap (delta_at c.args.delta.now) c.last_token.ensures in
+    let at = c.at_near.ensures ∙ ap (delta_at c.args.delta.now) c.last_token.ensures in
     let sets : (c.in_ok-reads.field-0.reads, c.in_ok-reads.field-0.writes) ≡ turned c.args.turn (row.reads, row.writes) (delta_at c.args.delta.now (last_token row.right)) =
     ap (λ (r : PlacementRow). (r.reads, r.writes)) c.in_ok-reads.ensures ∙ ap (turned c.args.turn (row.reads, row.writes)) at in
     on_ok_weaker c.push.result

@@ -4,4 +4,4 @@ use Rattle.cluster_metadata.proofs.turning.recut_map.Given as goal
 
 -- the rows of the ranges so far
 abbrev pub invariant-loop-range : goal.invariant-loop-range
-invariant-loop-range g l = l.next.items ≡ map (row_with (turned_at l.turn l.map l.delta)) (take l.range-index l.ranges)
+invariant-loop-range l = l.next.items ≡ map (row_with (turned_at l.turn l.map l.delta)) (take l.range-index l.ranges)

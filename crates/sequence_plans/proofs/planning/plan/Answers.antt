@@ -1,5 +1,7 @@
-use Rattle.sequence_plans.proofs.PersistLemmas.{begun_persists}
+use Rattle.transformations.specs.Refusals.{with_movement}
+use Rattle.sequence_plans.proofs.BasisLemmas.{valid_rows}
 use Rattle.sequence_plans.proofs.planning.plan.Goals as goal
 
-pub returns-in-Ok-clause-persists : goal.returns-in-Ok-clause-persists
-returns-in-Ok-clause-persists g c = begun_persists c.args.image.now c.args.row c.in-Ok.plan c.in-Ok.ensures.row c.in-Ok.ensures.deltas
+-- the image has the nodes that it has with the movement
+pub from_valid-requires : goal.from_valid-requires
+from_valid-requires g c = rw c.as_slice.ensures (valid_rows (with_movement c.args.image.now c.args.row) c.requires.sound)

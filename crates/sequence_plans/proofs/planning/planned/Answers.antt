@@ -10,7 +10,7 @@ use Rattle.sequence_plans.proofs.planning.planned.Goals as goal
 pub book_of-requires-clause-within : goal.book_of-requires-clause-within
 book_of-requires-clause-within g c =
     let image : c.in_ok-basis.basis.image.now ≡ with_movement c.args.image.now c.args.row.now = c.in_ok-basis.ensures.image ∙ c.in_ok-wide.ensures in
-    subst (λ (wide : Image). MovesWithin wide c.args.row.now) (sym image) (own_within c.args.image.now c.args.row.now c.requires)
+    subst (λ (wide : Image). MovesWithin wide c.args.row.now) (sym image) (own_within c.args.image.now c.args.row.now c.requires.sound)
 
 pub deltas_of-requires-clause-moves : goal.deltas_of-requires-clause-moves
 deltas_of-requires-clause-moves g c =

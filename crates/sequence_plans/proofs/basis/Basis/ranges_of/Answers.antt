@@ -18,11 +18,11 @@ returns-clause-ranges c =
     let replication = c.args.replication.now in
     let wide : c.as_slice.result.now ≡ widest basis.image.now = c.as_slice.ensures ∙ c.requires.basis.widest in
     let moves : c.as_slice-2.result.now ≡ moved_by row = c.as_slice-2.ensures ∙ c.in_ok-moved.ensures in
-    let found : ℤ → Bool = is_reached (groups_of basis.directory.rows replication) basis.fixed c.as_slice.result.now c.as_slice-2.result.now in
+    let found : ℤ → Bool = is_reached (groups_of basis.directory.now.rows replication) basis.fixed c.as_slice.result.now c.as_slice-2.result.now in
     let wanted : ℤ → Bool = in_ranges basis.image.now replication row in
     IfOk-weaker c.reached.result (λ (ranges : List TokenRange). HaveTokens found ranges) (λ (ranges : List TokenRange). HaveTokens wanted ranges)
     (λ ranges have. have_tokens-same found wanted
-    (reached-ranges basis.image.now row basis.fixed c.as_slice-2.result.now c.requires.basis.fixed moves replication basis.directory.rows c.as_slice.result.now c.requires.basis.nodes wide) ranges have)
+    (reached-ranges basis.image.now row basis.fixed c.as_slice-2.result.now c.requires.basis.fixed moves replication basis.directory.now.rows c.as_slice.result.now c.requires.basis.nodes wide) ranges have)
     c.reached.ensures.reach
 
 -- the tokens that bound them are cuts

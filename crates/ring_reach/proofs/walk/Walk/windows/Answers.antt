@@ -1,0 +1,15 @@
+use Rattle.std.proofs.Common.{◌≡◌, false, List, ap, sym, ◌∙◌}
+use Rattle.node_directory.specs.Tally.{lacks}
+use Rattle.ring_reach.specs.Walk.{course_of}
+use Rattle.ring_reach.specs.Windows.{have}
+use Rattle.ring_reach.specs.declared.windows.Window.{Window}
+use Rattle.ring_reach.proofs.PartLemmas.{leaves-none}
+use Rattle.ring_reach.proofs.WalkLemmas.{none_yet}
+use Rattle.ring_reach.proofs.walk.Walk.windows.Goals as goal
+
+pub returns-then-not-lacks-clause-reach : goal.returns-then-not-lacks-clause-reach
+returns-then-not-lacks-clause-reach c x =
+    let course = course_of c.args.self.now in
+    let empty : c.in_ok-tally.tally ≡ none_yet course = cc (c.in_ok-tally.ensures) in
+    let full : lacks (none_yet course) ≡ false = ap lacks (sym empty) ∙ sym c.lacks.ensures ∙ c.if-not-lacks.true in
+    ap (λ (l : List Window). have l x) c.empty.ensures ∙ sym (leaves-none course full x c.args.moved.now)

@@ -1,0 +1,9 @@
+use Rattle.std.proofs.Common.{sym, subst}
+use Rattle.std.specs.List.Sorted.{IsStrictlySortedBy}
+use Rattle.std.specs.Ordering.{int_cmp}
+use Rattle.ring_reach.proofs.WindowLemmas.{none_ascend}
+use Rattle.ring_reach.specs.Windows.{rights_of}
+use Rattle.ring_reach.proofs.windows.Windows.empty.Goals as goal
+
+pub invariant_of-result : goal.invariant_of-result
+invariant_of-result c = subst (λ ws. IsStrictlySortedBy int_cmp (rights_of ws)) (sym c.new.ensures.items) none_ascend
