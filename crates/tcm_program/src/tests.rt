@@ -4,6 +4,7 @@ mod calls;
 mod cancels;
 mod faults;
 mod followers;
+mod generated;
 mod ids;
 mod joins;
 mod limits;

@@ -4,6 +4,8 @@ pub mod CutLemmas
 pub mod FileLogs
 pub mod FollowerLemmas
 pub mod GainLemmas
+pub mod GeneratedLemmas
+pub mod GeneratedTexts
 pub mod HandedLemmas
 pub mod ImageLemmas
 pub mod KeptLemmas

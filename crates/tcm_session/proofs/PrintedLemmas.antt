@@ -9,12 +9,13 @@ use Rattle.tcm_edges.specs.declared.store.Loaded.TheVariants as loaded
 use Rattle.transformations.specs.declared.entry.Entry.{Entry}
 use Rattle.script_lang.specs.Grammar.{line_of}
 use Rattle.script_lang.specs.Texts.{line}
+use Rattle.tcm_session.specs.Generated.{gen_numbers}
 use Rattle.tcm_session.specs.Lines.{open_line}
 use Rattle.tcm_session.specs.LogFiles.{cut_to_lines, log_of, refused_line_text}
 use Rattle.tcm_session.specs.Machine.{SessionState, answers, reply, session_next, session_over}
-use Rattle.tcm_session.specs.Outcome.{Outcome, Start, commit_outcome, input_limit, is_commit, is_replay, large_outcome, log_file, other_outcome, outcome, outcome_from, outcome_loaded, printed_by, replay_outcome, replayed_files, script_outcome, too_large_text, unread_outcome, usage_text, whole_outcome}
+use Rattle.tcm_session.specs.Outcome.{Outcome, Start, commit_outcome, gen_outcome, gen_status, gen_text, input_limit, is_commit, is_replay, large_outcome, log_file, other_outcome, outcome, outcome_from, outcome_loaded, printed_by, replay_outcome, replayed_files, script_outcome, too_large_text, unread_outcome, usage_text, whole_outcome}
 use Rattle.tcm_session.specs.Run.{IsFinal, IsRun}
-use Rattle.tcm_session.specs.Runs.{IsEnd, RunsOn, RunsSeen}
+use Rattle.tcm_session.specs.Runs.{IsEnd, RunsSeen}
 use Rattle.tcm_session.specs.Shown.{BeginsWithWord, IsOfNoQuorum, IsShownLine, LinesAreShown, Shown, and_shown, shown, shown_by, shown_text}
 use Rattle.tcm_session.specs.declared.refused_line.RefusedLine.{RefusedLine}
 use Rattle.tcm_session.proofs.AnswerLines.{other_line, other_lines, shown_lines}
@@ -22,6 +23,7 @@ use Rattle.tcm_session.proofs.FileLogs.{refused_lines, session_file}
 use Rattle.tcm_session.proofs.SessionLemmas.{IsSession, after_reply, session_empty}
 use Rattle.tcm_session.specs.ReplayPrefix.{ReportsPrefix, taken_of_files}
 use Rattle.tcm_session.specs.Replay.{replay_ending}
+use Rattle.tcm_session.proofs.GeneratedTexts.{summary_lines}
 use Rattle.tcm_session.proofs.PlainReplays.{replay_lines, too_large_lines}
 use Rattle.tcm_session.proofs.ReplayReports.{refuses_no_line, reports_prefix}
 use Rattle.tcm_session.proofs.RunLemmas.{final_end}
@@ -97,12 +99,16 @@ of_commit (Some name) all input = of_loaded name all (loaded_of (file_of all nam
 usage_lines : AreLines IsOfNoQuorum usage_text
 usage_lines = other_line (codes "usage: tcm commit [LOG] | replay FILE.. | snapshot LOG E | gen START N") refl (λ e. omega arith) (λ e. omega arith)
 
+gen_lines : (numbers : Option (ℕ × ℕ)) → AreLines IsOfNoQuorum (gen_text numbers)
+gen_lines None = usage_lines
+gen_lines (Some (start, rounds)) = summary_lines start rounds
+
 of_other : (words : List (List ℕ)) (seen : ℕ → Files) → IsPlainOutcome (other_outcome words seen)
 of_other words seen = by (is_replay words)
   where
-    by : (b : Bool) → IsPlainOutcome (cond b (replay_outcome (replayed_files words) seen) (unread_outcome 2 usage_text (seen 0)))
+    by : (b : Bool) → IsPlainOutcome (cond b (replay_outcome (replayed_files words) seen) (gen_outcome (gen_numbers words) (seen 0)))
     by true = of_unread (replay_ending (replayed_files words) seen).status (replay_ending (replayed_files words) seen).text (seen 0) (replay_lines (replayed_files words) seen)
-    by false = of_unread 2 usage_text (seen 0) (λ _. usage_lines)
+    by false = of_unread (gen_status (gen_numbers words)) (gen_text (gen_numbers words)) (seen 0) (λ _. gen_lines (gen_numbers words))
 
 plain_outcome : (words : List (List ℕ)) (seen : ℕ → Files) (input : List ℕ) → IsPlainOutcome (outcome words seen input)
 unfolding outcome

@@ -4,10 +4,11 @@ use Rattle.tcm_edges.proofs.OwedLemmas.{WritesPrefix-refl}
 use Rattle.tcm_edges.specs.Files.{Files, file_of, loaded_of}
 use Rattle.tcm_edges.specs.declared.store.Loaded.{Loaded}
 use Rattle.tcm_edges.specs.declared.store.Loaded.TheVariants as loaded
-use Rattle.tcm_session.specs.Counts.{Counts}
+use Rattle.tcm_session.specs.Counts.{Counts, NoneFell}
 use Rattle.tcm_session.specs.Endings.{IsReplayOf, status_by}
-use Rattle.tcm_session.specs.Faults.{HasRunCause}
-use Rattle.tcm_session.specs.Outcome.{Outcome, is_commit, is_replay, other_outcome, outcome, replay_outcome, replayed_files, unread_outcome, usage_text}
+use Rattle.tcm_session.specs.Faults.{HasRunCause, Shows}
+use Rattle.tcm_session.specs.Generated.{gen_numbers}
+use Rattle.tcm_session.specs.Outcome.{Outcome, gen_outcome, gen_status, gen_text, is_commit, is_replay, other_outcome, outcome, replay_outcome, replayed_files, unread_outcome}
 use Rattle.tcm_session.specs.Limits.{input_limit}
 use Rattle.tcm_session.specs.Lines.{whole_lines}
 use Rattle.tcm_session.specs.Replay.{ending_of, files_replayed, lines_replayed, loaded_replayed, nothing_replayed, replay_ending, then_replayed, unless_ended}
@@ -16,13 +17,14 @@ use Rattle.tcm_session.specs.Run.{AreSeen}
 use Rattle.tcm_session.specs.Runs.{IsEnd, MayHold, RunsFor, RunsSeen, Writes}
 use Rattle.tcm_session.specs.declared.ending.Ending.{Ending}
 use Rattle.tcm_session.specs.declared.fault.RunFault.{RunFault}
+use Rattle.tcm_session.specs.declared.fault.RunFault.TheVariants as fault
 use Rattle.tcm_session.specs.declared.program.Status.{Status}
 use Rattle.tcm_session.specs.declared.refused_line.RefusedLine.{RefusedLine}
 use Rattle.tcm_session.specs.declared.replay.Replay.{Replay}
 use Rattle.tcm_session.proofs.CutLemmas.{files_behind}
 use Rattle.tcm_session.proofs.ReplayLemmas.{seen_any}
 use Rattle.tcm_session.proofs.RunLemmas.{final_end, runs_unread, runs_unread_err}
-use Rattle.tcm_session.proofs.RunOutcomes.{of_others, of_replay, of_usage}
+use Rattle.tcm_session.proofs.RunOutcomes.{of_others, of_replay, of_unread}
 
 -- ---- a replay
 
@@ -92,17 +94,24 @@ others_replay words o names files w w' r some said replay =
     let same : other_outcome words replay.seen ≡ replay_outcome names replay.seen = of_replay words is.0 replay.seen ∙ ap (λ ns. replay_outcome ns replay.seen) is.1 in
     record { seen = replay.seen; held = replay.held; writes = subst (λ o. WritesLast o w w' r) (sym same) replay.writes }
 
--- words that name no command
-pub others_usage : (words : List (List ℕ)) (o : Option (List (List ℕ))) (files : Option Files) (w w' : Option (List ℕ)) (before after : Counts) (r : Result Status RunFault) → o ≡ None → IsReplayOf words o → Writes usage_text w w' before after r
-    → IfOk r (λ s. s.0 ≡ 2) → WritesOther words files w w' r
-others_usage words o files w w' before after r none said writes status =
+-- words that are `gen`, or name no command
+pub others_unread : (words : List (List ℕ)) (o : Option (List (List ℕ))) (files : Option Files) (w w' : Option (List ℕ)) (before after : Counts) (r : Result Status RunFault) → o ≡ None → IsReplayOf words o → Writes (gen_text (gen_numbers words)) w w' before after r
+    → IfOk r (λ s. s.0 ≡ gen_status (gen_numbers words)) → WritesOther words files w w' r
+others_unread words o files w w' before after r none said writes status =
     let is : is_replay words ≡ false = subst (IsReplayOf words) none said in
     let seen : ℕ → Files = λ _. files_behind files [] None in
     record {
       seen = seen;
       held = seen_any files;
-      writes = subst (λ o. WritesLast o w w' r) (sym (of_usage words is seen)) (record { whole = writes.whole; part = writes.part; status = status });
+      writes = subst (λ o. WritesLast o w w' r) (sym (of_unread words is seen)) (record { whole = writes.whole; part = writes.part; status = status });
     }
+
+-- memory ran out before anything was written
+pub nothing_written : {T : Type 0} (text : List ℕ) (w : Option (List ℕ)) (before : Counts) (r : Result T RunFault) → IsErrAnd r (λ e. e ≡ fault.Memory) → Writes text w w before before r
+nothing_written text w before (Ok x) is = absurd is
+nothing_written text w before (Err e) is =
+    let none : NoneFell before before = record { source = omega arith; sink = omega arith; store = omega arith } in
+    record { whole = tt; part = WritesPrefix-refl w text; cause = record { later = none; shown = subst (λ e. Shows e before before) (sym is) tt } }
 
 -- the files that the first load finds
 held_first : (files : Option Files) (seen : ℕ → Files) → AreSeen files seen → MayHold files (seen 0)
@@ -116,7 +125,7 @@ record IsUnread (o : Outcome) (all : Files) : Type 0 where
 unread_others : (words : List (List ℕ)) (seen : ℕ → Files) → IsUnread (other_outcome words seen) (seen 0)
 unread_others words seen = by (is_replay words)
   where
-    by : (b : Bool) → IsUnread (if b then replay_outcome (replayed_files words) seen else unread_outcome 2 usage_text (seen 0)) (seen 0)
+    by : (b : Bool) → IsUnread (if b then replay_outcome (replayed_files words) seen else gen_outcome (gen_numbers words) (seen 0)) (seen 0)
     by true = record { is = refl }
     by false = record { is = refl }
 

@@ -1,6 +1,8 @@
 pub mod Counts
 pub mod Endings
 pub mod Faults
+pub mod Generated
+pub mod GeneratedLines
 pub mod Limits
 pub mod Lines
 pub mod Loading

@@ -8,6 +8,7 @@ use Rattle.tcm_edges.specs.declared.store.Loaded.TheVariants as loaded
 use Rattle.transformations.specs.declared.entry.Entry.{Entry}
 use Rattle.script_lang.specs.Texts.{line}
 use Rattle.tcm_session.specs.Lines.{whole_lines, script_lines}
+use Rattle.tcm_session.specs.Generated.{gen_numbers, summary}
 pub use Rattle.tcm_session.specs.Limits.{input_limit, too_large_text}
 use Rattle.tcm_session.specs.LogFiles.{cut_to_lines, entry_lines, log_of, refused_line_text, with_added}
 use Rattle.tcm_session.specs.Machine.{answers, entries_added, session_over}
@@ -117,10 +118,22 @@ commit_outcome (Some name) all input = outcome_loaded name all (loaded_of (file_
 abbrev pub replay_outcome : List (List ℕ) → (ℕ → Files) → Outcome
 replay_outcome names seen = (let ending = replay_ending names seen in unread_outcome ending.status ending.text (seen 0))
 
+-- the status and the text of `gen` with these numbers, or of words that name no command
+abbrev pub gen_status : Option (ℕ × ℕ) → ℕ
+gen_status None = 2
+gen_status (Some numbers) = 0
+
+abbrev pub gen_text : Option (ℕ × ℕ) → List ℕ
+gen_text None = usage_text
+gen_text (Some (start, rounds)) = summary start rounds
+
+abbrev pub gen_outcome : Option (ℕ × ℕ) → Files → Outcome
+gen_outcome numbers all = unread_outcome (gen_status numbers) (gen_text numbers) all
+
 -- the outcome of words other than `commit`
 abbrev pub other_outcome : List (List ℕ) → (ℕ → Files) → Outcome
 other_outcome words seen =
-    if is_replay words then replay_outcome (replayed_files words) seen else unread_outcome 2 usage_text (seen 0)
+    if is_replay words then replay_outcome (replayed_files words) seen else gen_outcome (gen_numbers words) (seen 0)
 
 -- the outcome of a run, by its words, the files as each of its loads finds them, and its input
 unfoldable pub outcome : List (List ℕ) → (ℕ → Files) → List ℕ → Outcome

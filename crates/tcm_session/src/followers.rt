@@ -1,9 +1,12 @@
 //! The followers of a session, and what they are handed.
 
 ghost use Rattle.std.specs.Prelude.{◌≡◌, ◌++◌, ◌∷◌, [], codes, length, position, take, Ok, OnErr, OnOk};
+ghost use Rattle.std.specs.Option.{option_copied};
 ghost use Rattle.std.specs.Str.{bytes_eq};
 ghost use Rattle.script_lang.specs.Texts as spec;
+ghost use Rattle.tcm_session.specs.Generated as generated;
 ghost use Rattle.tcm_session.specs.Machine.{handed_text, new_follower};
+ghost use Rattle.tcm_session.specs.Machine as machine;
 ghost use Rattle.tcm_session.specs.Steps.{AnswersHanded, IsOfOneLog};
 
 use crate::fault::StepFault;
@@ -28,6 +31,23 @@ pub fn place_of(followers: &[NamedFollower], name: &Name) -> Option<usize>
     followers
         .iter()
         .position(|f| f.name.as_str() == name.as_str())
+}
+
+/// The first follower with this name.
+fn follower_named<'a>(followers: &'a [NamedFollower], name: &str) -> Option<&'a NamedFollower>
+    ensures { option_copied result ≡ machine.follower_named followers.now name.now }
+{
+    followers.iter().find(|f| f.name.as_str() == name)
+}
+
+/// The epoch of the first follower with this name, or 0 if there is none.
+pub fn epoch_of(followers: &[NamedFollower], name: &str) -> u64
+    ensures { result ≡ generated.epoch_of (machine.follower_named followers.now name.now) }
+{
+    match follower_named(followers, name) {
+        Some(f) => f.follower.epoch(),
+        None => 0,
+    }
 }
 
 /// Adds a follower at epoch 0. If memory runs out, none is added.

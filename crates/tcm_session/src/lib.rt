@@ -4,6 +4,7 @@
 mod ending;
 mod fault;
 mod followers;
+mod generated;
 mod limits;
 mod lines;
 mod loading;

@@ -7,10 +7,12 @@ ghost use Rattle.std.specs.Str.{bytes_eq};
 ghost use Rattle.tcm_session.specs.Counts.{counts};
 ghost use Rattle.tcm_session.specs.Endings as spec;
 ghost use Rattle.tcm_session.specs.Faults.{HasRunCause};
+ghost use Rattle.tcm_session.specs.Generated.{summary};
+ghost use Rattle.tcm_session.specs.Generated as generated;
 ghost use Rattle.tcm_session.specs.LogFiles.{Gains, entry_lines, log_of};
 ghost use Rattle.tcm_session.specs.LogFiles as log_file;
 ghost use Rattle.tcm_session.specs.Machine.{entries_added, session_over};
-ghost use Rattle.tcm_session.specs.Outcome.{commit_outcome, is_commit, is_replay, named_log, names_file, outcome, outcome_from, script_outcome};
+ghost use Rattle.tcm_session.specs.Outcome.{commit_outcome, gen_status, gen_text, is_commit, is_replay, named_log, names_file, outcome, outcome_from, script_outcome};
 ghost use Rattle.tcm_session.specs.Outcome as outcomes;
 ghost use Rattle.tcm_session.specs.Replays.{WritesOther, WritesReplay};
 ghost use Rattle.tcm_session.specs.Run.{ComesSurely, HasStatus, IsRun};
@@ -19,6 +21,7 @@ ghost use Rattle.tcm_session.specs.Loading.{IsCut, IsLinesPart, TakesFile};
 ghost use Rattle.tcm_session.specs.declared.fault.RunFault.TheVariants as fault;
 
 use crate::fault::RunFault;
+use crate::generated::{gen_numbers, generate};
 use crate::limits::{FILE_LIMIT, TOO_LARGE};
 use crate::loading::{Loading, load_lines};
 use crate::reading::{ReadEnd, read_script};
@@ -38,9 +41,10 @@ const USAGE: &str = "usage: tcm commit [LOG] | replay FILE.. | snapshot LOG E | 
 /// The most files of a replay.
 const MOST_FILES: usize = 64;
 
-/// The status of a run: 0 if the input was read to its end or all files were replayed, 1 if memory ran out, 2 for words
-/// that name no command, 3 if a line of a file is refused, 4 if the source failed, 5 if the sink failed, 6 if the store
-/// failed, 7 if a file is absent, 8 if the input or a file is too large. `run` explains each status.
+/// The status of a run: 0 if the input was read to its end, all files were replayed or the answers to a generated
+/// script were counted, 1 if memory ran out, 2 for words that name no command, 3 if a line of a file is refused, 4 if the
+/// source failed, 5 if the sink failed, 6 if the store failed, 7 if a file is absent, 8 if the input or a file is too
+/// large. `run` explains each status.
 #[derive(Clone, Copy, Debug, PartialEq, Eq)]
 pub struct Status(pub u8);
 
@@ -374,6 +378,37 @@ fn replay<K: Sink, D: Store>(
     end_with(ending.text.as_slice(), ending.status, out)
 }
 
+/// Prints the summary of the generated script with these numbers.
+fn print_summary<K: Sink>(
+    alloc: Global,
+    start: u64,
+    rounds: u64,
+    out: &mut K,
+) -> Result<Status, RunFault>
+    requires { rounds ≤ 3000 }
+    ensures writes { Writes (summary start rounds) (K.written out.old) (K.written out.new)
+        (counts 0 (K.faults out.old) 0) (counts 0 (K.faults out.new) 0) result }
+    ensures status { IfOk result (λ ended. ended.0 ≡ 0) }
+{
+    let text = generate(alloc, start, rounds)?;
+    end_with(text.as_slice(), 0, out)
+}
+
+/// Runs the command that words other than `commit` and `replay` name, or prints the usage line.
+fn answer_unread<K: Sink>(alloc: Global, words: &[String], out: &mut K) -> Result<Status, RunFault>
+    ensures writes { Writes (gen_text (generated.gen_numbers (map string_bytes words.now)))
+        (K.written out.old) (K.written out.new)
+        (counts 0 (K.faults out.old) 0) (counts 0 (K.faults out.new) 0) result }
+    ensures status { IfOk result (λ ended.
+        ended.0 ≡ gen_status (generated.gen_numbers (map string_bytes words.now))) }
+    ensures ended { IfOk result (λ status. IsEnd status.0) }
+{
+    match gen_numbers(words) {
+        Some((start, rounds)) => print_summary(alloc, start, rounds, out),
+        None => end_with(USAGE.as_bytes(), 2, out),
+    }
+}
+
 /// Runs the command that words other than `commit` name, or prints the usage line.
 fn answer_others<K: Sink, D: Store>(
     alloc: Global,
@@ -393,7 +428,7 @@ fn answer_others<K: Sink, D: Store>(
 {
     match replay_words(words) {
         Some(names) => replay(alloc, names, out, store),
-        None => end_with(USAGE.as_bytes(), 2, out),
+        None => answer_unread(alloc, words, out),
     }
 }
 
@@ -433,6 +468,9 @@ fn answer_words<S: Source, K: Sink, D: Store>(
 ///   and prints a report: the counts of lines, the epoch of the follower and the number of entries that wait at it, and
 ///   the nodes and the placements at this epoch. No input is read, and no file changes. Each file is loaded once the
 ///   files before it are done. Bytes after the last line feed of a file are passed over.
+/// - `gen START N`, with a START below 2^64 and an N up to 3,000, both in decimal digits without leading zeros, answers
+///   the lines of the generated script, and prints how many of its commits were accepted and refused, the last epoch and
+///   the epoch of its follower. No input is read, and the store isn't used.
 /// - Other words print the usage line.
 ///
 /// No name of a file is empty.
@@ -443,7 +481,8 @@ fn answer_words<S: Source, K: Sink, D: Store>(
 ///
 /// Returns the status of the run:
 ///
-/// - 0: the input was read to its end, and every line was answered; or all files were replayed.
+/// - 0: the input was read to its end, and every line was answered; or all files were replayed; or the answers to the
+///   generated script were counted.
 /// - 1: memory ran out.
 /// - 2: the words name no command. Nothing was read, and the usage line was printed.
 /// - 3: a line of the log file, or of a file that is replayed, is refused. Nothing was read from the input, no file was
@@ -464,6 +503,7 @@ fn answer_words<S: Source, K: Sink, D: Store>(
 /// Cost: a run keeps in memory the log, the metadata at the last epoch and that of each follower, the file while it is
 /// loaded, and of the current line at most 16,385 bytes, with its answer. A query of an earlier epoch, and its image for
 /// a follower, cost as much as committing all commands up to that epoch again. A replay keeps its follower and one file.
+/// `gen` answers up to 60,101 lines, and one for each epoch, and keeps their session.
 pub fn run<S: Source, K: Sink, D: Store>(
     alloc: Global,
     words: &[String],

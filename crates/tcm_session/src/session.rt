@@ -7,8 +7,9 @@ ghost use Rattle.script_lang.specs.Texts as spec;
 ghost use Rattle.transformations.specs.History.{commit_refusal, empty_image, image_after, is_command};
 ghost use Rattle.transformations.specs.Log.{commands_of, entry_with_id, repeated};
 ghost use Rattle.cluster_metadata.specs.Permission.{AdmitsUnless};
+ghost use Rattle.tcm_session.specs.Generated.{epoch_of};
 ghost use Rattle.tcm_session.specs.LogFiles.{Gains, entry_lines};
-ghost use Rattle.tcm_session.specs.Machine.{accepted_reply, commit_reply, commit_text, reply, reply_to, session_next, session_over};
+ghost use Rattle.tcm_session.specs.Machine.{accepted_reply, commit_reply, commit_text, follower_named, reply, reply_to, session_next, session_over};
 ghost use Rattle.tcm_session.specs.Steps.{IsNextEntry, Leaves, LeavesSession, OnlyAnswers, Steps, handed_by};
 
 mod asking;
@@ -17,7 +18,7 @@ mod keeping;
 mod taking;
 
 use crate::fault::StepFault;
-use crate::followers::{NamedFollower, close_followers};
+use crate::followers::{NamedFollower, close_followers, epoch_of};
 use crate::noting::note;
 use crate::query::Query;
 use cluster_metadata::{AdmitFault, Metadata, Permit};
@@ -141,6 +142,13 @@ impl Session {
         ensures most { result ≤ 65536 }
     {
         self.log.last_epoch()
+    }
+
+    /// The epoch of the follower with this name, or 0 if there is none.
+    pub(crate) fn follower_epoch(&self, name: &str) -> u64
+        ensures { result ≡ epoch_of (follower_named self.now.followers name.now) }
+    {
+        epoch_of(&self.followers, name)
     }
 
     /// Answers a line: adds the answer to `out`, the entry of an accepted commit to the log, and moves the follower

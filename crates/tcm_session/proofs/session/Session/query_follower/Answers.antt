@@ -1,4 +1,4 @@
-use Rattle.std.proofs.Common.{◌≡◌, ◌++◌, OnOk, get_or, position, sym, subst, ◌∙◌, ap}
+use Rattle.std.proofs.Common.{◌≡◌, ◌++◌, OnOk, position, sym, subst, ◌∙◌, ap}
 use Rattle.tcm_session.specs.Machine.{SessionState, follower_named, image_named, query_text}
 use Rattle.tcm_session.proofs.FollowerLemmas.{named}
 use Rattle.tcm_session.proofs.HandedLemmas.{asked_image, asked_none}
