@@ -9,11 +9,13 @@ pub mod LocksTaken
 pub mod LockPlaces
 pub mod MovementPlaces
 pub mod NodeLemmas
+pub mod OverlapLemmas
 pub mod PairMerge
 pub mod PermitOutcomes
 pub mod PlanLemmas
 pub mod PrepareLemmas
 pub mod ResumeLemmas
+pub mod RuleLemmas
 pub mod RunningLemmas
 pub mod StepLemmas
 pub mod placement_maps

@@ -125,7 +125,7 @@ module _ (image : Image) (up : AllByRecursion IsToken (cuts image)) where
       (rows_have_last (cuts image) cuts_ascend up)
 
   -- the first row that two books share is the first one that is shared
-  shared_first : (s q : SeqRow) (ours theirs : List RangeRow) → IsBook image s ours → IsBook image q theirs → first_shared_end ours theirs (cuts image) ≡ first_shared image s q
+  pub shared_first : (s q : SeqRow) (ours theirs : List RangeRow) → IsBook image s ours → IsBook image q theirs → first_shared_end ours theirs (cuts image) ≡ first_shared image s q
   shared_first s q ours theirs one other =
       ap (option_map (λ (row : TokenRange). row.right)) (find_alike (share_row ours theirs) (is_shared image s q) (rows_between (cuts image)) (rows_alike s q ours theirs one other))
 
@@ -149,7 +149,7 @@ plan_locked image s plan is =
     ∙ ap first_of (conflicts_alike image tokens s plan.ranges (others image.sequences s.node) plan.wide is.ranges is.wide)
 
 -- the bounds of all ranges of a plan are its cuts
-locks_cut : (image : Image) (movements : List SeqRow) (locks : List LockRow) → AreLocks image movements locks → AllByRecursion (λ l. AllByRecursion (λ r. AreCutOut (cuts image) r.ranges) l.ranges) locks
+pub locks_cut : (image : Image) (movements : List SeqRow) (locks : List LockRow) → AreLocks image movements locks → AllByRecursion (λ l. AllByRecursion (λ r. AreCutOut (cuts image) r.ranges) l.ranges) locks
 locks_cut image [] [] are = tt
 locks_cut image [] (lock ∷ locks) are = absurd are
 locks_cut image (q ∷ movements) [] are = absurd are

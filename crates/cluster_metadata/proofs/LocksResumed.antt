@@ -1,9 +1,9 @@
 -- The locks of the movements of an image, one after another.
-use Rattle.std.proofs.Common.{◌≡◌, ℕ, suc, zero, ◌+◌, ◌<◌, ◌≤◌, Bool, Result, Ok, Err, MatchResult, false, ◌==◌, ℤ, List, [], ◌∷◌, ◌++◌, length, map, take, get_or, Some, refl, sym, ap, ◌∙◌, subst, arith}
+use Rattle.std.proofs.Common.{◌≡◌, ℕ, suc, zero, ◌+◌, ◌<◌, ◌≤◌, Bool, not, Result, Ok, Err, IsErrAnd, MatchResult, true, false, ◌==◌, ℤ, List, [], ◌∷◌, ◌++◌, length, map, take, get_or, find, pos, Option, None, Some, is_some, option_map, refl, sym, ap, ◌∙◌, subst, arith}
 use Rattle.std.proofs.lemmas.Bool.Decides.{Decides-eqb}
 use Rattle.std.proofs.lemmas.List.{map-append, take_more}
 use Rattle.std.proofs.lemmas.Option.{none-some}
-use Rattle.std.specs.List.{AllByRecursion, Contains, IsDistinct, slice_get}
+use Rattle.std.specs.List.{AllByRecursion, Contains, slice_get}
 use Rattle.std.proofs.lemmas.List.Elements.{All-contains, All-from_recursion}
 use Rattle.std.specs.List.Sorted.{IsStrictlySortedBy}
 use Rattle.std.specs.declared.cmp.Ordering.TheVariants.{Less}
@@ -14,7 +14,7 @@ use Rattle.token_ring.specs.declared.book.RangeRow.{RangeRow}
 use Rattle.placement_deltas.specs.declared.plan.Plan.{Plan}
 use Rattle.sequence_plans.proofs.DeltaBookLemmas.{at_each_token}
 use Rattle.sequence_plans.specs.Deltas.{HasDeltas}
-use Rattle.sequence_plans.specs.Plan.{IsBook, IsPlan}
+use Rattle.sequence_plans.specs.Plan.{AreLocks, IsBook, IsLockRow, IsPlan}
 use Rattle.transformations.proofs.movements.SoleLemmas.{found_own}
 use Rattle.transformations.proofs.ranges.KeptRanges.{IsKept, ranges_alike}
 use Rattle.transformations.proofs.ranges.KeptSteps.{kept_phase}
@@ -26,17 +26,25 @@ use Rattle.cluster_metadata.proofs.LocksKept.{IsAlike, lock_alike}
 use Rattle.cluster_metadata.proofs.ResumeLemmas.{put_own}
 use Rattle.cluster_metadata.specs.Change.{in_phase, plan_lock}
 use Rattle.transformations.proofs.lists.ListLemmas.{all_weaker}
-use Rattle.transformations.proofs.ranges.ApartLemmas.{both_at, both_flips}
-use Rattle.transformations.proofs.ranges.RangesKept.{apart_at}
 use Rattle.transformations.specs.Orders.{by_node}
-use Rattle.transformations.specs.Ranges.{in_both, in_ranges}
-use Rattle.transformations.specs.Valid.{IsSound, IsValid}
+use Rattle.transformations.specs.ImageRules.{broken, overlap, overlaps}
+use Rattle.transformations.specs.Ranges.{in_ranges}
+use Rattle.transformations.specs.Rings.{cuts}
+use Rattle.transformations.proofs.cut_changes.CutsFollowed.{cuts_at_phase}
+use Rattle.token_ring.specs.Ranges.{AreCutOut}
+use Rattle.transformations.specs.Valid.{IsSound}
 use Rattle.transformations.specs.declared.image.Image.{Image}
+use Rattle.transformations.specs.declared.image_rules.BadImage.{BadImage}
 use Rattle.transformations.specs.declared.sequence.SeqRow.{SeqRow}
 use Rattle.cluster_metadata.proofs.LockPlaces.{added_removed, all_locked, locks_named}
-use Rattle.cluster_metadata.proofs.LocksTaken.{all_apart, at_tokens, unnamed}
+use Rattle.cluster_metadata.proofs.LocksTaken.{at_tokens, unnamed}
+use Rattle.cluster_metadata.proofs.OverlapLemmas.{conflict_overlaps, found_here, found_none, lesser_earlier}
+use Rattle.locked_ranges.specs.Conflict.{conflict_of}
 use Rattle.cluster_metadata.proofs.MovementPlaces.{at_index, at_place, less_other}
-use Rattle.cluster_metadata.specs.Locking.{AddsMovement, AreLocked, IsApartFrom, lock_of}
+use Rattle.cluster_metadata.specs.ImageFaults.{FindsOverlap, IsCause, overlap_of, overlaps_any, overlapping_at}
+use Rattle.cluster_metadata.specs.declared.image_fault.ImageFault.{ImageFault}
+use Rattle.cluster_metadata.specs.declared.image_fault.ImageFault.TheVariants.{Bad, Memory}
+use Rattle.cluster_metadata.specs.Locking.{AreLocked, lock_of}
 use Rattle.cluster_metadata.specs.Locks.{AreLocksOf, IsLockOf}
 use Rattle.cluster_metadata.specs.Running.{HaveDeltas, IsRunning, movement_row, node_of, plan_of}
 use Rattle.cluster_metadata.specs.declared.running.Running.{Running}
@@ -51,12 +59,6 @@ earlier_other (q ∷ rows) (suc i) s up found = (
   less_other q s s.node (at_place (λ r. by_node q r ≡ Less) rows i s up.0 found) ((Decides-eqb s.node s.node).1 refl),
   earlier_other rows i s up.1 found,
 )
-
-earlier_apart : (e : SeqRow → SeqRow → Bool) (rows : List SeqRow) (i : ℕ) (s : SeqRow) → IsDistinct e rows → slice_get rows i ≡ Some s → AllByRecursion (λ q. e q s ≡ false) (take i rows)
-unfolding IsDistinct
-earlier_apart e [] i s d found = absurd (none-some s found)
-earlier_apart e (q ∷ rows) zero s d found = tt
-earlier_apart e (q ∷ rows) (suc i) s d found = (at_place (λ r. e q r ≡ false) rows i s d.0 found, earlier_apart e rows i s d.1 found)
 
 earlier_sorted : (rows : List SeqRow) (i : ℕ) → IsStrictlySortedBy by_node rows → IsStrictlySortedBy by_node (take i rows)
 unfolding IsStrictlySortedBy
@@ -73,28 +75,49 @@ earlier_sorted (q ∷ rows) (suc i) up = (all_take (λ r. by_node q r ≡ Less) 
 
 -- ---- the next one
 
-module _ (image : Image) (valid : IsValid image) (i : ℕ) (table : List LockRow) (locks : AreLocksOf image (take i image.sequences) table) where
+-- the locks of a plan's wide ranges are locks of their movements
+pub locks_of : (image : Image) (rows : List SeqRow) (table : List LockRow) → AreLocks image rows table → AreLocksOf image rows table
+locks_of image [] [] are = tt
+locks_of image [] (l ∷ table) are = absurd are
+locks_of image (s ∷ rows) [] are = absurd are
+locks_of image (s ∷ rows) (l ∷ table) are = (
+  record { node = are.0.node; rows = are.0.ranges.rows; ranges = are.0.ranges.ranges },
+  locks_of image rows table are.1,
+)
+
+module _ (image : Image) (sound : IsSound image) (i : ℕ) (table : List LockRow) (locks : AreLocks image (take i image.sequences) table) where
+  there : AreLocksOf image (take i image.sequences) table
+  there = locks_of image (take i image.sequences) table locks
+
   module _ (s : SeqRow) (within : i < length image.sequences) (here : s ≡ get_or image.sequences i s) where
     found : slice_get image.sequences i ≡ Some s
     found = at_index image.sequences i s within here
 
     pub next_new : has_row table s.node ≡ false
-    next_new = unnamed image s.node (take i image.sequences) table locks (earlier_other image.sequences i s valid.sound.movements found)
-
-    pub next_apart : IsApartFrom image s table
-    next_apart ranges lock =
-        all_apart image s (take i image.sequences) (lock_row s.node ranges) table lock locks
-        (at_tokens (λ x q. in_both image s q x ≡ false) (take i image.sequences)
-        (λ x token. all_weaker (λ q. both_at image x q s ≡ false) (λ q. in_both image s q x ≡ false) (λ q apart. both_flips image x s q ∙ apart) (take i image.sequences)
-        (earlier_apart (both_at image x) image.sequences i s (apart_at image valid x token) found)))
+    next_new = unnamed image s.node (take i image.sequences) table there (earlier_other image.sequences i s sound.movements found)
 
     pub next_taken : take (i + 1) image.sequences ≡ take i image.sequences ++ s ∷ []
     next_taken = take_more image.sequences i s within ∙ ap (λ (q : SeqRow). take i image.sequences ++ q ∷ []) (sym here)
 
-  pub so_far : (values : List Running) → IsRunning (take i image.sequences) values → AreLocked table values
-  so_far values is = all_locked (take i image.sequences) values table (earlier_sorted image.sequences i valid.sound.movements) is (locks_named image (take i image.sequences) table locks)
+    -- the movement overlaps one of a lesser node exactly if it overlaps one of those before it
+    next_overlaps : overlaps image s ≡ overlaps_any image s (take i image.sequences)
+    next_overlaps = lesser_earlier (overlap image s) image.sequences i s sound.movements found
 
-pub locks_more : (image : Image) (rows : List SeqRow) (table : List LockRow) (s : SeqRow) (l : LockRow) → AreLocksOf image rows table → IsLockOf image s l → AreLocksOf image (rows ++ s ∷ []) (table ++ l ∷ [])
+    pub next_apart : overlaps_any image s (take i image.sequences) ≡ false → find (overlaps image) (take i image.sequences) ≡ None → find (overlaps image) (take (i + 1) image.sequences) ≡ None
+    next_apart none earlier = rw next_taken (found_none (overlaps image) (take i image.sequences) s earlier (next_overlaps ∙ none))
+
+    pub next_bad : overlaps_any image s (take i image.sequences) ≡ true → find (overlaps image) (take i image.sequences) ≡ None → overlap_of image ≡ Some (overlapping_at s.node)
+    next_bad some earlier = ap (λ (o : Option SeqRow). broken 18 (option_map (λ (q : SeqRow). pos q.node) o)) (found_here (overlaps image) image.sequences i s earlier found (next_overlaps ∙ some))
+
+    -- the movement is refused for this, or memory ran out
+    pub next_cause : (X : Type 0) (e : ImageFault) → FindsOverlap {X = X} image s (take i image.sequences) (Err e) → find (overlaps image) (take i image.sequences) ≡ None → IsCause (overlap_of image) e
+    next_cause X (Bad bad) overlap earlier = next_bad overlap.0 earlier ∙ ap Some (sym overlap.1)
+    next_cause X Memory overlap earlier = tt
+
+  pub so_far : (values : List Running) → IsRunning (take i image.sequences) values → AreLocked table values
+  so_far values is = all_locked (take i image.sequences) values table (earlier_sorted image.sequences i sound.movements) is (locks_named image (take i image.sequences) table there)
+
+pub locks_more : (image : Image) (rows : List SeqRow) (table : List LockRow) (s : SeqRow) (l : LockRow) → AreLocks image rows table → IsLockRow image s l → AreLocks image (rows ++ s ∷ []) (table ++ l ∷ [])
 locks_more image [] [] s l are lock = (lock, tt)
 locks_more image [] (k ∷ table) s l are lock = absurd are
 locks_more image (q ∷ rows) [] s l are lock = absurd are
@@ -110,7 +133,7 @@ running_more rows values s m is row = map-append movement_row values (m ∷ []) 
 -- ---- a plan that is made anew
 
 -- the ranges of a movement are those of its plan, which is made with its row at another phase
-pub lock_resumed : (p : Phase) (image : Image) (s : SeqRow) (ranges : List RangeRow) → IsSound image → Contains image.sequences s → IsBook (with_movement image (in_phase p s)) (in_phase p s) ranges → IsLockOf image s (lock_row s.node ranges)
+lock_resumed : (p : Phase) (image : Image) (s : SeqRow) (ranges : List RangeRow) → IsSound image → Contains image.sequences s → IsBook (with_movement image (in_phase p s)) (in_phase p s) ranges → IsLockOf image s (lock_row s.node ranges)
 lock_resumed p image s ranges sound there book =
     let with_rows : List SeqRow → Image = λ rows. record image { sequences = rows } in
     let later : Image = with_rows (map (at_phase p s.node) image.sequences) in
@@ -126,6 +149,35 @@ lock_resumed p image s ranges sound there book =
     (at_each_token (λ x (k : KeyspaceRow). in_ranges image k.replication s x ≡ in_ranges later k.replication s x) image.keyspaces own) in
     lock_alike later image (in_phase p s) s (lock_row s.node ranges) refl refl alike lock
 
+-- its cuts are those of the image
+pub cuts_resumed : (p : Phase) (image : Image) (s : SeqRow) → IsSound image → Contains image.sequences s → cuts (with_movement image (in_phase p s)) ≡ cuts image
+cuts_resumed p image s sound there =
+    let with_rows : List SeqRow → Image = λ rows. record image { sequences = rows } in
+    ap (λ rows. cuts (with_rows rows)) (put_own p s image.sequences sound.movements (found_own image.sequences s sound.movements there)) ∙ cuts_at_phase image p s.node image.epoch
+
+pub book_resumed : (p : Phase) (image : Image) (s : SeqRow) (ranges : List RangeRow) → IsSound image → Contains image.sequences s → IsBook (with_movement image (in_phase p s)) (in_phase p s) ranges → IsBook image s ranges
+book_resumed p image s ranges sound there book =
+    let lock = lock_resumed p image s ranges sound there book in
+    record {
+      rows = lock.rows;
+      ranges = lock.ranges;
+      bounds = subst (λ ts. AllByRecursion (λ (r : RangeRow). AreCutOut ts r.ranges) ranges) (cuts_resumed p image s sound there) book.bounds;
+    }
+
+flipped : (a b : Bool) → a ≡ not b → b ≡ not a
+flipped a true h = sym (ap not h)
+flipped a false h = sym (ap not h)
+
+-- whether the ranges of a plan are free of the locks before it tells whether its movement overlaps one of these
+pub overlap_planned : (p : Phase) (image : Image) (s : SeqRow) (plan : Plan) (earlier : List SeqRow) (table : List LockRow) (ts : List ℤ) (free : Bool) → IsSound image → Contains image.sequences s → IsPlan (with_movement image (in_phase p s)) (in_phase p s) plan
+    → AreLocks image earlier table → ts ≡ plan.cuts → free ≡ not (is_some (conflict_of plan.ranges table ts)) → overlaps_any image s earlier ≡ not free
+overlap_planned p image s plan earlier table ts free sound there is are same told =
+    let own : plan.cuts ≡ cuts image = is.cuts ∙ cuts_resumed p image s sound there in
+    let tokens : AllByRecursion IsToken (cuts image) = subst (λ cs. AllByRecursion IsToken cs) own is.tokens in
+    let found = conflict_overlaps image tokens s plan.ranges earlier table (book_resumed p image s plan.ranges sound there is.ranges) are in
+    let by : free ≡ not (overlaps_any image s earlier) = told ∙ ap (λ cs. not (is_some (conflict_of plan.ranges table cs))) (same ∙ own) ∙ ap not found in
+    flipped free (overlaps_any image s earlier) by
+
 -- ---- what is added
 
 pub take_whole : (rows : List SeqRow) (i : ℕ) → length rows ≤ i → take i rows ≡ rows
@@ -134,18 +186,18 @@ take_whole [] (suc i) over = refl
 take_whole (q ∷ rows) zero over = absurd (omega arith)
 take_whole (q ∷ rows) (suc i) over = ap (λ l. q ∷ l) (take_whole rows i (omega arith))
 
--- a movement is added with its lock; or it is closed, and its lock goes again
-pub movement_added : {X E : Type 0} (image : Image) (s : SeqRow) (before after : List Running) (locks locked left : List LockRow) (m : Running) (result : Result X E)
-    → MatchResult result (λ _. after ≡ before ++ m ∷ []) (λ _. after ≡ before) → MatchResult result (λ _. left ≡ locked) (λ _. left ≡ other_locks locked (node_of m))
-    → locked ≡ locks ++ lock_of m ∷ [] → movement_row m ≡ s → HasDeltas image (plan_of m) → IsLockOf image s (lock_of m) → has_row locks s.node ≡ false
-    → MatchResult result (λ _. AddsMovement image s before after locks left) (λ _. (after ≡ before) × (left ≡ locks))
-movement_added image s before after locks locked left m (Ok x) values table taken row deltas lock new =
-    record { movement = m; running = values; table = table ∙ taken; row = row; deltas = deltas; lock = lock }
-movement_added image s before after locks locked left m (Err e) values table taken row deltas lock new =
+-- a movement is closed, and its lock goes again
+pub movement_removed : (s : SeqRow) (before after : List Running) (locks locked left : List LockRow) (m : Running) → after ≡ before → left ≡ other_locks locked (node_of m) → locked ≡ locks ++ lock_of m ∷ [] → movement_row m ≡ s → has_row locks s.node ≡ false
+    → (after ≡ before) × (left ≡ locks)
+movement_removed s before after locks locked left m values table taken row new =
     let node : s.node ≡ node_of m = sym (ap (λ (q : SeqRow). q.node) row) in
     let none : has_row locks (node_of m) ≡ false = ap (has_row locks) (sym node) ∙ new in
     (values, table ∙ ap (λ t. other_locks t (node_of m)) taken ∙ added_removed locks (lock_of m) none)
 
-pub lock_planned : (p : Phase) (image : Image) (s : SeqRow) (plan : Plan) → IsSound image → Contains image.sequences s → IsPlan (with_movement image (in_phase p s)) (in_phase p s) plan → IsLockOf image s (plan_lock plan)
-lock_planned p image s plan sound there is =
-    subst (λ n. IsLockOf image s (lock_row n plan.ranges)) (sym (ap (λ (q : SeqRow). q.node) is.row)) (lock_resumed p image s plan.ranges sound there is.ranges)
+pub row_planned : (p : Phase) (image : Image) (s : SeqRow) (plan : Plan) → IsSound image → Contains image.sequences s → IsPlan (with_movement image (in_phase p s)) (in_phase p s) plan → IsLockRow image s (plan_lock plan)
+row_planned p image s plan sound there is = record { node = ap (λ (q : SeqRow). q.node) is.row; ranges = book_resumed p image s plan.ranges sound there is.ranges }
+
+-- the cause passes through a `?`
+pub cause_through : {X : Type 0} (broken : Option BadImage) (r : Result X ImageFault) (e : ImageFault) → IsErrAnd r (λ y. y ≡ e) → IsCause broken e → MatchResult r (λ _. broken ≡ None) (λ f. IsCause broken f)
+cause_through broken (Ok x) e is cause = absurd is
+cause_through broken (Err f) e is cause = subst (IsCause broken) (sym is) cause

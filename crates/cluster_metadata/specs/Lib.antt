@@ -1,6 +1,7 @@
 pub mod Change
 pub mod CutDeltas
 pub mod Held
+pub mod ImageFaults
 pub mod Locking
 pub mod Locks
 pub mod MapBasis

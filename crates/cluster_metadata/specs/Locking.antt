@@ -1,15 +1,15 @@
 -- How changes lock and unlock ranges, and the keys that movements hold. Of the code: no promise rests on these.
-use Rattle.std.specs.Prelude.{◌≡◌, ◌≤◌, false, true, List, [], ◌∷◌, ◌++◌, map, length, nat_eq}
+use Rattle.std.specs.Prelude.{◌≡◌, ◌≤◌, false, true, List, [], ◌∷◌, ◌++◌, map, length, nat_eq, ℤ}
 use Rattle.std.specs.List.{AllByRecursion, IsDistinct, insert, remove}
 use Rattle.locked_ranges.specs.Sharing.{ShareNoToken}
-use Rattle.locked_ranges.specs.Table.{has_row, lock_row}
+use Rattle.locked_ranges.specs.Table.{has_row}
+use Rattle.token_ring.specs.Ranges.{AreCutOut}
 use Rattle.placement_deltas.specs.declared.plan.Plan.{Plan}
 use Rattle.token_ring.specs.declared.book.LockRow.{LockRow}
-use Rattle.token_ring.specs.declared.book.RangeRow.{RangeRow}
 use Rattle.sequence_plans.specs.Deltas.{HasDeltas}
+use Rattle.sequence_plans.specs.Plan.{IsLockRow}
 use Rattle.transformations.specs.declared.image.Image.{Image}
 use Rattle.transformations.specs.declared.sequence.SeqRow.{SeqRow}
-use Rattle.cluster_metadata.specs.Locks.{IsLockOf}
 use Rattle.cluster_metadata.specs.Change.{plan_lock}
 use Rattle.cluster_metadata.specs.Running.{movement_row, node_of, plan_of}
 use Rattle.cluster_metadata.specs.declared.change.Change.{Change}
@@ -43,10 +43,9 @@ abbrev pub MayLock : List LockRow → Change → Type 0
 MayLock table (Begun at plan sequences) = IsFree plan table
 MayLock table _ = Unit {0}
 
--- no lock shares a token with the ranges of a movement
-abbrev pub IsApartFrom : Image → SeqRow → List LockRow → Type 0
-IsApartFrom image s table =
-    (ranges : List RangeRow) → IsLockOf image s (lock_row s.node ranges) → AllByRecursion (λ row. ShareNoToken ranges row.ranges) table
+-- the bounds of the ranges of these locks are cuts
+abbrev pub AreCutAt : List ℤ → List LockRow → Type 0
+AreCutAt cuts table = AllByRecursion (λ row. AllByRecursion (λ r. AreCutOut cuts r.ranges) row.ranges) table
 
 -- the value of a movement is added, and its lock
 pub record AddsMovement (image : Image) (s : SeqRow) (before after : List Running) (locks locked : List LockRow) : Type 0 where
@@ -55,7 +54,7 @@ pub record AddsMovement (image : Image) (s : SeqRow) (before after : List Runnin
   pub table : locked ≡ locks ++ lock_of movement ∷ []
   pub row : movement_row movement ≡ s
   pub deltas : HasDeltas image (plan_of movement)
-  pub lock : IsLockOf image s (lock_of movement)
+  pub lock : IsLockRow image s (lock_of movement)
 
 -- the movements are of distinct nodes, and each has a lock
 pub record AreLocked (table : List LockRow) (running : List Running) : Type 0 where

@@ -1,9 +1,13 @@
 ghost use Rattle.std.specs.Prelude.{◌≡◌};
 ghost use Rattle.cluster_metadata.specs.declared.image_fault.ImageFault.TheVariants as fault;
 
+use transformations::BadImage;
+
 /// Why no metadata was made from an image.
 #[derive(Debug, Drop)]
 pub enum ImageFault {
+    /// The image isn't valid: the first rule of valid images that it breaks, with its value.
+    Bad(BadImage),
     /// Memory ran out.
     Memory,
 }

@@ -23,6 +23,7 @@ mod new_lock;
 mod new_node;
 mod nodes;
 mod pairs;
+mod parts;
 mod permit;
 mod placers;
 mod preparing;

@@ -1,4 +1,4 @@
-ghost use Rattle.std.specs.Prelude.{◌≡◌, ◌*◌, ◌-◌, ◌<◌, ◌≤◌, ◌^◌, ℤ, true, false, None, length, map, option_map, IfErr, IfOk, IfSome, IsSome, IsTrue};
+ghost use Rattle.std.specs.Prelude.{◌≡◌, ◌*◌, ◌-◌, ◌<◌, ◌≤◌, ◌^◌, ℤ, true, false, None, length, map, option_map, IfErr, IfOk, IfSome, IsSome, IsTrue, MatchResult};
 ghost use Rattle.std.specs.List.{All};
 ghost use Rattle.std.specs.Option.{option_copied};
 ghost use Rattle.std.specs.Ordering.{int_eq};
@@ -7,15 +7,16 @@ ghost use Rattle.cluster_terms.specs.Row.{rows_between};
 ghost use Rattle.cluster_terms.specs.declared.replication.Replication.{Replication};
 ghost use Rattle.transformations.specs.CutSteps.{SameAcross};
 ghost use Rattle.transformations.specs.History.{empty_image, is_command, most_epochs, next_image};
+ghost use Rattle.transformations.specs.ImageRules.{bad_of};
 ghost use Rattle.transformations.specs.Meeting.{HaveReplications, QuorumsExistTogether, QuorumsMeet, ReadsAreWritten, makes_movement_epoch};
 ghost use Rattle.transformations.specs.Refusals.{early_refusal_of, prepared_by, refusal_of};
 ghost use Rattle.transformations.specs.Rings.{cuts, writes_at};
 ghost use Rattle.transformations.specs.Valid.{IsValid};
 ghost use Rattle.cluster_metadata.specs.Change.{directory_of};
 ghost use Rattle.cluster_metadata.specs.CutDeltas.{ActsByDelta, CutsMove, DeltasSameAcross};
+ghost use Rattle.cluster_metadata.specs.ImageFaults.{IsCause};
 ghost use Rattle.cluster_metadata.specs.Locks.{AreLocksOf};
-ghost use Rattle.cluster_metadata.specs.Maps.{AreMaps, placement_rows};
-ghost use Rattle.cluster_metadata.specs.Running.{HaveDeltas, IsRunning};
+ghost use Rattle.cluster_metadata.specs.Maps.{placement_rows};
 ghost use Rattle.cluster_metadata.specs.Served as spec;
 
 use crate::admit_fault::AdmitFault;
@@ -23,9 +24,10 @@ use crate::enact::{exchange, make};
 use crate::image_fault::ImageFault;
 use crate::keyspaces::keyspace_of;
 use crate::map_book::MapBook;
-use crate::maps::{find_map, maps_of};
+use crate::maps::find_map;
+use crate::parts::parts_of;
 use crate::permit::{Permit, permit_for};
-use crate::running::{Running, close_all, resume_all};
+use crate::running::{Running, close_all};
 use cluster_terms::{Memory, Name, Replication, SmallList, Steps, Token, TryCopy};
 use locked_ranges::LockTable;
 use node_directory::Directory;
@@ -70,26 +72,6 @@ impl Model for Metadata {
     ghost invariant = { λ m. IsHeld m.image m.directory m.maps m.running.items m.locks };
 }
 
-/// The directory of a valid image, its placement maps, and the values of its movements in flight, each with its plan,
-/// and the table of their locks.
-fn parts_of(
-    alloc: Global,
-    image: &Image,
-) -> Result<(Directory, MapBook, Vec<Running>, LockTable), Memory>
-    requires { IsValid image.now }
-    ensures directory { IfOk result (λ parts. parts.0 ≡ directory_of image.now) }
-    ensures maps { IfOk result (λ parts. AreMaps image.now parts.1) }
-    ensures running { IfOk result (λ parts. IsRunning image.now.sequences parts.2.items) }
-    ensures deltas { IfOk result (λ parts. HaveDeltas image.now parts.2.items) }
-    ensures locks { IfOk result (λ parts. AreLocksOf image.now image.now.sequences parts.3) }
-{
-    let directory = Directory::from_valid(alloc, image.nodes.as_slice(), image.next)?;
-    let keyspaces = image.keyspaces.as_slice();
-    let maps = maps_of(alloc, image, keyspaces, &directory, &MapBook::empty(alloc))?;
-    let (running, locks) = resume_all(alloc, image)?;
-    Ok((directory, maps, running, locks))
-}
-
 impl Metadata {
     ghost use Rattle.transformations.specs.Ranges.{AreApart, AreOutcomes, ArePlacedByOutcomes, KeepsRanges, PlacedByRanges};
     ghost use Rattle.cluster_metadata.specs.Permission.{AdmitsUnless};
@@ -117,19 +99,22 @@ impl Metadata {
         })
     }
 
-    /// The metadata of an image. The image is valid, and each of its keyspaces has a replication. If memory runs out,
-    /// returns the image.
+    /// The metadata of an image.
     ///
-    /// Cost: a copy of the nodes, and a plan for each movement in flight, as `sequence_plans::plan` makes it. For m
-    /// movements and r replications, this is m copies of the image and m·m·r calls of `ring_reach::reached`. Each plan
-    /// also walks rings: under each replication, two walks for each row between cuts that is in its movement's ranges.
-    /// Under each replication, the placement maps take three rings of all pairs, and three walks for each row between
-    /// cuts; without movements, one ring and one walk.
+    /// Fails, and returns the image, with `Bad` if the image breaks a rule of valid images, and with `Memory` if memory
+    /// runs out. `Bad` has the first rule that the image breaks, with its value: `transformations::bad_image` lists rules 1
+    /// to 17. Rule 18 is that no movement overlaps the movement of a lesser node, and its value is the node of the first
+    /// movement that does.
+    ///
+    /// Cost: that of `transformations::bad_image`, a copy of the nodes, and a plan for each movement in flight, as
+    /// `sequence_plans::plan` makes it. For m movements and r replications, this is m copies of the image and m·m·r calls of
+    /// `ring_reach::reached`. Each plan also walks rings: under each replication, two walks for each row between cuts that
+    /// is in its movement's ranges. Under each replication, the placement maps take three rings of all pairs, and three
+    /// walks for each row between cuts; without movements, one ring and one walk.
     pub fn from_image(alloc: Global, image: Image) -> Result<Metadata, (Image, ImageFault)>
-        requires valid { IsValid image }
-        requires replications { HaveReplications image }
         ensures ok { IfOk result (λ metadata. metadata ≡ image) }
         ensures handed_back { IfErr result (λ e. e.0 ≡ image) }
+        ensures bad { MatchResult result (λ _. bad_of image ≡ None) (λ e. IsCause (bad_of image) e.1) }
     {
         match parts_of(alloc, &image) {
             Ok((directory, maps, running, locks)) => Ok(Metadata {
@@ -140,7 +125,7 @@ impl Metadata {
                 running,
                 locks,
             }),
-            Err(Memory) => Err((image, ImageFault::Memory)),
+            Err(fault) => Err((image, fault)),
         }
     }
 

@@ -1,7 +1,7 @@
 ghost use Rattle.std.specs.Prelude.{◌≡◌, ◌<◌, ◌≤◌, None, IfOk, IsSome, IsTrue, vec_capacity, vec_len};
 ghost use Rattle.transformations.specs.History.{is_command, most_epochs};
 ghost use Rattle.transformations.specs.Refusals.{early_refusal_of, prepared_by, refusal_of};
-ghost use Rattle.transformations.specs.Valid.{IsValid};
+ghost use Rattle.transformations.specs.Valid.{IsSound, IsValid};
 ghost use Rattle.cluster_metadata.specs.Change.{grown_to};
 ghost use Rattle.cluster_metadata.specs.Locks.{AreLocksOf};
 ghost use Rattle.cluster_metadata.specs.Maps.{AreMaps};
@@ -44,7 +44,8 @@ fn first_refusal(
     directory: &Directory,
     cmd: &Command,
 ) -> Result<Option<Refusal>, Memory>
-    requires { directory.now.rows ≡ image.now.nodes }
+    requires sound { IsSound image.now }
+    requires nodes { directory.now.rows ≡ image.now.nodes }
     ensures { IfOk result (λ found. found ≡ early_refusal_of image.now cmd.now) }
 {
     match cmd {

@@ -1,28 +1,33 @@
-ghost use Rattle.std.specs.Prelude.{◌≡◌, ◌++◌, ◌∷◌, ◌<◌, [], true, false, IfOk, MatchResult, OnOk};
+ghost use Rattle.std.specs.Prelude.{◌≡◌, ◌++◌, ◌∷◌, ◌<◌, [], true, false, List, None, IfOk, MatchResult, OnOk};
 ghost use Rattle.std.specs.List.{Contains};
 ghost use Rattle.locked_ranges.specs.Table.{has_row, other_locks};
 ghost use Rattle.transformations.specs.Refusals.{with_movement};
-ghost use Rattle.transformations.specs.Rings.{is_mid};
-ghost use Rattle.transformations.specs.Valid.{IsSound, IsValid};
+ghost use Rattle.transformations.specs.Rings.{cuts, is_mid};
+ghost use Rattle.transformations.specs.Valid.{IsSound};
 ghost use Rattle.transformations.specs.declared.sequence.Phase.TheVariants as phase;
+ghost use Rattle.transformations.specs.declared.sequence.SeqRow.{SeqRow as MovementRow};
 ghost use Rattle.sequence_plans.specs.Deltas.{HasDeltas};
-ghost use Rattle.sequence_plans.specs.Plan.{IsPlan};
-ghost use Rattle.cluster_metadata.specs.Locks.{AreLocksOf, IsLockOf};
-ghost use Rattle.cluster_metadata.specs.Locking.{AddsMovement, AreLocked, IsApartFrom, lock_of};
+ghost use Rattle.sequence_plans.specs.Plan.{AreLocks, IsLockRow, IsPlan};
+ghost use Rattle.cluster_metadata.specs.ImageFaults.{FindsOverlap, IsCause, overlap_of, overlapping_at};
+ghost use Rattle.cluster_metadata.specs.Locks.{AreLocksOf};
+ghost use Rattle.cluster_metadata.specs.Locking.{AddsMovement, AreCutAt, AreLocked, lock_of};
 ghost use Rattle.cluster_metadata.specs.Running.{HaveDeltas, IsRunning, phase_of, plan_of, movement_row, node_of};
 ghost use Rattle.cluster_metadata.specs.Turns.{undoing};
+ghost use Rattle.cluster_metadata.specs.declared.image_fault.ImageFault.TheVariants as fault;
 
+use crate::image_fault::ImageFault;
 use crate::stepping::at_phase;
 use crate::turn::Turn;
-use cluster_terms::{Memory, Steps, TryCopy};
+use cluster_terms::{Memory, NodeId, Steps, TryCopy};
 use locked_ranges::{LockKey, LockTable};
+use node_directory::Directory;
 use placement_deltas::Plan;
 use sequence_core::{Mid, Prepared, Seq, Started};
-use sequence_plans::plan;
+use sequence_plans::plan_in;
 use std::alloc::Global;
 use std::marker::Brand;
 use std::sync::ledger::{Blank, Ledger};
-use transformations::{Image, Phase, SeqRow};
+use transformations::{BadImage, Image, Phase, SeqRow};
 
 /// A movement in flight, as a value of its phase. It holds the plan with which the movement was prepared, and the key to
 /// the lock of its ranges.
@@ -155,43 +160,69 @@ impl Running {
 fn planned<L: Ledger>(
     alloc: Global,
     image: &Image,
+    directory: &Directory,
     row: SeqRow,
     walks: &mut Steps<L>,
 ) -> Result<Plan, Memory>
     requires prepared { row.phase ≡ phase.Prepared }
     requires sound { IsSound (with_movement image.now row) }
+    requires nodes { directory.now.rows ≡ image.now.nodes }
     ensures { IfOk result (IsPlan (with_movement image.now row) row) }
 {
-    match plan(alloc, image, row, walks) {
+    match plan_in(alloc, image, directory, row, walks) {
         Ok(plan) => Ok(plan),
         Err((_row, memory)) => Err(memory),
     }
 }
 
-/// The value of a movement of an image, with the plan that it has there. Locks its ranges, which share no token with the
-/// rows of the table. If memory runs out, the table is unchanged.
+/// The fault of an image whose movement of this node overlaps the movement of a lesser node.
+fn overlapping(node: NodeId) -> ImageFault
+    ensures { result ≡ fault.Bad (overlapping_at node) }
+{
+    ImageFault::Bad(BadImage {
+        rule: 18,
+        value: i128::from(node.0),
+    })
+}
+
+/// The value of a movement of an image, with the plan that it has there, and locks its ranges. Fails with `Bad` if they
+/// share a token with a row of the table, which has the movements of lesser nodes, and with `Memory` if memory runs out.
+/// Then the table is unchanged.
 fn resumed<L: Ledger>(
     alloc: Global,
     image: &Image,
+    directory: &Directory,
     row: &SeqRow,
     locks: &mut LockTable,
     walks: &mut Steps<L>,
-) -> Result<Running, Memory>
+) -> Result<Running, ImageFault>
     requires sound { IsSound image.now }
+    requires nodes { directory.now.rows ≡ image.now.nodes }
     requires movement { Contains image.now.sequences row.now }
     requires new { has_row locks.old row.now.node ≡ false }
-    requires apart { IsApartFrom image.now row.now locks.old }
+    requires cut { AreCutAt (cuts image.now) locks.old }
     ensures row { IfOk result (λ movement. movement_row movement ≡ row.now) }
     ensures deltas { IfOk result (λ movement. HasDeltas image.now (plan_of movement)) }
     ensures locks { MatchResult result (λ movement. locks.new ≡ locks.old ++ lock_of movement ∷ [])
         (λ _. locks.new ≡ locks.old) }
-    ensures lock { IfOk result (λ movement. IsLockOf image.now row.now (lock_of movement)) }
+    ensures lock { IfOk result (λ movement. IsLockRow image.now row.now (lock_of movement)) }
+    ensures overlap { (earlier : List MovementRow) → AreLocks image.now earlier locks.old
+        → FindsOverlap image.now row.now earlier result }
 {
-    let plan = planned(alloc, image, at_phase(row, Phase::Prepared)?, walks)?;
+    let plan = planned(
+        alloc,
+        image,
+        directory,
+        at_phase(row, Phase::Prepared)?,
+        walks,
+    )?;
+    if !locks.is_free(&plan.ranges, plan.cuts.as_slice()) {
+        return Err(overlapping(row.node));
+    }
     let ranges = plan.ranges.copy()?;
     match locks.lock(row.node, ranges) {
         Ok(key) => Ok(Running::resume(plan, key, row.phase)),
-        Err((_ranges, memory)) => Err(memory),
+        Err((_ranges, _memory)) => Err(ImageFault::Memory),
     }
 }
 
@@ -212,69 +243,94 @@ fn push(running: &mut Vec<Running>, locks: &mut LockTable, movement: Running) ->
     }
 }
 
-/// Adds the value of a movement of an image, and its lock. If memory runs out, both lists are unchanged.
+/// Adds the value of a movement of an image, and its lock. Fails as `resumed` does, and then both lists are unchanged.
 fn add<L: Ledger>(
     alloc: Global,
     image: &Image,
+    directory: &Directory,
     row: &SeqRow,
     running: &mut Vec<Running>,
     locks: &mut LockTable,
     walks: &mut Steps<L>,
-) -> Result<(), Memory>
+) -> Result<(), ImageFault>
     requires sound { IsSound image.now }
+    requires nodes { directory.now.rows ≡ image.now.nodes }
     requires movement { Contains image.now.sequences row.now }
     requires new { has_row locks.old row.now.node ≡ false }
-    requires apart { IsApartFrom image.now row.now locks.old }
-    ensures { MatchResult result
+    requires cut { AreCutAt (cuts image.now) locks.old }
+    ensures added { MatchResult result
         (λ _. AddsMovement image.now row.now running.old.items running.new.items locks.old locks.new)
         (λ _. (running.new.items ≡ running.old.items) × (locks.new ≡ locks.old)) }
+    ensures overlap { (earlier : List MovementRow) → AreLocks image.now earlier locks.old
+        → FindsOverlap image.now row.now earlier result }
 {
-    let movement = resumed(alloc, image, row, locks, walks)?;
-    push(running, locks, movement)
+    let movement = resumed(alloc, image, directory, row, locks, walks)?;
+    push(running, locks, movement)?;
+    Ok(())
 }
 
-/// Adds the values of the movements of an image, in their order, and their locks. If memory runs out, some of them may be
-/// added.
+/// Adds the values of the movements of an image, in their order, and their locks. Fails with `Bad` for the first movement
+/// that overlaps the movement of a lesser node, and with `Memory` if memory runs out. Then some of them may be added.
 fn push_all<L: Ledger>(
     alloc: Global,
     image: &Image,
+    directory: &Directory,
     running: &mut Vec<Running>,
     locks: &mut LockTable,
     blank: Blank,
-) -> Result<(), Memory>
+) -> Result<(), ImageFault>
     requires name { blank.name ≡ L.name }
     requires parts { blank.parts ≡ L.parts }
     requires some { 0 < blank.parts }
-    requires valid { IsValid image.now }
+    requires sound { IsSound image.now }
+    requires nodes { directory.now.rows ≡ image.now.nodes }
     requires empty { running.old.items ≡ [] }
     requires unlocked { locks.old ≡ [] }
     ensures running { OnOk result (IsRunning image.now.sequences running.new.items) }
     ensures deltas { OnOk result (HaveDeltas image.now running.new.items) }
     ensures locks { OnOk result (AreLocksOf image.now image.now.sequences locks.new) }
     ensures locked { AreLocked locks.new running.new.items }
+    ensures overlap { MatchResult result (λ _. overlap_of image.now ≡ None)
+        (λ e. IsCause (overlap_of image.now) e) }
 {
     let mut walks = Steps::<L>::begin(blank);
     for row in image.sequences.as_slice() {
-        add(alloc, image, row, running, locks, &mut walks)?;
+        add(alloc, image, directory, row, running, locks, &mut walks)?;
     }
     Ok(())
 }
 
 /// The values of the movements of an image, in their order, and the table of their locks. Walks are counted on a counter
-/// of its own. Fails only if memory runs out.
-pub fn resume_all(alloc: Global, image: &Image) -> Result<(Vec<Running>, LockTable), Memory>
-    requires { IsValid image.now }
+/// of its own. The directory has the nodes of the image. Fails with `Bad` for the first movement that overlaps the movement of a lesser node, and with `Memory` if
+/// memory runs out.
+pub fn resume_all(
+    alloc: Global,
+    image: &Image,
+    directory: &Directory,
+) -> Result<(Vec<Running>, LockTable), ImageFault>
+    requires sound { IsSound image.now }
+    requires nodes { directory.now.rows ≡ image.now.nodes }
     ensures running { IfOk result (λ held. IsRunning image.now.sequences held.0.items) }
     ensures deltas { IfOk result (λ held. HaveDeltas image.now held.0.items) }
     ensures locks { IfOk result (λ held. AreLocksOf image.now image.now.sequences held.1) }
+    ensures locked { IfOk result (λ held. AreLocked held.1 held.0.items) }
+    ensures overlap { MatchResult result (λ _. overlap_of image.now ≡ None)
+        (λ e. IsCause (overlap_of image.now) e) }
 {
     let mut running = Vec::new(alloc);
     let mut locks = LockTable::empty(alloc);
-    match push_all::<Brand>(alloc, image, &mut running, &mut locks, Blank::new(1)) {
+    match push_all::<Brand>(
+        alloc,
+        image,
+        directory,
+        &mut running,
+        &mut locks,
+        Blank::new(1),
+    ) {
         Ok(()) => Ok((running, locks)),
-        Err(memory) => {
+        Err(fault) => {
             close_all(running, locks);
-            Err(memory)
+            Err(fault)
         }
     }
 }

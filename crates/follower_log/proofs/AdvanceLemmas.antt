@@ -6,19 +6,21 @@ use Rattle.std.proofs.lemmas.Option.{none-some}
 use Rattle.transformations.proofs.commands.SameLemmas.{same_command_tells}
 use Rattle.transformations.proofs.histories.HistoryLemmas.{next-epoch}
 use Rattle.transformations.specs.History.{next_image}
+use Rattle.transformations.specs.ImageRules.{bad_of}
 use Rattle.transformations.specs.Refusals.{refusal_of}
 use Rattle.transformations.specs.Same.{same_command}
 use Rattle.transformations.specs.declared.command.Command.{Command}
 use Rattle.transformations.specs.declared.entry.Entry.{Entry}
 use Rattle.transformations.specs.declared.image.Image.{Image}
+use Rattle.transformations.specs.declared.image_rules.BadImage.{BadImage as BadRule}
 use Rattle.transformations.specs.declared.refusal.Refusal.{Refusal}
-use Rattle.follower_log.specs.Follower.{Performs, FollowerState, IsAdvance, IsCutFrom, IsCutPast, advanced, cut_first, hand_above, hand_entry, hand_image, is_full, is_next, is_same, stays, Handed, waiting_at}
+use Rattle.follower_log.specs.Follower.{Performs, FollowerState, IsAdvance, IsCutFrom, IsCutPast, advanced, cut_first, hand_above, hand_entry, hand_image, hand_valid, is_full, is_next, is_same, stays, Handed, unless_bad, waiting_at}
 use Rattle.follower_log.specs.Kept.{Advances, ComesFirst, Leads, first_of}
 use Rattle.cluster_metadata.specs.Permission.{ShowsRefusal}
 use Rattle.cluster_metadata.specs.declared.admit_fault.AdmitFault.{AdmitFault}
 use Rattle.cluster_metadata.specs.declared.admit_fault.AdmitFault.TheVariants as admit
 use Rattle.follower_log.specs.declared.fault.FollowerFault.{FollowerFault}
-use Rattle.follower_log.specs.declared.fault.FollowerFault.TheVariants.{Fork, Refused, Memory, MemoryAt}
+use Rattle.follower_log.specs.declared.fault.FollowerFault.TheVariants.{Fork, Refused, BadImage, Memory, MemoryAt}
 use Rattle.follower_log.specs.declared.took.Took.{Took}
 use Rattle.follower_log.specs.declared.took.Took.TheVariants.{At, Old, Held, Full}
 
@@ -113,6 +115,7 @@ advances_on before after result end leads goes = by result goes
     by (Ok (Full e)) (done, low) = absurd low
     by (Err Memory) (done, low) = absurd low
     by (Err (Fork e held came)) (done, low) = absurd low
+    by (Err (BadImage bad)) (done, low) = absurd low
 
 -- the answer of one step: an entry was applied, or the advance ends where it is
 pub leads_if : (before after : FollowerState) (b : Bool) → b ≡ true → ComesFirst before (Ok b) after → Leads before after
@@ -133,11 +136,13 @@ any_before before other end (Ok (Held e)) (comes, low) = absurd low
 any_before before other end (Ok (Full e)) (comes, low) = absurd low
 any_before before other end (Err Memory) (comes, low) = absurd low
 any_before before other end (Err (Fork e held came)) (comes, low) = absurd low
+any_before before other end (Err (BadImage bad)) (comes, low) = absurd low
 
 pub cut_past : (epoch low : ℕ) (result : Result Took FollowerFault) → epoch < low → IsAdvance low result → IsCutPast epoch result
 cut_past epoch low (Err (MemoryAt e)) past up = omega (arith, past, up)
 cut_past epoch low (Ok t) past up = tt
 cut_past epoch low (Err (Refused e r)) past up = tt
+cut_past epoch low (Err (BadImage bad)) past up = tt
 cut_past epoch low (Err Memory) past up = tt
 cut_past epoch low (Err (Fork e held came)) past up = tt
 
@@ -148,6 +153,7 @@ stay_past epoch before after answer (Ok t) cut = tt
 stay_past epoch before after answer (Err (Refused e r)) cut = tt
 stay_past epoch before after answer (Err Memory) cut = tt
 stay_past epoch before after answer (Err (Fork e held came)) cut = tt
+stay_past epoch before after answer (Err (BadImage bad)) cut = tt
 
 -- and neither is one that compares two entries of an epoch
 pub compared_past : (epoch : ℕ) (f : FollowerState) (held came : Entry) (result : Result Took FollowerFault) → Performs f (hand_above f came (Some held)) result f → IsCutPast epoch result
@@ -179,6 +185,7 @@ cut_from_advance epoch image waiting before after (Ok t) up comes = tt
 cut_from_advance epoch image waiting before after (Err (Refused e r)) up comes = tt
 cut_from_advance epoch image waiting before after (Err Memory) up comes = tt
 cut_from_advance epoch image waiting before after (Err (Fork e held came)) up comes = tt
+cut_from_advance epoch image waiting before after (Err (BadImage bad)) up comes = tt
 
 cut_from_stay : (epoch : ℕ) (before after : FollowerState) (answer result : Result Took FollowerFault) → Performs before (stays before answer) result after → IsCutFrom epoch result
 cut_from_stay epoch before after answer (Err (MemoryAt e)) cut = absurd (none-some after cut)
@@ -186,6 +193,7 @@ cut_from_stay epoch before after answer (Ok t) comes = tt
 cut_from_stay epoch before after answer (Err (Refused e r)) comes = tt
 cut_from_stay epoch before after answer (Err Memory) comes = tt
 cut_from_stay epoch before after answer (Err (Fork e held came)) comes = tt
+cut_from_stay epoch before after answer (Err (BadImage bad)) comes = tt
 
 pub cut_from_entry : (f g : FollowerState) (entry : Entry) (result : Result Took FollowerFault) → Performs f (hand_entry f entry) result g → IsCutFrom f.image.epoch result
 cut_from_entry f g entry result comes = by (nat_le entry.epoch f.image.epoch) refl (waiting_at f.waiting entry.epoch) refl (is_full f entry) refl
@@ -196,9 +204,16 @@ cut_from_entry f g entry result comes = by (nat_le entry.epoch f.image.epoch) re
     by false e None is true many = cut_from_stay f.image.epoch f g _ result (rw (e, is, many) at comes)
     by false e None is false many = cut_from_advance f.image.epoch f.image _ f g result (omega arith) (rw (e, is, many) at comes)
 
-pub cut_from_image : (f g : FollowerState) (image : Image) (result : Result Took FollowerFault) → Performs f (hand_image f image) result g → IsCutFrom f.image.epoch result
-cut_from_image f g image result comes = by (nat_le image.epoch f.image.epoch) refl
+cut_from_valid : (f g : FollowerState) (image : Image) (result : Result Took FollowerFault) → Performs f (hand_valid f image) result g → IsCutFrom f.image.epoch result
+cut_from_valid f g image result comes = by (nat_le image.epoch f.image.epoch) refl
   where
     by : (low : Bool) → nat_le image.epoch f.image.epoch ≡ low → IsCutFrom f.image.epoch result
     by true e = cut_from_stay f.image.epoch f g _ result (rw e at comes)
     by false e = (let past : f.image.epoch < image.epoch = grind (arith, nat_tests) in cut_from_advance f.image.epoch image _ f g result (omega (arith, past)) (rw e at comes))
+
+pub cut_from_image : (f g : FollowerState) (image : Image) (result : Result Took FollowerFault) → Performs f (hand_image f image) result g → IsCutFrom f.image.epoch result
+cut_from_image f g image result comes = by (bad_of image) comes
+  where
+    by : (bad : Option BadRule) → Performs f (unless_bad bad f (hand_valid f image)) result g → IsCutFrom f.image.epoch result
+    by None comes = cut_from_valid f g image result comes
+    by (Some bad) comes = cut_from_stay f.image.epoch f g _ result comes

@@ -1,17 +1,19 @@
 -- Where want of memory cuts a step: between where the follower was and where the step leads it.
-use Rattle.std.proofs.Common.{nat_le, ◌≡◌, ℕ, ◌+◌, ◌<◌, ◌≤◌, Bool, true, false, ◌==◌, if◌then◌else◌, List, [], ◌∷◌, filter, nat_lt, Option, Some, None, Result, Ok, Err, refl, sym, subst, arith}
+use Rattle.std.proofs.Common.{nat_le, ◌≡◌, ℕ, ◌<◌, ◌≤◌, Bool, true, false, ◌==◌, if◌then◌else◌, List, [], ◌∷◌, filter, nat_lt, Option, Some, None, Result, Ok, Err, refl, sym, subst, arith}
 use Rattle.std.proofs.lemmas.Bool.Decides.{nat_tests}
 use Rattle.std.proofs.lemmas.Option.{none-some}
 use Rattle.cluster_terms.specs.Ascending.{put}
 use Rattle.transformations.proofs.histories.HistoryLemmas.{next-epoch}
 use Rattle.transformations.specs.History.{next_image}
+use Rattle.transformations.specs.ImageRules.{bad_of}
 use Rattle.transformations.specs.Refusals.{refusal_of}
 use Rattle.transformations.specs.declared.entry.Entry.{Entry}
 use Rattle.transformations.specs.declared.image.Image.{Image}
+use Rattle.transformations.specs.declared.image_rules.BadImage.{BadImage as BadRule}
 use Rattle.transformations.specs.declared.refusal.Refusal.{Refusal}
-use Rattle.follower_log.specs.Follower.{FollowerState, Handed, advanced, by_epoch, cut_first, hand_entry, hand_image, is_full, is_next, is_same, stays, waiting_at}
+use Rattle.follower_log.specs.Follower.{FollowerState, Handed, advanced, by_epoch, cut_first, hand_entry, hand_image, hand_valid, is_full, is_next, is_same, stays, unless_bad, waiting_at}
 use Rattle.follower_log.specs.declared.fault.FollowerFault.{FollowerFault}
-use Rattle.follower_log.specs.declared.fault.FollowerFault.TheVariants.{Fork, Refused}
+use Rattle.follower_log.specs.declared.fault.FollowerFault.TheVariants.{Fork, Refused, BadImage}
 use Rattle.follower_log.specs.declared.took.Took.{Took}
 use Rattle.follower_log.specs.declared.took.Took.TheVariants.{At, Old, Held, Full}
 use Rattle.follower_log.proofs.AdvanceLemmas.{advanced_on, advanced_refused, advanced_stays}
@@ -67,11 +69,18 @@ entry_from f entry = by (nat_le entry.epoch f.image.epoch) refl (waiting_at f.wa
     by false e None is true many = rw (e, is, many) (stays_from same f (Ok (Full same)) (omega arith))
     by false e None is false many = rw (e, is, many) (advanced_from f.image (put by_epoch entry f.waiting))
 
-pub image_from : (f : FollowerState) (image : Image) → CutsFrom f.image.epoch (hand_image f image)
-image_from f image = by (nat_le image.epoch f.image.epoch) refl
+valid_from : (f : FollowerState) (image : Image) → CutsFrom f.image.epoch (hand_valid f image)
+valid_from f image = by (nat_le image.epoch f.image.epoch) refl
   where
-    by : (low : Bool) → nat_le image.epoch f.image.epoch ≡ low → CutsFrom f.image.epoch (hand_image f image)
+    by : (low : Bool) → nat_le image.epoch f.image.epoch ≡ low → CutsFrom f.image.epoch (hand_valid f image)
     by true e = rw e (stays_from f.image.epoch f (Ok (Old f.image.epoch)) (omega arith))
     by false e =
         let past : f.image.epoch < image.epoch = grind (arith, nat_tests) in
         rw e (lower f.image.epoch image.epoch _ (omega (arith, past)) (advanced_from image (filter (λ (entry : Entry). nat_lt image.epoch entry.epoch) f.waiting)))
+
+pub image_from : (f : FollowerState) (image : Image) → CutsFrom f.image.epoch (hand_image f image)
+image_from f image = by (bad_of image)
+  where
+    by : (bad : Option BadRule) → CutsFrom f.image.epoch (unless_bad bad f (hand_valid f image))
+    by None = valid_from f image
+    by (Some bad) = stays_from f.image.epoch f (Err (BadImage bad)) (omega arith)

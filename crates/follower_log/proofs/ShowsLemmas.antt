@@ -7,18 +7,21 @@ use Rattle.std.proofs.lemmas.Option.{none-some}
 use Rattle.std.specs.List.{AllByRecursion, Contains, list_any}
 use Rattle.cluster_terms.specs.Ascending.{put}
 use Rattle.transformations.proofs.commands.SameLemmas.{same_command_tells}
-use Rattle.transformations.proofs.histories.HistoryLemmas.{epoch_after}
+use Rattle.transformations.proofs.histories.HistoryLemmas.{epoch_after, valid_at}
+use Rattle.transformations.proofs.images.ValidLaws.{valid_to}
 use Rattle.transformations.proofs.histories.LogLemmas.{length-commands_of}
 use Rattle.transformations.specs.History.{state_after}
+use Rattle.transformations.specs.ImageRules.{bad_of}
+use Rattle.transformations.specs.Valid.{IsValid}
 use Rattle.transformations.specs.Log.{IsLog, are_numbered, commands_of, have_own_ids}
 use Rattle.transformations.specs.declared.entry.Entry.{Entry}
 use Rattle.transformations.specs.declared.image.Image.{Image}
 use Rattle.follower_log.proofs.AmongLemmas.{OneMore, among_alike, contains_drop, epoch_within, filter_above, found, found_among, put_among}
 use Rattle.follower_log.proofs.PrefixLemmas.{Ends, GoesOn, among, goes_on, log_follows, state_plus}
-use Rattle.follower_log.specs.Follower.{Performs, FollowerState, Handed, advanced, by_epoch, empty_follower, hand_above, hand_entry, hand_image, is_full, is_same, stays, waiting_at}
+use Rattle.follower_log.specs.Follower.{Performs, FollowerState, Handed, advanced, by_epoch, empty_follower, hand_above, hand_entry, hand_image, hand_valid, is_full, is_same, stays, unless_bad, waiting_at}
 use Rattle.follower_log.specs.Prefix.{IsImageOf, IsPrefix, Reaches, StandsAfter, StandsFor, Taken, has_entry, is_base, nothing_taken, with_entry, with_image}
 use Rattle.follower_log.specs.declared.fault.FollowerFault.{FollowerFault}
-use Rattle.follower_log.specs.declared.fault.FollowerFault.TheVariants.{Fork, Refused, Memory, MemoryAt}
+use Rattle.follower_log.specs.declared.fault.FollowerFault.TheVariants.{Fork, Refused, BadImage, Memory, MemoryAt}
 use Rattle.follower_log.specs.declared.took.Took.{Took}
 use Rattle.follower_log.specs.declared.took.Took.TheVariants.{At, Old, Held, Full}
 
@@ -180,6 +183,7 @@ shows_stay log before after f g took (Err Memory) shows stands same = subst (Sta
 shows_stay log before after f g took (Err (MemoryAt e)) shows stands same = absurd (none-some g same)
 shows_stay log before after f g took (Err (Fork e held came)) shows stands (is, same) = (let clash : Err (Fork e held came) ≡ Ok took = is in absurd cc)
 shows_stay log before after f g took (Err (Refused e r)) shows stands (is, same) = (let clash : Err (Refused e r) ≡ Ok took = is in absurd cc)
+shows_stay log before after f g took (Err (BadImage bad)) shows stands (is, same) = (let clash : Err (BadImage bad) ≡ Ok took = is in absurd cc)
 
 -- a call that comes to an advance from a state of the log
 shows_advance : (log : List Entry) (before after : Taken) (f g : FollowerState) (k : ℕ) (result : Result Took FollowerFault) → IsLog log → Base log after k → StandsFor log before f
@@ -204,6 +208,7 @@ shows_advance log before after f g k result is base stands comes = by result com
     by (Err (MemoryAt e)) cut = (ends_stand log after k g is base (goes.cuts e g cut)).0
     by (Err (Fork e held came)) (same, there) = (let clash : Err (Fork e held came) ≡ Ok (At step.after.image.epoch) = same ∙ goes.answer in absurd cc)
     by (Err (Refused e r)) (same, there) = (let clash : Err (Refused e r) ≡ Ok (At step.after.image.epoch) = same ∙ goes.answer in absurd cc)
+    by (Err (BadImage bad)) (same, there) = (let clash : Err (BadImage bad) ≡ Ok (At step.after.image.epoch) = same ∙ goes.answer in absurd cc)
 
 base_of : (log : List Entry) (taken : Taken) (f : FollowerState) → StandsFor log taken f → Base log taken f.image.epoch
 base_of log taken f stands = record { within = stands.within; entries = stands.entries; images = stands.images; reached = stands.reached }
@@ -215,10 +220,10 @@ advance_shows log taken f g result is stands comes =
     shows_advance log taken taken f g f.image.epoch result is (base_of log taken f stands) stands
     (subst (λ i. Performs f (advanced i (among (has_entry taken) (drop f.image.epoch log))) result g) stands.image (subst (λ w. Performs f (advanced f.image w) result g) stands.waiting comes))
 
--- an image of the log is handed over
-pub image_shows : (log : List Entry) (taken : Taken) (f g : FollowerState) (image : Image) (result : Result Took FollowerFault) → IsLog log → IsImageOf log image → StandsFor log taken f
-    → Performs f (hand_image f image) result g → StandsAfter log taken (with_image taken image.epoch) result g
-image_shows log taken f g image result is of stands comes = by (nat_le image.epoch f.image.epoch) refl
+-- a valid image of the log is handed over
+valid_shows : (log : List Entry) (taken : Taken) (f g : FollowerState) (image : Image) (result : Result Took FollowerFault) → IsLog log → IsImageOf log image → StandsFor log taken f
+    → Performs f (hand_valid f image) result g → StandsAfter log taken (with_image taken image.epoch) result g
+valid_shows log taken f g image result is of stands comes = by (nat_le image.epoch f.image.epoch) refl
   where
     b : ℕ
     b = image.epoch
@@ -255,6 +260,13 @@ image_shows log taken f g image result is of stands comes = by (nat_le image.epo
         let step = rw e at comes in
         shows_advance log taken (with_image taken b) f g b result is base stands
         (subst (λ i. Performs f (advanced i (among (has_entry taken) (drop b log))) result g) of.state (subst (λ w. Performs f (advanced image w) result g) left step))
+
+-- an image of the log is valid, so it is taken as such
+pub image_shows : (log : List Entry) (taken : Taken) (f g : FollowerState) (image : Image) (result : Result Took FollowerFault) → IsLog log → IsImageOf log image → StandsFor log taken f
+    → Performs f (hand_image f image) result g → StandsAfter log taken (with_image taken image.epoch) result g
+image_shows log taken f g image result is of stands comes =
+    let good : bad_of image ≡ None = valid_to image (subst IsValid (sym of.state) (valid_at (commands_of log) image.epoch is.history)) in
+    valid_shows log taken f g image result is of stands (subst (λ bad. Performs f (unless_bad bad f (hand_valid f image)) result g) good comes)
 
 -- an entry of the log is handed over
 pub entry_shows : (log : List Entry) (taken : Taken) (f g : FollowerState) (entry : Entry) (result : Result Took FollowerFault) → IsLog log → Contains log entry → StandsFor log taken f

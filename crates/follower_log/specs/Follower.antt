@@ -4,13 +4,15 @@ use Rattle.std.specs.Ordering.{nat_cmp}
 use Rattle.std.specs.declared.cmp.Ordering.{Ordering}
 use Rattle.cluster_terms.specs.Ascending.{put}
 use Rattle.transformations.specs.History.{empty_image, next_image}
+use Rattle.transformations.specs.ImageRules.{bad_of}
 use Rattle.transformations.specs.Refusals.{refusal_of}
 use Rattle.transformations.specs.Same.{same_command}
+use Rattle.transformations.specs.declared.image_rules.BadImage.{BadImage as BadRule}
 use Rattle.transformations.specs.declared.entry.Entry.{Entry}
 use Rattle.transformations.specs.declared.image.Image.{Image}
 use Rattle.transformations.specs.declared.refusal.Refusal.{Refusal}
 use Rattle.follower_log.specs.declared.fault.FollowerFault.{FollowerFault}
-use Rattle.follower_log.specs.declared.fault.FollowerFault.TheVariants.{Fork, Refused, Memory, MemoryAt}
+use Rattle.follower_log.specs.declared.fault.FollowerFault.TheVariants.{Fork, Refused, BadImage, Memory, MemoryAt}
 use Rattle.follower_log.specs.declared.took.Took.{Took}
 use Rattle.follower_log.specs.declared.took.Took.TheVariants.{At, Old, Held, Full}
 
@@ -96,10 +98,18 @@ hand_entry follower entry =
 
 -- a valid image is handed over: above the follower's epoch it replaces the image, and the waiting entries that it
 -- contains are dropped
-abbrev pub hand_image : FollowerState → Image → Handed
-hand_image follower image =
+abbrev pub hand_valid : FollowerState → Image → Handed
+hand_valid follower image =
     if nat_le image.epoch follower.image.epoch then stays follower (Ok (Old follower.image.epoch))
     else advanced image (filter (λ entry. nat_lt image.epoch entry.epoch) follower.waiting)
+
+-- an image is handed over: if it breaks a rule of valid images, it is refused with the first such rule
+abbrev pub unless_bad : Option BadRule → FollowerState → Handed → Handed
+unless_bad None follower taken = taken
+unless_bad (Some bad) follower taken = stays follower (Err (BadImage bad))
+
+abbrev pub hand_image : FollowerState → Image → Handed
+hand_image follower image = unless_bad (bad_of image) follower (hand_valid follower image)
 
 -- a call comes to a step: to its answer and its follower, or after want of memory to the follower where it is cut, or to
 -- nothing

@@ -8,7 +8,7 @@ use Rattle.transformations.specs.declared.entry.Entry.{Entry}
 use Rattle.transformations.specs.declared.image.Image.{Image}
 use Rattle.follower_log.specs.Follower.{FollowerState}
 use Rattle.follower_log.specs.declared.fault.FollowerFault.{FollowerFault}
-use Rattle.follower_log.specs.declared.fault.FollowerFault.TheVariants.{Fork, Refused, Memory, MemoryAt}
+use Rattle.follower_log.specs.declared.fault.FollowerFault.TheVariants.{Fork, Refused, BadImage, Memory, MemoryAt}
 use Rattle.follower_log.specs.declared.took.Took.{Took}
 use Rattle.follower_log.specs.declared.took.Took.TheVariants.{At, Old, Held, Full}
 
@@ -65,8 +65,8 @@ pub record IsImageOf (log : List Entry) (image : Image) : Type 0 where
   pub within : image.epoch ≤ length log
   pub state : image ≡ state_after (commands_of log) image.epoch
 
--- what a call leaves that was handed something of the log, so that `after` was taken: a fork and a refusal don't come;
--- where memory is found the follower shows the longest gapless prefix
+-- what a call leaves that was handed something of the log, so that `after` was taken: a fork, a refusal and a bad image
+-- don't come; where memory is found the follower shows the longest gapless prefix
 abbrev pub StandsAfter : List Entry → Taken → Taken → Result Took FollowerFault → FollowerState → Type 0
 StandsAfter log before after (Ok (At epoch)) follower = StandsFor log after follower × IsPrefix after follower.image.epoch
 StandsAfter log before after (Ok (Old epoch)) follower = StandsFor log after follower
@@ -76,3 +76,4 @@ StandsAfter log before after (Err (MemoryAt epoch)) follower = StandsFor log aft
 StandsAfter log before after (Err Memory) follower = StandsFor log before follower
 StandsAfter log before after (Err (Fork epoch held came)) follower = ⊥
 StandsAfter log before after (Err (Refused epoch refusal)) follower = ⊥
+StandsAfter log before after (Err (BadImage bad)) follower = ⊥

@@ -2,10 +2,8 @@ ghost use Rattle.std.specs.Prelude.{◌≡◌, ◌+◌, ◌<◌, ◌≤◌, ◌�
 ghost use Rattle.cluster_terms.specs.Ascending.{put};
 ghost use Rattle.transformations.specs.History.{is_command, most_epochs};
 ghost use Rattle.transformations.specs.Log.{IsLog};
-ghost use Rattle.transformations.specs.Meeting.{HaveReplications};
-ghost use Rattle.transformations.specs.Valid.{IsValid};
 ghost use Rattle.transformations.specs.declared.entry.Entry.{Entry as LogEntry};
-ghost use Rattle.follower_log.specs.Follower.{Performs, FollowerState, IsAdvance, IsCutFrom, IsCutPast, advanced, by_epoch, empty_follower, hand_above, hand_entry, hand_image, hand_new, is_next, waiting_at};
+ghost use Rattle.follower_log.specs.Follower.{Performs, FollowerState, IsAdvance, IsCutFrom, IsCutPast, advanced, by_epoch, empty_follower, hand_above, hand_entry, hand_image, hand_new, hand_valid, is_next, waiting_at};
 ghost use Rattle.follower_log.specs.Kept.{Advances, ComesFirst};
 ghost use Rattle.follower_log.specs.Prefix.{IsEntryOf, IsImageOf, StandsAfter, StandsFor, Taken, nothing_taken, with_entry, with_image};
 
@@ -170,18 +168,16 @@ impl Follower {
         }
     }
 
-    /// Hands over an image. It is valid, and each of its keyspaces has a replication. An image above the follower's
-    /// epoch replaces the follower's. The waiting entries that it contains are dropped, and then those that come to be
-    /// the next are applied.
+    /// Hands over an image. An image above the follower's epoch replaces the follower's. The waiting entries that it
+    /// contains are dropped, and then those that come to be the next are applied.
     ///
-    /// `Old` changes nothing. Errors: `Refused`, `Memory` and `MemoryAt`, as for `deliver`. Handed entries of one log
-    /// and images of its states, the follower shows the state of the longest prefix without a gap after each `At`, and
-    /// `Refused` doesn't come.
+    /// `Old` changes nothing. Errors: `BadImage` if the image isn't valid, as `Metadata::from_image` finds, which is looked
+    /// at first and changes nothing; `Refused`, `Memory` and `MemoryAt`, as for `deliver`. Handed entries of one log and
+    /// images of its states, the follower shows the state of the longest prefix without a gap after each `At`, and
+    /// `BadImage` and `Refused` don't come.
     ///
-    /// Cost: a copy of the image's nodes and movements, and that of `Metadata::apply` for each entry that is applied.
+    /// Cost: that of `Metadata::from_image`, and that of `Metadata::apply` for each entry that is applied.
     pub fn snapshot(&mut self, image: Image) -> Result<Took, FollowerFault>
-        requires valid { IsValid image }
-        requires replications { HaveReplications image }
         ensures step { Performs self.old (hand_image self.old image) result self.new }
         ensures least { IsCutFrom self.old.image.epoch result }
         ensures shows { (log : List LogEntry) (taken : Taken) → IsLog log → IsImageOf log image
@@ -192,22 +188,29 @@ impl Follower {
 
     /// Hands over an image, as `snapshot` does.
     fn hand_over_image(&mut self, image: Image) -> Result<Took, FollowerFault>
-        requires valid { IsValid image }
-        requires replications { HaveReplications image }
         ensures { Performs self.old (hand_image self.old image) result self.new }
     {
+        match Metadata::from_image(self.alloc, image) {
+            Ok(metadata) => self.take_image(metadata),
+            Err((_image, fault)) => match fault {
+                ImageFault::Bad(bad) => Err(FollowerFault::BadImage(bad)),
+                ImageFault::Memory => Err(FollowerFault::Memory),
+            },
+        }
+    }
+
+    /// Hands over the metadata of an image.
+    fn take_image(&mut self, metadata: Metadata) -> Result<Took, FollowerFault>
+        ensures { Performs self.old (hand_valid self.old metadata) result self.new }
+    {
         let epoch = self.epoch();
-        if image.epoch <= epoch {
+        if metadata.epoch() <= epoch {
+            metadata.close();
             return Ok(Took::Old(epoch));
         }
-        match Metadata::from_image(self.alloc, image) {
-            Ok(metadata) => {
-                self.waiting.drop_to(metadata.epoch());
-                replace(&mut self.metadata, metadata).close();
-                self.apply_waiting()
-            }
-            Err((_image, ImageFault::Memory)) => Err(FollowerFault::Memory),
-        }
+        self.waiting.drop_to(metadata.epoch());
+        replace(&mut self.metadata, metadata).close();
+        self.apply_waiting()
     }
 
     /// Applies the waiting entries, one after another, as long as the first of them is the next one. After want of

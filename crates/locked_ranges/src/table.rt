@@ -1,4 +1,4 @@
-ghost use Rattle.std.specs.Prelude.{◌≡◌, ◌<◌, ◌≤◌, ◌↔◌, true, false, [], ◌∷◌, ◌++◌, length, IsNone, IfOk, IfErr, MatchResult};
+ghost use Rattle.std.specs.Prelude.{◌≡◌, ◌<◌, ◌≤◌, ◌↔◌, true, false, not, [], ◌∷◌, ◌++◌, length, is_some, IsNone, IsTrue, IfOk, IfErr, MatchResult};
 ghost use Rattle.std.specs.List.{AllByRecursion, insert};
 ghost use Rattle.std.specs.List.Sorted.{IsStrictlySortedBy};
 ghost use Rattle.std.specs.Ordering.{int_cmp};
@@ -87,6 +87,20 @@ impl LockTable {
         ensures table { IsNone result → AllByRecursion (λ row. ShareNoToken ranges.now row.ranges) self.now }
     {
         first_conflict(ranges.as_slice(), wide.as_slice(), cuts)
+    }
+
+    /// Whether no token is both in `ranges` and in a row of the table, under one replication. Then `lock` may follow.
+    ///
+    /// The cuts ascend. The bounds of `ranges` and of the rows are cuts. The cost is that of `conflict`. Allocates nothing.
+    pub fn is_free(&self, ranges: &RangeBook, cuts: &[Token]) -> bool
+        requires ascending { IsStrictlySortedBy int_cmp cuts.now }
+        requires own_cut { AllByRecursion (λ r. AreCutOut cuts.now r.ranges) ranges.now }
+        requires rows_cut { AllByRecursion
+            (λ row. AllByRecursion (λ r. AreCutOut cuts.now r.ranges) row.ranges) self.now }
+        ensures free { IsTrue result → AllByRecursion (λ row. ShareNoToken ranges.now row.ranges) self.now }
+        ensures conflict { result ≡ not (is_some (conflict_of ranges.now self.now cuts.now)) }
+    {
+        first_conflict(ranges.as_slice(), self.rows.as_slice(), cuts).is_none()
     }
 
     /// Locks the ranges of a movement, and returns the key. The node has no row yet, and no row shares a token with

@@ -12,6 +12,7 @@ use Rattle.cluster_terms.specs.declared.token.RightEnd.TheVariants.{At, Max}
 use Rattle.range_placements.specs.declared.placement_row.PlacementRow.{PlacementRow}
 use Rattle.transformations.specs.Rings.{reads_at, writes_at, cuts}
 use Rattle.transformations.specs.States.{node_tokens, state_of_row}
+use Rattle.transformations.specs.declared.image_rules.BadImage.{BadImage}
 use Rattle.transformations.specs.declared.image.Image.{Image}
 use Rattle.transformations.specs.declared.keyspace.KeyspaceRow.{KeyspaceRow}
 use Rattle.transformations.specs.declared.refusal.Refusal.{Refusal}
@@ -83,6 +84,10 @@ right_text Max = codes "max"
 -- the node whose ranges are locked, and the right end of the first row that both movements share
 abbrev pub locked_text : ℕ × RightEnd → List ℕ
 locked_text p = decimal p.0 ++ codes " " ++ right_text p.1
+
+-- the rule that an image breaks, and its value
+abbrev pub bad_image_text : BadImage → List ℕ
+bad_image_text bad = decimal bad.rule ++ codes " " ++ signed_decimal bad.value
 
 -- the text of a refusal
 unfoldable pub refusal_text : Refusal → List ℕ

@@ -18,7 +18,7 @@ mod words;
 pub use answers::{epoch_text, no_epoch_text, no_text, ok_text, refused_text};
 pub use grammar::parse_line;
 pub use nodes::nodes_text;
-pub use number::one_spelling;
+pub use number::{number_of, one_spelling};
 pub use placements::place_text;
 pub use refusals::refusal_text;
 pub use script_line::{ScriptLine, Target};

@@ -6,7 +6,7 @@ ghost use Rattle.script_lang.specs.Texts as spec;
 
 use cluster_terms::{ByteText, Memory, Name, NodeId, Pair, RightEnd, Token};
 use itoa::Buffer;
-use transformations::{Kind, NodeState, Phase};
+use transformations::{BadImage, Kind, NodeState, Phase};
 
 /// A value that has exactly one text in answers.
 pub trait Shown {
@@ -136,6 +136,17 @@ impl Shown for Phase {
             Phase::Started => out.extend(b"STARTED"),
             Phase::Mid => out.extend(b"MID"),
         }
+    }
+}
+
+// The rule that an image breaks, and its value.
+impl Shown for BadImage {
+    ghost text = { spec.bad_image_text };
+
+    fn show(&self, out: &mut ByteText) -> Result<(), Memory> {
+        u64::from(self.rule).show(out)?;
+        out.extend(b" ")?;
+        out.extend(Buffer::new().format(self.value).as_bytes())
     }
 }
 

@@ -1,5 +1,5 @@
 -- Images that are kept, and the nearest of them.
-use Rattle.std.proofs.Common.{◌≡◌, ℕ, suc, ◌+◌, ◌-◌, ◌<◌, ◌≤◌, List, [], ◌∷◌, ◌++◌, length, get_or, Some, true, false, sym, subst, ◌⊎◌, inl, inr, arith}
+use Rattle.std.proofs.Common.{◌≡◌, ℕ, suc, ◌+◌, ◌-◌, ◌<◌, ◌≤◌, List, [], ◌∷◌, ◌++◌, length, get_or, Some, true, false, sym, subst, ◌∙◌, ◌⊎◌, inl, inr, arith}
 use Rattle.std.proofs.Math.Dec.{leb}
 use Rattle.std.specs.List.{AllByRecursion, slice_get}
 use Rattle.std.specs.List.Sorted.{IsNonDecreasingBy, IsPartitionPoint}
@@ -7,12 +7,16 @@ use Rattle.std.proofs.lemmas.Bool.{cases_lt, leb-false, leb-true}
 use Rattle.std.proofs.lemmas.List.{get_or_default}
 use Rattle.std.proofs.lemmas.List.Elements.{All-from_recursion, All-head, All-tail}
 use Rattle.std.proofs.lemmas.List.Quantifiers.{all_pairs_push}
-use Rattle.std.proofs.lemmas.Option.{get_or_from_slice_get}
-use Rattle.transformations.proofs.lists.ListLemmas.{all_append}
-use Rattle.transformations.specs.Meeting.{HaveReplications}
+use Rattle.std.proofs.lemmas.Option.{get_or_from_slice_get, none-some}
+use Rattle.transformations.proofs.histories.HistoryLemmas.{valid_at}
+use Rattle.transformations.proofs.images.ValidLaws.{valid_to}
+use Rattle.transformations.specs.History.{IsHistory}
+use Rattle.transformations.specs.ImageRules.{bad_of}
 use Rattle.transformations.specs.Valid.{IsValid}
+use Rattle.transformations.specs.declared.command.Command.{Command}
+use Rattle.transformations.specs.declared.image_rules.BadImage.{BadImage}
 use Rattle.transformations.specs.declared.image.Image.{Image}
-use Rattle.snapshot_store.specs.Images.{CanBeKept, IsNearest}
+use Rattle.snapshot_store.specs.Images.{AreOf, Ascend, IsNearest}
 
 from_all : (P : Image → Type 0) (images : List Image) → ((k : ℕ) (d : Image) → k < length images → P (get_or images k d)) → AllByRecursion P images
 from_all P [] all = tt
@@ -23,27 +27,33 @@ to_all P images all = All-from_recursion P images all
 
 -- ---- one image more
 
-pub kept_push : (images : List Image) (image : Image) → CanBeKept images → AllByRecursion (λ kept. kept.epoch < image.epoch) images → IsValid image → HaveReplications image → CanBeKept (images ++ image ∷ [])
-kept_push images image kept past valid have = record {
-  ascend = all_pairs_push (λ (one later : Image). one.epoch < later.epoch) images image kept.ascend (to_all (λ (one : Image). one.epoch < image.epoch) images past);
-  valid = all_append IsValid images (image ∷ []) kept.valid (valid, tt);
-  replications = all_append HaveReplications images (image ∷ []) kept.replications (have, tt);
-}
+pub kept_push : (images : List Image) (image : Image) → Ascend images → AllByRecursion (λ kept. kept.epoch < image.epoch) images → Ascend (images ++ image ∷ [])
+kept_push images image kept past = all_pairs_push (λ (one later : Image). one.epoch < later.epoch) images image kept (to_all (λ (one : Image). one.epoch < image.epoch) images past)
+
+-- ---- the images of a history
+
+pub all_valid : (h : List Command) (images : List Image) → IsHistory h → AreOf h images → AllByRecursion IsValid images
+all_valid h [] is of = tt
+all_valid h (image ∷ images) is of = (subst IsValid (sym of.0.1) (valid_at h image.epoch is), all_valid h images is of.1)
+
+-- a valid image isn't bad
+pub not_bad : (image : Image) (bad : BadImage) → IsValid image → bad_of image ≡ Some bad → ⊥
+not_bad image bad valid is = none-some bad (sym (valid_to image valid) ∙ is)
 
 -- ---- the order of the epochs
 
-epochs_rise : (images : List Image) → CanBeKept images → (i j : ℕ) (d e : Image) → i ≤ j → j < length images → (get_or images i d).epoch ≤ (get_or images j e).epoch
+epochs_rise : (images : List Image) → Ascend images → (i j : ℕ) (d e : Image) → i ≤ j → j < length images → (get_or images i d).epoch ≤ (get_or images j e).epoch
 epochs_rise images kept i j d e le in_j = by (cases_lt i j)
   where
     by : (i < j) ⊎ (j ≤ i) → (get_or images i d).epoch ≤ (get_or images j e).epoch
-    by (inl before) = rw (get_or_default images j e d in_j) (omega (arith, kept.ascend i j d before in_j))
+    by (inl before) = rw (get_or_default images j e d in_j) (omega (arith, kept i j d before in_j))
     by (inr after) = let same : i ≡ j = omega arith in rw (same, get_or_default images j d e in_j) (omega arith)
 
-pub epochs_ascend : (images : List Image) → CanBeKept images → IsNonDecreasingBy (λ image. image.epoch) images
+pub epochs_ascend : (images : List Image) → Ascend images → IsNonDecreasingBy (λ image. image.epoch) images
 epochs_ascend images kept i j d le in_j = epochs_rise images kept i j d d le in_j
 
 -- none is past the last
-pub none_past_last : (images : List Image) (last : Image) → CanBeKept images → Some last ≡ slice_get images (length images - 1) → AllByRecursion (λ kept. kept.epoch ≤ last.epoch) images
+pub none_past_last : (images : List Image) (last : Image) → Ascend images → Some last ≡ slice_get images (length images - 1) → AllByRecursion (λ kept. kept.epoch ≤ last.epoch) images
 none_past_last images last kept is = from_all (λ (image : Image). image.epoch ≤ last.epoch) images upto
   where
     at : get_or images (length images - 1) last ≡ last
@@ -61,7 +71,7 @@ pub split_from_tests : (images : List Image) (e n : ℕ) → IsPartitionPoint (�
 split_from_tests images e n split =
     (λ k d low in_k. leb-true _ _ (split.0 k d low in_k), λ k d low in_k. leb-false _ _ (split.1 k d low in_k))
 
-module _ (images : List Image) (e n : ℕ) (kept : CanBeKept images) (split : IsPartitionPoint (λ image. image.epoch ≤ e) (λ image. e < image.epoch) images n) where
+module _ (images : List Image) (e n : ℕ) (kept : Ascend images) (split : IsPartitionPoint (λ image. image.epoch ≤ e) (λ image. e < image.epoch) images n) where
   -- the last of those at or below the epoch
   pub nearest_found : (k : ℕ) (image : Image) → k < length images → n ≡ k + 1 → image ≡ get_or images k image → IsNearest images e image
   nearest_found k image in_k next at = record {

@@ -2,16 +2,12 @@
 use Rattle.std.specs.Prelude.{◌≡◌, ℕ, ◌<◌, ◌≤◌, List, ◌∷◌, length, Option, Some, None}
 use Rattle.std.specs.List.{AllByRecursion, AllPairs, Contains}
 use Rattle.transformations.specs.History.{empty_image, state_after}
-use Rattle.transformations.specs.Meeting.{HaveReplications}
-use Rattle.transformations.specs.Valid.{IsValid}
 use Rattle.transformations.specs.declared.command.Command.{Command}
 use Rattle.transformations.specs.declared.image.Image.{Image}
 
--- images that can be kept: their epochs ascend, each is valid, and each of their keyspaces has a replication
-pub record CanBeKept (images : List Image) : Type 0 where
-  pub ascend : AllPairs (λ image later. image.epoch < later.epoch) images
-  pub valid : AllByRecursion IsValid images
-  pub replications : AllByRecursion HaveReplications images
+-- the epochs of images ascend
+abbrev pub Ascend : List Image → Type 0
+Ascend images = AllPairs (λ image later. image.epoch < later.epoch) images
 
 -- the images are those of a history at their epochs, and none is past its last epoch
 abbrev pub AreOf : List Command → List Image → Type 0

@@ -1,10 +1,10 @@
 //! The metadata of the kept image that is nearest to an epoch.
 
 ghost use Rattle.std.specs.Prelude.{◌≡◌, ◌<◌, ◌≤◌, length, IfOk};
+ghost use Rattle.std.specs.List.{AllByRecursion};
 ghost use Rattle.std.specs.List.Sorted.{IsPartitionPoint};
-ghost use Rattle.transformations.specs.Meeting.{HaveReplications};
 ghost use Rattle.transformations.specs.Valid.{IsValid};
-ghost use Rattle.snapshot_store.specs.Images.{CanBeKept, IsNearest};
+ghost use Rattle.snapshot_store.specs.Images.{Ascend, IsNearest};
 
 use cluster_metadata::{ImageFault, Metadata};
 use cluster_terms::{Memory, TryCopy};
@@ -13,30 +13,33 @@ use transformations::Image;
 
 /// How many images are at or below an epoch.
 fn count_to(images: &[Image], e: u64) -> usize
-    requires { CanBeKept images.now }
+    requires { Ascend images.now }
     ensures bound { result ≤ length images.now }
     ensures split { IsPartitionPoint (λ image. image.epoch ≤ e) (λ image. e < image.epoch) images.now result }
 {
     images.partition_point(|image| image.epoch <= e)
 }
 
-/// The metadata of a copy of an image. `Err` means that memory ran out.
+/// The metadata of a copy of a valid image. `Err` means that memory ran out.
 fn metadata_of(alloc: Global, image: &Image) -> Result<Metadata, Memory>
-    requires valid { IsValid image.now }
-    requires replications { HaveReplications image.now }
+    requires { IsValid image.now }
     ensures { IfOk result (λ metadata. metadata ≡ image.now) }
 {
     match Metadata::from_image(alloc, image.copy()?) {
         Ok(metadata) => Ok(metadata),
-        Err((_image, ImageFault::Memory)) => Err(Memory),
+        Err((_image, fault)) => match fault {
+            ImageFault::Memory => Err(Memory),
+            ImageFault::Bad(_) => unreachable!(),
+        },
     }
 }
 
-/// The metadata of the greatest image at or below an epoch. If there is none, this is the metadata before the first
+/// The metadata of the greatest of these valid images at or below an epoch. If there is none, this is the metadata before the first
 /// command. `Err` means that memory ran out. The cost is a binary search, a copy of the image, and that of
 /// `Metadata::from_image`.
 pub fn nearest(alloc: Global, images: &[Image], e: u64) -> Result<Metadata, Memory>
-    requires { CanBeKept images.now }
+    requires ascend { Ascend images.now }
+    requires valid { AllByRecursion IsValid images.now }
     ensures { IfOk result (λ metadata. IsNearest images.now e metadata) }
 {
     let count = count_to(images, e);

@@ -2,8 +2,6 @@ ghost use Rattle.std.specs.Prelude.{◌≡◌, ◌-◌, ◌<◌, ◌≤◌, [], 
 ghost use Rattle.std.specs.List.{AllByRecursion};
 ghost use Rattle.transformations.specs.History.{IsHistory, state_after};
 ghost use Rattle.transformations.specs.Log.{commands_of};
-ghost use Rattle.transformations.specs.Meeting.{HaveReplications};
-ghost use Rattle.transformations.specs.Valid.{IsValid};
 ghost use Rattle.snapshot_store.specs.Images.{AreOf, epoch_of};
 
 use crate::nearest::nearest;
@@ -25,13 +23,13 @@ pub struct Snapshots {
 impl Model for Snapshots {
     ghost use Rattle.std.specs.Prelude.{List};
     ghost use Rattle.transformations.specs.declared.image.Image.{Image};
-    ghost use Rattle.snapshot_store.specs.Images.{CanBeKept};
+    ghost use Rattle.snapshot_store.specs.Images.{Ascend};
 
     ghost Value = { List Image };
 
     ghost view = { λ snapshots. snapshots.images.items };
 
-    ghost invariant = { λ snapshots. CanBeKept snapshots.images.items };
+    ghost invariant = { λ snapshots. Ascend snapshots.images.items };
 }
 
 impl Snapshots {
@@ -56,12 +54,10 @@ impl Snapshots {
         }
     }
 
-    /// Keeps an image, whose epoch is above those of the images that are kept. The image is valid, and each of its
-    /// keyspaces has a replication. If memory runs out, returns the image and keeps what was kept.
+    /// Keeps an image, whose epoch is above those of the images that are kept. If memory runs out, returns the image and
+    /// keeps what was kept.
     pub fn keep(&mut self, image: Image) -> Result<(), (Image, Memory)>
-        requires epoch { AllByRecursion (λ kept. kept.epoch < image.epoch) self.old }
-        requires valid { IsValid image }
-        requires replications { HaveReplications image }
+        requires { AllByRecursion (λ kept. kept.epoch < image.epoch) self.old }
         ensures { MatchResult result (λ _. self.new ≡ self.old ++ image ∷ [])
             (λ e. (self.new ≡ self.old) × (e.0 ≡ image)) }
     {

@@ -1,21 +1,17 @@
-//! Worked scripts, each a run over objects in memory, runs over log files, and calls that no script makes.
+//! Worked scripts, each a run over objects in memory, and calls that no script makes.
 
 mod calls;
 mod cancels;
-mod faults;
 mod followers;
-mod generated;
 mod ids;
 mod joins;
 mod limits;
 mod lines;
 mod locks;
-mod logs;
 mod openings;
 mod quorums;
 mod racks;
 mod refusals;
-mod replays;
 mod running;
 mod scripts;
 mod steps;

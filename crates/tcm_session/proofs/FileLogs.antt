@@ -4,6 +4,7 @@ use Rattle.std.specs.List.{AllByRecursion}
 use Rattle.std.specs.Option.{IfSome}
 use Rattle.std.proofs.lemmas.Bool.{eqb-true}
 use Rattle.std.proofs.lemmas.Option.{none-some}
+use Rattle.std.specs.Fmt.{signed_decimal}
 use Rattle.cluster_terms.specs.Name.{is_name}
 use Rattle.cluster_terms.specs.Replication.{IsReplication}
 use Rattle.cluster_terms.specs.ReplicationText.{replication_of, words_of}
@@ -36,7 +37,7 @@ use Rattle.tcm_session.proofs.AnswerLines.{other_line}
 use Rattle.wire_json.specs.Texts.{entry_line}
 use Rattle.tcm_session.proofs.PlainEntries.{entry_is_line}
 use Rattle.tcm_session.proofs.PlainImages.{commit_plain}
-use Rattle.tcm_session.proofs.PlainTexts.{HasPlainNames, is_plain, plain_decimal, plain_joined, plain_refusal}
+use Rattle.tcm_session.proofs.PlainTexts.{plain_signed, HasPlainNames, is_plain, plain_decimal, plain_joined, plain_refusal}
 use Rattle.tcm_session.proofs.SessionLemmas.{IsSession, added_entry, session_empty}
 use Rattle.tcm_session.proofs.WholeLines.{AreLines, AreLines-append, AreLines-nil}
 
@@ -150,6 +151,7 @@ follows log bytes entry is = by (reading bytes) refl is
 
     by : (r : Result Line ReadLineFault) → reading bytes ≡ r → entry_read log r ≡ Ok entry → Follows log entry
     by (Ok (line.Entry e)) there is = of_cause e there (entry_cause log e) refl is
+    by (Ok (line.Snapshot image)) there is = absurd (cc)
     by (Err (read.Bad rule)) there is = absurd (cc)
     by (Err read.Memory) there is = absurd (cc)
 
@@ -231,6 +233,7 @@ refused_next log bytes c is e = by (reading bytes) e
 
     by : (r : Result Line ReadLineFault) → entry_read log r ≡ Err c → HasPlainCause c
     by (Ok (line.Entry entry)) e = of_cause entry (entry_cause log entry) (plain_cause log entry is) e
+    by (Ok (line.Snapshot image)) e = (let same : cause.NotEntry ≡ c = cc in subst HasPlainCause same tt)
     by (Err (read.Bad rule)) e = of_rule rule e
     by (Err read.Memory) e = of_rule 0 e
 
@@ -251,11 +254,15 @@ cause_plain : (c : Cause) → HasPlainCause c → is_plain (cause_text c) ≡ tr
 cause_plain (cause.Line rule) names = plain_decimal rule
 cause_plain (cause.Epoch want came) names = plain_joined (codes "EPOCH " ++ decimal want) (codes " ") (decimal came) (plain_decimal want) refl (plain_decimal came)
 cause_plain (cause.Id id epoch) names = plain_joined (codes "ID " ++ decimal id) (codes " ") (decimal epoch) (plain_decimal id) refl (plain_decimal epoch)
+cause_plain cause.NotEntry names = refl
+cause_plain (cause.Image bad) names = plain_joined (codes "IMAGE " ++ decimal bad.rule) (codes " ") (signed_decimal bad.value) (plain_decimal bad.rule) refl (plain_signed bad.value)
 cause_plain (cause.Fork epoch held came) names = plain_decimal epoch
 cause_plain (cause.Command epoch r) names = plain_joined (codes "COMMAND " ++ decimal epoch) (codes " ") (refusal_text r) (plain_decimal epoch) refl (plain_refusal r names)
 
 fork_plain : (c : Cause) → AreLines IsOfNoQuorum (fork_lines c)
 fork_plain (cause.Line rule) = AreLines-nil IsOfNoQuorum
+fork_plain cause.NotEntry = AreLines-nil IsOfNoQuorum
+fork_plain (cause.Image bad) = AreLines-nil IsOfNoQuorum
 fork_plain (cause.Epoch want came) = AreLines-nil IsOfNoQuorum
 fork_plain (cause.Id id epoch) = AreLines-nil IsOfNoQuorum
 fork_plain (cause.Command epoch r) = AreLines-nil IsOfNoQuorum

@@ -15,9 +15,9 @@ use Rattle.transformations.specs.declared.image.Image.{Image}
 use Rattle.epoch_log.specs.Epochs.{entry_at}
 use Rattle.snapshot_store.proofs.EntryStates.{is_next}
 use Rattle.follower_log.specs.Follower.{Performs, FollowerState, Handed, hand_entry, hand_image}
-use Rattle.follower_log.specs.Prefix.{IsImageOf, StandsAfter, StandsFor, Taken, nothing_taken}
+use Rattle.follower_log.specs.Prefix.{IsImageOf, StandsAfter, Taken, nothing_taken}
 use Rattle.follower_log.specs.declared.fault.FollowerFault.{FollowerFault}
-use Rattle.follower_log.specs.declared.fault.FollowerFault.TheVariants.{Fork, Refused, Memory, MemoryAt}
+use Rattle.follower_log.specs.declared.fault.FollowerFault.TheVariants.{Fork, Refused, BadImage, Memory, MemoryAt}
 use Rattle.follower_log.specs.declared.took.Took.{Took}
 use Rattle.follower_log.specs.declared.took.Took.TheVariants.{At, Old, Held, Full}
 use Rattle.follower_log.proofs.AmongLemmas.{epoch_within}
@@ -27,7 +27,7 @@ use Rattle.script_lang.specs.Grammar.{line_of}
 use Rattle.script_lang.specs.Texts.{epoch_text, no_text}
 use Rattle.script_lang.specs.declared.script_line.ScriptLine.{ScriptLine}
 use Rattle.script_lang.specs.declared.script_line.ScriptLine.TheVariants.{Commit, Follower, Deliver, Snapshot, Place, Nodes, Quorum, Local}
-use Rattle.tcm_session.specs.Machine.{Reply, SessionState, answer_from, deliver_to, follower_named, follower_reply, follower_unless_full, handed_reply, handed_text, image_at, image_named, made_reply, most_followers, new_follower, no_epoch, on_follower, only_answers, query_text, replied, reply, reply_of, reply_to, snapshot_to, with_follower}
+use Rattle.tcm_session.specs.Machine.{Reply, SessionState, answer_from, deliver_to, follower_named, follower_reply, follower_unless_full, handed_reply, handed_text, image_at, image_named, made_reply, most_followers, new_follower, no_epoch, on_follower, only_answers, query_text, reply, reply_of, reply_to, snapshot_to, with_follower}
 use Rattle.tcm_session.specs.Steps.{AllFollow, Alone, AnswersHanded, FollowsLog, IsBetween, IsOfOneLog, OnlyAnswers, Stops, StopsAny, handed_by}
 use Rattle.tcm_session.specs.declared.fault.StepFault.{StepFault}
 use Rattle.tcm_session.specs.declared.fault.StepFault.TheVariants as step
@@ -95,6 +95,7 @@ follows_shown log before after (Err (MemoryAt e)) at shows = record { taken = af
 follows_shown log before after (Err Memory) at shows = record { taken = before; stands = shows }
 follows_shown log before after (Err (Fork e held came)) at shows = absurd shows
 follows_shown log before after (Err (Refused e r)) at shows = absurd shows
+follows_shown log before after (Err (BadImage bad)) at shows = absurd shows
 
 pub one_log_shown : (log : List Entry) (before after : Taken) (handed : Result Took FollowerFault) (at : FollowerState) → StandsAfter log before after handed at → IsOfOneLog handed
 one_log_shown log before after (Ok took) at shows = tt
@@ -102,6 +103,7 @@ one_log_shown log before after (Err (MemoryAt e)) at shows = tt
 one_log_shown log before after (Err Memory) at shows = tt
 one_log_shown log before after (Err (Fork e held came)) at shows = absurd shows
 one_log_shown log before after (Err (Refused e r)) at shows = absurd shows
+one_log_shown log before after (Err (BadImage bad)) at shows = absurd shows
 
 -- where it stops for want of memory
 is_between : (log : List Entry) (f at : FollowerState) (step : Handed) (handed : Result Took FollowerFault) → CutsFrom f.image.epoch step → FollowsLog log at → Performs f step handed at → IsBetween log f step.after at
@@ -114,6 +116,7 @@ is_between log f at step handed cuts follows comes = by handed comes
     by (Ok took) comes = there comes.1
     by (Err (Fork e held came)) comes = there comes.1
     by (Err (Refused e r)) comes = there comes.1
+    by (Err (BadImage bad)) comes = there comes.1
     by (Err Memory) comes = record { from = omega (arith, ap (λ (g : FollowerState). g.image.epoch) comes); to = omega (arith, cuts.up, ap (λ (g : FollowerState). g.image.epoch) comes); follows = follows }
     by (Err (MemoryAt e)) comes = record { from = (cuts.cuts e at comes).0; to = (cuts.cuts e at comes).1; follows = follows }
 

@@ -17,6 +17,7 @@ pub mod PieceLoop
 pub mod PlainEntries
 pub mod PlainImages
 pub mod PlainReplays
+pub mod PlainSnapshots
 pub mod PlainTexts
 pub mod PrintedLemmas
 pub mod ReadLemmas

@@ -77,7 +77,7 @@ plain_comma true = refl
 plain_comma false = refl
 
 mutual
-  plain_data : (d : Data) → is_plain (compact_text d) ≡ true
+  pub plain_data : (d : Data) → is_plain (compact_text d) ≡ true
   plain_data null = refl
   plain_data (boolean true) = refl
   plain_data (boolean false) = refl

@@ -1,5 +1,5 @@
 -- What a replay prints: no line of it begins with the word of an answer with quorums.
-use Rattle.std.proofs.Common.{◌≡◌, ◌≢◌, ℕ, suc, ◌+◌, Bool, true, false, if◌then◌else◌, List, [], ◌∷◌, ◌++◌, flat_map, length, nat_le, Option, Some, None, Result, Ok, Err, IfErr, codes, decimal, refl, arith}
+use Rattle.std.proofs.Common.{filter, nat_lt, ◌≡◌, ◌≢◌, ℕ, suc, ◌+◌, Bool, true, false, if◌then◌else◌, List, [], ◌∷◌, ◌++◌, flat_map, length, nat_le, Option, Some, None, Result, Ok, Err, IfErr, codes, decimal, refl, arith}
 use Rattle.std.specs.List.{AllByRecursion}
 use Rattle.std.specs.Option.{IfSome}
 use Rattle.cluster_terms.proofs.AscendingLemmas.{All-put}
@@ -7,14 +7,17 @@ use Rattle.cluster_terms.specs.Ascending.{put}
 use Rattle.tcm_edges.specs.Files.{Files, file_of, loaded_of}
 use Rattle.tcm_edges.specs.declared.store.Loaded.{Loaded}
 use Rattle.tcm_edges.specs.declared.store.Loaded.TheVariants as loaded
-use Rattle.transformations.proofs.lists.ListLemmas.{all_weaker}
+use Rattle.transformations.proofs.lists.ListLemmas.{all_weaker, part_all_of, part_filter}
+use Rattle.transformations.specs.ImageRules.{bad_of}
+use Rattle.transformations.specs.declared.image_rules.BadImage.{BadImage}
+use Rattle.tcm_session.proofs.PlainSnapshots.{plain_read}
 use Rattle.transformations.specs.History.{next_image}
 use Rattle.transformations.specs.Refusals.{refusal_of}
 use Rattle.transformations.specs.declared.entry.Entry.{Entry}
 use Rattle.transformations.specs.declared.image.Image.{Image}
 use Rattle.transformations.specs.declared.keyspace.KeyspaceRow.{KeyspaceRow}
 use Rattle.transformations.specs.declared.refusal.Refusal.{Refusal}
-use Rattle.follower_log.specs.Follower.{FollowerState, Handed, advanced, by_epoch, cut_first, hand_above, hand_entry, is_full, is_next, is_same, stays, unless_dropped, waiting_at}
+use Rattle.follower_log.specs.Follower.{FollowerState, Handed, advanced, by_epoch, cut_first, hand_above, hand_entry, hand_image, hand_valid, is_full, is_next, is_same, stays, unless_bad, unless_dropped, waiting_at}
 use Rattle.follower_log.specs.declared.fault.FollowerFault.{FollowerFault}
 use Rattle.follower_log.specs.declared.fault.FollowerFault.TheVariants as fault
 use Rattle.follower_log.specs.declared.took.Took.{Took}
@@ -94,6 +97,18 @@ plain_handed f entry formed is = by (nat_le entry.epoch f.image.epoch)
     by true = record { after = is; answer = tt }
     by false = of_held (waiting_at f.waiting entry.epoch)
 
+-- an image whose names hold no line feed
+plain_imaged : (f : FollowerState) (image : Image) → IsPlainImage image → IsPlainFollower f → IsPlainStep (hand_image f image)
+plain_imaged f image plain is = bad (bad_of image)
+  where
+    by : (b : Bool) → IsPlainStep (if b then stays f (Ok (took.Old f.image.epoch)) else advanced image (filter (λ (entry : Entry). nat_lt image.epoch entry.epoch) f.waiting))
+    by true = record { after = is; answer = tt }
+    by false = plain_advanced (filter (λ (entry : Entry). nat_lt image.epoch entry.epoch) f.waiting) image plain (part_all_of (λ (e : Entry). IsFormed e.cmd) (part_filter (λ (entry : Entry). nat_lt image.epoch entry.epoch) f.waiting) is.waiting)
+
+    bad : (o : Option BadImage) → IsPlainStep (unless_bad o f (hand_valid f image))
+    bad None = by (nat_le image.epoch f.image.epoch)
+    bad (Some b) = record { after = is; answer = tt }
+
 -- ---- lines
 
 abbrev IsPlainReplay : Replay → Type 0
@@ -108,6 +123,7 @@ plain_answered : (replay : Replay) (after : FollowerState) (answer : Result Took
 plain_answered replay after (Ok t) is names = is
 plain_answered replay after (Err (fault.Fork epoch held came)) is names = tt
 plain_answered replay after (Err (fault.Refused epoch refusal)) is names = names
+plain_answered replay after (Err (fault.BadImage bad)) is names = tt
 plain_answered replay after (Err fault.Memory) is names = tt
 plain_answered replay after (Err (fault.MemoryAt epoch)) is names = tt
 
@@ -119,6 +135,9 @@ plain_line replay bytes is = by (reading bytes) refl
     by (Ok (line.Entry entry)) there =
         let step = plain_handed replay.follower entry (reading_commands IsFormed formed_kinds bytes entry there) is in
         plain_answered replay (hand_entry replay.follower entry).after (hand_entry replay.follower entry).answer step.after step.answer
+    by (Ok (line.Snapshot image)) there =
+        let step = plain_imaged replay.follower image (plain_read bytes image there) is in
+        plain_answered replay (hand_image replay.follower image).after (hand_image replay.follower image).answer step.after step.answer
     by (Err (read.Bad rule)) there = tt
     by (Err read.Memory) there = tt
 

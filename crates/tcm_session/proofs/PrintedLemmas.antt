@@ -1,5 +1,5 @@
 -- The lines that a run prints, and the quorums in them.
-use Rattle.std.proofs.Common.{◌≡◌, ◌≢◌, ℕ, Bool, true, false, List, [], ◌∷◌, ◌++◌, Option, Some, None, Result, Ok, Err, length, nat_le, codes, refl, sym, ◌∙◌, subst, drop, arith, cond}
+use Rattle.std.proofs.Common.{if◌then◌else◌, ◌≡◌, ◌≢◌, ℕ, Bool, true, false, List, [], ◌∷◌, ◌++◌, Option, Some, None, Result, Ok, Err, length, nat_le, codes, refl, sym, ◌∙◌, subst, drop, arith, cond}
 use Rattle.std.proofs.KnownBytes.{starts_with_rest}
 use Rattle.std.proofs.lemmas.List.{append-nil}
 use Rattle.std.proofs.lemmas.List.Elements.{Contains-append_left, Contains-append_right}
@@ -8,12 +8,13 @@ use Rattle.tcm_edges.specs.declared.store.Loaded.{Loaded}
 use Rattle.tcm_edges.specs.declared.store.Loaded.TheVariants as loaded
 use Rattle.transformations.specs.declared.entry.Entry.{Entry}
 use Rattle.script_lang.specs.Grammar.{line_of}
-use Rattle.script_lang.specs.Texts.{line}
+use Rattle.script_lang.specs.Texts.{line, no_text}
+use Rattle.tcm_session.specs.declared.ending.Ending.{Ending}
 use Rattle.tcm_session.specs.Generated.{gen_numbers}
 use Rattle.tcm_session.specs.Lines.{open_line}
 use Rattle.tcm_session.specs.LogFiles.{cut_to_lines, log_of, refused_line_text}
-use Rattle.tcm_session.specs.Machine.{SessionState, answers, reply, session_next, session_over}
-use Rattle.tcm_session.specs.Outcome.{Outcome, Start, commit_outcome, gen_outcome, gen_status, gen_text, input_limit, is_commit, is_replay, large_outcome, log_file, other_outcome, outcome, outcome_from, outcome_loaded, printed_by, replay_outcome, replayed_files, script_outcome, too_large_text, unread_outcome, usage_text, whole_outcome}
+use Rattle.tcm_session.specs.Machine.{SessionState, answers, no_epoch, reply, session_next, session_over}
+use Rattle.tcm_session.specs.Outcome.{Outcome, Start, commit_outcome, gen_status, gen_text, input_limit, is_commit, is_replay, large_outcome, last_outcome, log_file, other_outcome, outcome, outcome_from, outcome_loaded, printed_by, replay_outcome, replayed_files, script_outcome, too_large_text, unread_outcome, usage_text, whole_outcome}
 use Rattle.tcm_session.specs.Run.{IsFinal, IsRun}
 use Rattle.tcm_session.specs.Runs.{IsEnd, RunsSeen}
 use Rattle.tcm_session.specs.Shown.{BeginsWithWord, IsOfNoQuorum, IsShownLine, LinesAreShown, Shown, and_shown, shown, shown_by, shown_text}
@@ -23,6 +24,12 @@ use Rattle.tcm_session.proofs.FileLogs.{refused_lines, session_file}
 use Rattle.tcm_session.proofs.SessionLemmas.{IsSession, after_reply, session_empty}
 use Rattle.tcm_session.specs.ReplayPrefix.{ReportsPrefix, taken_of_files}
 use Rattle.tcm_session.specs.Replay.{replay_ending}
+use Rattle.tcm_session.specs.StateLine.{file_ending, log_ending, snapshot_ending, snapshot_words, state_ending}
+use Rattle.tcm_session.proofs.PlainSnapshots.{snapshot_is_line}
+use Rattle.transformations.specs.History.{state_after}
+use Rattle.transformations.specs.Log.{commands_of}
+use Rattle.transformations.specs.declared.image.Image.{Image}
+use Rattle.wire_json.specs.SnapshotTexts.{snapshot_line}
 use Rattle.tcm_session.proofs.GeneratedTexts.{summary_lines}
 use Rattle.tcm_session.proofs.PlainReplays.{replay_lines, too_large_lines}
 use Rattle.tcm_session.proofs.ReplayReports.{refuses_no_line, reports_prefix}
@@ -103,12 +110,42 @@ gen_lines : (numbers : Option (ℕ × ℕ)) → AreLines IsOfNoQuorum (gen_text 
 gen_lines None = usage_lines
 gen_lines (Some (start, rounds)) = summary_lines start rounds
 
+state_lines : (e : ℕ) (log : List Entry) → (state_ending e log).status ≢ 7 → AreLines IsOfNoQuorum (state_ending e log).text
+state_lines e log = by (nat_le e (length log))
+  where
+    state : Image
+    state = state_after (commands_of log) e
+
+    at_epoch : Bool → Ending
+    at_epoch b = if b then record { status = 0; text = snapshot_line state } else record { status = 7; text = no_text (no_epoch (commands_of log)) }
+
+    by : (b : Bool) → (at_epoch b).status ≢ 7 → AreLines IsOfNoQuorum (at_epoch b).text
+    by true other = snapshot_is_line state
+    by false other = absurd (other refl)
+
+log_lines : (e : ℕ) (file : List ℕ) (r : Result (List Entry) RefusedLine) → log_of file ≡ r → (log_ending e r).status ≢ 7 → AreLines IsOfNoQuorum (log_ending e r).text
+log_lines e file (Ok log) is other = state_lines e log other
+log_lines e file (Err refused) is other = refused_lines file refused is
+
+-- the text of the state of a log, unless the name of an absent file or an epoch is printed
+snapshot_lines : (name : List ℕ) (e : ℕ) (seen : ℕ → Files) → (snapshot_ending name e seen).status ≢ 7 → AreLines IsOfNoQuorum (snapshot_ending name e seen).text
+snapshot_lines name e seen = by (loaded_of (file_of (seen 0) name) input_limit)
+  where
+    by : (it : Loaded) → (file_ending name e it).status ≢ 7 → AreLines IsOfNoQuorum (file_ending name e it).text
+    by loaded.Absent other = absurd (other refl)
+    by (loaded.TooLarge size) other = too_large_lines
+    by (loaded.Bytes file) other = log_lines e file (log_of file) refl other
+
 of_other : (words : List (List ℕ)) (seen : ℕ → Files) → IsPlainOutcome (other_outcome words seen)
 of_other words seen = by (is_replay words)
   where
-    by : (b : Bool) → IsPlainOutcome (cond b (replay_outcome (replayed_files words) seen) (gen_outcome (gen_numbers words) (seen 0)))
+    last : (o : Option (List ℕ × ℕ)) → IsPlainOutcome (last_outcome words seen o)
+    last None = of_unread (gen_status (gen_numbers words)) (gen_text (gen_numbers words)) (seen 0) (λ _. gen_lines (gen_numbers words))
+    last (Some named) = of_unread (snapshot_ending named.0 named.1 seen).status (snapshot_ending named.0 named.1 seen).text (seen 0) (snapshot_lines named.0 named.1 seen)
+
+    by : (b : Bool) → IsPlainOutcome (cond b (replay_outcome (replayed_files words) seen) (last_outcome words seen (snapshot_words words)))
     by true = of_unread (replay_ending (replayed_files words) seen).status (replay_ending (replayed_files words) seen).text (seen 0) (replay_lines (replayed_files words) seen)
-    by false = of_unread (gen_status (gen_numbers words)) (gen_text (gen_numbers words)) (seen 0) (λ _. gen_lines (gen_numbers words))
+    by false = last (snapshot_words words)
 
 plain_outcome : (words : List (List ℕ)) (seen : ℕ → Files) (input : List ℕ) → IsPlainOutcome (outcome words seen input)
 unfolding outcome

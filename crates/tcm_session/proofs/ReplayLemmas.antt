@@ -1,11 +1,16 @@
 -- Handing over the lines of files: what the rest comes to, the whole comes to.
-use Rattle.std.proofs.Common.{◌≡◌, ◌≢◌, ℕ, zero, suc, ◌+◌, Bool, not, List, [], ◌∷◌, ◌++◌, length, Option, None, Some, Result, Ok, Err, sym, ap, ◌∙◌, subst, arith}
+use Rattle.std.proofs.Common.{◌≡◌, ◌≢◌, ℕ, zero, suc, ◌+◌, Bool, not, List, [], ◌∷◌, ◌++◌, length, Option, None, Some, Result, Ok, Err, IfOk, OnOk, sym, ap, ◌∙◌, subst, arith}
 use Rattle.std.specs.Str.{bytes_eq}
 use Rattle.tcm_edges.specs.Files.{Files, file_of, loaded_of}
 use Rattle.tcm_session.specs.Limits.{input_limit}
 use Rattle.tcm_session.specs.Lines.{HasNoFeed, whole_lines}
-use Rattle.tcm_session.specs.Replay.{ending_of, files_replayed, line_replayed, lines_replayed, loaded_replayed, nothing_replayed, read_replayed, then_replayed, after_line}
-use Rattle.tcm_session.specs.Replays.{EndsSo, HandsFile, HandsFiles, LeadsTo}
+use Rattle.tcm_session.specs.Replay.{answered, ending_of, full_count, files_replayed, line_replayed, lines_replayed, loaded_replayed, nothing_replayed, read_replayed, replay_ending, then_replayed, after_line}
+use Rattle.tcm_session.specs.Replays.{EndsSo, FoundMemory, HandsFile, HandsFiles, LeadsTo}
+use Rattle.cluster_terms.specs.declared.memory.Memory.{Memory}
+use Rattle.follower_log.specs.Follower.{Handed, Performs}
+use Rattle.follower_log.specs.declared.fault.FollowerFault.{FollowerFault}
+use Rattle.follower_log.specs.declared.fault.FollowerFault.TheVariants as follower_fault
+use Rattle.follower_log.specs.declared.took.Took.{Took}
 use Rattle.tcm_session.specs.Run.{AreSeen}
 use Rattle.tcm_session.specs.Runs.{MayHold}
 use Rattle.tcm_session.specs.declared.ending.Ending.{Ending}
@@ -29,6 +34,19 @@ replayed-read replay bytes l meaning = ap (read_replayed replay) (read_there byt
 pub replayed-bad : (replay : Replay) (bytes : List ℕ) (fault : ReadLineFault) (rule : ℕ) → fault ≡ read.Bad rule → (unread fault ≢ Err read.Memory → unread fault ≡ reading bytes) → line_replayed replay bytes ≡ Err (cause.Line rule)
 unfolding line_replayed
 replayed-bad replay bytes fault rule is meaning = ap (read_replayed replay) (read_bad bytes fault rule is meaning)
+
+-- a line whose content was handed to the follower, and then counted
+pub counted : (old mid new : Replay) (step : Handed) (handed : Result Took FollowerFault) (r : Result (Option Cause) Memory) → mid.lines ≡ old.lines → mid.full ≡ old.full → Performs old.follower step handed mid.follower
+    → IfOk r (λ cause. LeadsTo cause (answered mid mid.follower handed) new) → OnOk r (FoundMemory handed) → IfOk r (λ cause. LeadsTo cause (answered old step.after step.answer) new)
+counted old mid new step handed (Err m) lines full comes leads found = tt
+counted old mid new step (Ok took) (Ok cause) lines full (same, there) leads found =
+    let counts : answered mid mid.follower (Ok took) ≡ answered old step.after (Ok took) = (λ i. Ok (record { follower = there i; lines = lines i + 1; full = full i + full_count took })) in
+    subst (λ given. LeadsTo cause given new) (counts ∙ ap (answered old step.after) same) leads
+counted old mid new step (Err (follower_fault.Fork epoch held came)) (Ok cause) lines full (same, there) leads found = subst (λ given. LeadsTo cause given new) (ap (answered old step.after) same) leads
+counted old mid new step (Err (follower_fault.Refused epoch refusal)) (Ok cause) lines full (same, there) leads found = subst (λ given. LeadsTo cause given new) (ap (answered old step.after) same) leads
+counted old mid new step (Err (follower_fault.BadImage bad)) (Ok cause) lines full (same, there) leads found = subst (λ given. LeadsTo cause given new) (ap (answered old step.after) same) leads
+counted old mid new step (Err follower_fault.Memory) (Ok cause) lines full comes leads found = absurd found
+counted old mid new step (Err (follower_fault.MemoryAt epoch)) (Ok cause) lines full comes leads found = absurd found
 
 -- ---- the lines of a file
 
@@ -152,12 +170,12 @@ files_end names files file replay [] so_far none =
 
 -- ---- the end
 
-pub ends_at : (o : Option Ending) (names : List (List ℕ)) (files : Option Files) (after : Replay) (ending : Ending) → o ≡ None → HandsFiles o names files after → ending ≡ ending_of (Ok after) → EndsSo ending names files
+pub ends_at : (o : Option Ending) (names : List (List ℕ)) (files : Option Files) (after : Replay) (ending : Ending) → o ≡ None → HandsFiles o names files after → ending ≡ ending_of (Ok after) → EndsSo (replay_ending names) ending files
 ends_at o names files after ending none hands is =
     let on : files_replayed 1 nothing_replayed names hands.seen ≡ Ok after = subst (λ x. LeadsTo x (files_replayed 1 nothing_replayed names hands.seen) after) none hands.leads in
     record { seen = hands.seen; held = hands.held; is = is ∙ ap ending_of (sym on) }
 
-pub ends_before : (o : Option Ending) (names : List (List ℕ)) (files : Option Files) (after : Replay) (ending : Ending) → o ≡ Some ending → HandsFiles o names files after → EndsSo ending names files
+pub ends_before : (o : Option Ending) (names : List (List ℕ)) (files : Option Files) (after : Replay) (ending : Ending) → o ≡ Some ending → HandsFiles o names files after → EndsSo (replay_ending names) ending files
 ends_before o names files after ending some hands =
     let off : files_replayed 1 nothing_replayed names hands.seen ≡ Err ending = subst (λ x. LeadsTo x (files_replayed 1 nothing_replayed names hands.seen) after) some hands.leads in
     record { seen = hands.seen; held = hands.held; is = sym (ap ending_of off) }

@@ -6,7 +6,7 @@ use Rattle.tcm_edges.specs.declared.store.Loaded.TheVariants as loaded
 use Rattle.transformations.specs.Log.{IsLog}
 use Rattle.transformations.specs.declared.entry.Entry.{Entry}
 use Rattle.follower_log.proofs.ShowsLemmas.{empty_stands, prefix_ends}
-use Rattle.follower_log.specs.Follower.{FollowerState, hand_entry}
+use Rattle.follower_log.specs.Follower.{FollowerState, hand_entry, hand_image}
 use Rattle.follower_log.specs.Prefix.{Taken}
 use Rattle.follower_log.specs.declared.fault.FollowerFault.{FollowerFault}
 use Rattle.follower_log.specs.declared.took.Took.{Took}
@@ -17,13 +17,13 @@ use Rattle.wire_json.specs.declared.line.ReadLineFault.{ReadLineFault}
 use Rattle.tcm_session.specs.Limits.{input_limit}
 use Rattle.tcm_session.specs.Lines.{whole_lines}
 use Rattle.tcm_session.specs.Replay.{answered, files_replayed, line_replayed, lines_replayed, loaded_replayed, nothing_replayed, read_replayed, then_replayed, unless_ended, after_line}
-use Rattle.tcm_session.specs.ReplayPrefix.{AreFilesOf, AreLinesOf, ComesToPrefix, ReadsAsEntry, Taking, entry_taken, files_taken, lines_taken, loaded_lines, nothing_yet, read_taken, taken_of_files}
+use Rattle.tcm_session.specs.ReplayPrefix.{AreFilesOf, AreLinesOf, ComesToPrefix, ReadsAsPart, Taking, entry_taken, files_taken, image_taken, lines_taken, loaded_lines, nothing_yet, read_taken, taken_of_files}
 use Rattle.tcm_session.specs.Taken.{ShowsPrefix}
 use Rattle.tcm_session.specs.declared.ending.Ending.{Ending}
 use Rattle.tcm_session.specs.declared.refused_line.Cause.{Cause}
 use Rattle.tcm_session.specs.declared.refused_line.RefusedLine.{RefusedLine}
 use Rattle.tcm_session.specs.declared.replay.Replay.{Replay}
-use Rattle.tcm_session.proofs.TakenLemmas.{entry_ok, entry_shown}
+use Rattle.tcm_session.proofs.TakenLemmas.{entry_ok, entry_shown, image_ok, image_shown}
 
 module _ (log : List Entry) (is : IsLog log) where
   -- ---- lines
@@ -38,12 +38,16 @@ module _ (log : List Entry) (is : IsLog log) where
   shows_answered replay taken (Ok t) g ok shows = record { same = refl; shows = shows }
   shows_answered replay taken (Err e) g ok shows = absurd (true≢false (sym ok))
 
-  shows_line : (so_far : Taking) (replay : Replay) (bytes : List ℕ) → ReadsAsEntry log (reading bytes) → Showing so_far replay → IsOkAnd (line_replayed replay bytes) (λ next. Showing (read_taken so_far (reading bytes)) next)
+  shows_line : (so_far : Taking) (replay : Replay) (bytes : List ℕ) → ReadsAsPart log (reading bytes) → Showing so_far replay → IsOkAnd (line_replayed replay bytes) (λ next. Showing (read_taken so_far (reading bytes)) next)
   unfolding line_replayed
   shows_line so_far replay bytes of showing = by (reading bytes) of
     where
-      by : (r : Result Line ReadLineFault) → ReadsAsEntry log r → IsOkAnd (read_replayed replay r) (λ next. Showing (read_taken so_far r) next)
+      by : (r : Result Line ReadLineFault) → ReadsAsPart log r → IsOkAnd (read_replayed replay r) (λ next. Showing (read_taken so_far r) next)
       by (Err fault) of = absurd of
+      by (Ok (line.Snapshot image)) of =
+          subst (λ (f : FollowerState). IsOkAnd (answered replay (hand_image f image).after (hand_image f image).answer) (λ next. Showing (image_taken so_far image) next)) (sym showing.same)
+          (shows_answered replay (image_taken so_far image).taken (hand_image so_far.follower image).answer (hand_image so_far.follower image).after
+          (image_ok log so_far.taken so_far.follower image is of showing.shows.stands) (image_shown log so_far.taken so_far.follower image is of showing.shows))
       by (Ok (line.Entry entry)) of =
           subst (λ (f : FollowerState). IsOkAnd (answered replay (hand_entry f entry).after (hand_entry f entry).answer) (λ next. Showing (entry_taken so_far entry) next)) (sym showing.same)
           (shows_answered replay (entry_taken so_far entry).taken (hand_entry so_far.follower entry).answer (hand_entry so_far.follower entry).after

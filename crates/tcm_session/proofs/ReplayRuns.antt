@@ -1,18 +1,26 @@
 -- From the parts of a replay to a run.
-use Rattle.std.proofs.Common.{arith, ◌≡◌, ◌≢◌, ℕ, Bool, true, false, if◌then◌else◌, List, [], ◌∷◌, Option, None, Some, Result, Ok, Err, IfOk, IsErrAnd, suc, ◌+◌, refl, sym, ap, ◌∙◌, subst}
+use Rattle.std.proofs.Common.{arith, ◌≡◌, ◌≢◌, ℕ, Bool, true, false, if◌then◌else◌, List, [], ◌∷◌, Option, None, Some, Result, Ok, Err, IfOk, IsErrAnd, suc, ◌+◌, length, nat_le, refl, sym, ap, ◌∙◌, subst}
 use Rattle.tcm_edges.proofs.OwedLemmas.{WritesPrefix-refl}
-use Rattle.tcm_edges.specs.Files.{Files, file_of, loaded_of}
+use Rattle.tcm_edges.specs.Files.{Files, IsLoad, file_of, loaded_of}
 use Rattle.tcm_edges.specs.declared.store.Loaded.{Loaded}
 use Rattle.tcm_edges.specs.declared.store.Loaded.TheVariants as loaded
 use Rattle.tcm_session.specs.Counts.{Counts, NoneFell}
 use Rattle.tcm_session.specs.Endings.{IsReplayOf, status_by}
 use Rattle.tcm_session.specs.Faults.{HasRunCause, Shows}
 use Rattle.tcm_session.specs.Generated.{gen_numbers}
-use Rattle.tcm_session.specs.Outcome.{Outcome, gen_outcome, gen_status, gen_text, is_commit, is_replay, other_outcome, outcome, replay_outcome, replayed_files, unread_outcome}
+use Rattle.tcm_session.specs.Outcome.{Outcome, ended_outcome, gen_status, gen_text, is_commit, is_replay, last_outcome, other_outcome, outcome, replay_outcome, replayed_files, snapshot_outcome, unread_outcome}
+use Rattle.transformations.specs.History.{state_after}
+use Rattle.transformations.specs.Log.{commands_of}
+use Rattle.transformations.specs.declared.entry.Entry.{Entry}
+use Rattle.wire_json.specs.SnapshotTexts.{snapshot_line}
+use Rattle.script_lang.specs.Texts.{no_text}
+use Rattle.tcm_session.specs.LogFiles.{log_of}
+use Rattle.tcm_session.specs.Machine.{no_epoch}
 use Rattle.tcm_session.specs.Limits.{input_limit}
 use Rattle.tcm_session.specs.Lines.{whole_lines}
 use Rattle.tcm_session.specs.Replay.{ending_of, files_replayed, lines_replayed, loaded_replayed, nothing_replayed, replay_ending, then_replayed, unless_ended}
-use Rattle.tcm_session.specs.Replays.{EndsSo, WritesLast, WritesOther, WritesReplay}
+use Rattle.tcm_session.specs.Replays.{EndsSo, WritesLast, WritesSeen}
+use Rattle.tcm_session.specs.StateLine.{file_ending, log_ending, snapshot_ending, snapshot_words, state_ending}
 use Rattle.tcm_session.specs.Run.{AreSeen}
 use Rattle.tcm_session.specs.Runs.{IsEnd, MayHold, RunsFor, RunsSeen, Writes}
 use Rattle.tcm_session.specs.declared.ending.Ending.{Ending}
@@ -21,35 +29,40 @@ use Rattle.tcm_session.specs.declared.fault.RunFault.TheVariants as fault
 use Rattle.tcm_session.specs.declared.program.Status.{Status}
 use Rattle.tcm_session.specs.declared.refused_line.RefusedLine.{RefusedLine}
 use Rattle.tcm_session.specs.declared.replay.Replay.{Replay}
-use Rattle.tcm_session.proofs.CutLemmas.{files_behind}
-use Rattle.tcm_session.proofs.ReplayLemmas.{seen_any}
+use Rattle.tcm_session.proofs.CutLemmas.{behind_held, behind_loaded, files_behind}
+use Rattle.tcm_session.proofs.ReplayLemmas.{seen_any, seen_held}
 use Rattle.tcm_session.proofs.RunLemmas.{final_end, runs_unread, runs_unread_err}
-use Rattle.tcm_session.proofs.RunOutcomes.{of_others, of_replay, of_unread}
+use Rattle.tcm_session.proofs.RunOutcomes.{of_last, of_others, of_replay}
 
--- ---- a replay
+-- ---- a run that reads no input
 
 -- its end is printed
-pub replay_printed : (names : List (List ℕ)) (files : Option Files) (w w' : Option (List ℕ)) (before after : Counts) (ending : Ending) (r : Result Status RunFault) → EndsSo ending names files → Writes ending.text w w' before after r
-    → IfOk r (λ s. s.0 ≡ ending.status) → WritesReplay names files w w' r
-replay_printed names files w w' before after ending r ends writes status =
+pub end_printed : (end_by : (ℕ → Files) → Ending) (files : Option Files) (w w' : Option (List ℕ)) (before after : Counts) (ending : Ending) (r : Result Status RunFault) → EndsSo end_by ending files → Writes ending.text w w' before after r
+    → IfOk r (λ s. s.0 ≡ ending.status) → WritesSeen (λ seen. ended_outcome (end_by seen) (seen 0)) files w w' r
+end_printed end_by files w w' before after ending r ends writes status =
     record {
       seen = ends.seen;
       held = ends.held;
-      writes = subst (λ (e : Ending). WritesLast (unread_outcome e.status e.text (ends.seen 0)) w w' r) ends.is (record { whole = writes.whole; part = writes.part; status = status });
+      writes = subst (λ (e : Ending). WritesLast (ended_outcome e (ends.seen 0)) w w' r) ends.is (record { whole = writes.whole; part = writes.part; status = status });
     }
 
 -- a fault comes before anything is written
-pub replay_stopped : (names : List (List ℕ)) (files : Option Files) (w : Option (List ℕ)) (r : Result Status RunFault) (e : RunFault) → IsErrAnd r (λ y. y ≡ e) → WritesReplay names files w w r
-replay_stopped names files w (Ok s) e is = absurd is
-replay_stopped names files w (Err f) e is =
+pub end_stopped : (outcome_by : (ℕ → Files) → Outcome) (files : Option Files) (w : Option (List ℕ)) (r : Result Status RunFault) (e : RunFault) → IsErrAnd r (λ y. y ≡ e) → WritesSeen outcome_by files w w r
+end_stopped outcome_by files w (Ok s) e is = absurd is
+end_stopped outcome_by files w (Err f) e is =
     let seen : ℕ → Files = λ _. files_behind files [] None in
     record {
       seen = seen;
       held = seen_any files;
-      writes = record { whole = tt; part = WritesPrefix-refl w (replay_ending names seen).text; status = tt };
+      writes = record { whole = tt; part = WritesPrefix-refl w (outcome_by seen).last; status = tt };
     }
 
--- ---- its status
+-- its status is one of those of runs that no fault ends
+pub end_ends : (end_by : (ℕ → Files) → Ending) → ((seen : ℕ → Files) → IsEnd (end_by seen).status) → (files : Option Files) (ending : Ending) (r : Result Status RunFault) → EndsSo end_by ending files → IfOk r (λ s. s.0 ≡ ending.status) → IfOk r (λ s. IsEnd s.0)
+end_ends end_by all files ending (Err e) ends is = tt
+end_ends end_by all files ending (Ok s) ends is = subst IsEnd (sym (is ∙ ap (λ (e : Ending). e.status) ends.is)) (all ends.seen)
+
+-- ---- a replay
 
 abbrev pub EndsRun : Result Replay Ending → Type 0
 EndsRun (Ok replay) = Unit {0}
@@ -75,36 +88,80 @@ files_ends (name ∷ names) file replay seen = by (loaded_replayed file name rep
     by (Ok next) ends later = later next
     by (Err ending) ends later = ends
 
-pub replay_ends : (names : List (List ℕ)) (files : Option Files) (ending : Ending) (r : Result Status RunFault) → EndsSo ending names files → IfOk r (λ s. s.0 ≡ ending.status) → IfOk r (λ s. IsEnd s.0)
-replay_ends names files ending (Err e) ends is = tt
-replay_ends names files ending (Ok s) ends is =
-    subst IsEnd (sym (is ∙ ap (λ (e : Ending). e.status) ends.is)) (by (files_replayed 1 nothing_replayed names ends.seen) (files_ends names 1 nothing_replayed ends.seen))
+pub replay_ends : (names : List (List ℕ)) (seen : ℕ → Files) → IsEnd (replay_ending names seen).status
+replay_ends names seen = by (files_replayed 1 nothing_replayed names seen) (files_ends names 1 nothing_replayed seen)
   where
     by : (r : Result Replay Ending) → EndsRun r → IsEnd (ending_of r).status
     by (Ok replay) ends = refl
     by (Err ending) ends = ends.0
 
+-- ---- the state of a log
+
+state_ends : (e : ℕ) (log : List Entry) → IsEnd (state_ending e log).status
+state_ends e log = by (nat_le e (length log))
+  where
+    at_epoch : Bool → Ending
+    at_epoch b = if b then record { status = 0; text = snapshot_line (state_after (commands_of log) e) } else record { status = 7; text = no_text (no_epoch (commands_of log)) }
+
+    by : (b : Bool) → IsEnd (at_epoch b).status
+    by true = refl
+    by false = refl
+
+log_ends : (e : ℕ) (r : Result (List Entry) RefusedLine) → IsEnd (log_ending e r).status
+log_ends e (Ok log) = state_ends e log
+log_ends e (Err refused) = refl
+
+pub snapshot_ends : (name : List ℕ) (e : ℕ) (seen : ℕ → Files) → IsEnd (snapshot_ending name e seen).status
+snapshot_ends name e seen = by (loaded_of (file_of (seen 0) name) input_limit)
+  where
+    by : (it : Loaded) → IsEnd (file_ending name e it).status
+    by loaded.Absent = refl
+    by (loaded.TooLarge size) = refl
+    by (loaded.Bytes file) = log_ends e (log_of file)
+
+-- the file is loaded, and the end is that of its log
+pub log_shown : (name : List ℕ) (e : ℕ) (files : Option Files) (it : Loaded) (ending : Ending) → IsLoad files name input_limit it → ending ≡ file_ending name e it → EndsSo (snapshot_ending name e) ending files
+log_shown name e files it ending load is =
+    let behind = files_behind files name load.file in
+    record {
+      seen = λ _. behind;
+      held = seen_held files behind (behind_held files name load.file);
+      is = is ∙ ap (file_ending name e) (behind_loaded files name input_limit it load);
+    }
+
 -- ---- words other than `commit`
 
 -- words that are `replay`
-pub others_replay : (words : List (List ℕ)) (o : Option (List (List ℕ))) (names : List (List ℕ)) (files : Option Files) (w w' : Option (List ℕ)) (r : Result Status RunFault) → o ≡ Some names → IsReplayOf words o → WritesReplay names files w w' r
-    → WritesOther words files w w' r
+pub others_replay : (words : List (List ℕ)) (o : Option (List (List ℕ))) (names : List (List ℕ)) (files : Option Files) (w w' : Option (List ℕ)) (r : Result Status RunFault) → o ≡ Some names → IsReplayOf words o → WritesSeen (replay_outcome names) files w w' r
+    → WritesSeen (other_outcome words) files w w' r
 others_replay words o names files w w' r some said replay =
     let is : (is_replay words ≡ true) × (replayed_files words ≡ names) = subst (IsReplayOf words) some said in
     let same : other_outcome words replay.seen ≡ replay_outcome names replay.seen = of_replay words is.0 replay.seen ∙ ap (λ ns. replay_outcome ns replay.seen) is.1 in
     record { seen = replay.seen; held = replay.held; writes = subst (λ o. WritesLast o w w' r) (sym same) replay.writes }
 
--- words that are `gen`, or name no command
-pub others_unread : (words : List (List ℕ)) (o : Option (List (List ℕ))) (files : Option Files) (w w' : Option (List ℕ)) (before after : Counts) (r : Result Status RunFault) → o ≡ None → IsReplayOf words o → Writes (gen_text (gen_numbers words)) w w' before after r
-    → IfOk r (λ s. s.0 ≡ gen_status (gen_numbers words)) → WritesOther words files w w' r
-others_unread words o files w w' before after r none said writes status =
+-- other words
+pub others_last : (words : List (List ℕ)) (o : Option (List (List ℕ))) (files : Option Files) (w w' : Option (List ℕ)) (r : Result Status RunFault) → o ≡ None → IsReplayOf words o
+    → WritesSeen (λ seen. last_outcome words seen (snapshot_words words)) files w w' r → WritesSeen (other_outcome words) files w w' r
+others_last words o files w w' r none said last =
     let is : is_replay words ≡ false = subst (IsReplayOf words) none said in
+    record { seen = last.seen; held = last.held; writes = subst (λ o. WritesLast o w w' r) (sym (of_last words is last.seen)) last.writes }
+
+-- words that are `snapshot`
+pub last_snapshot : (words : List (List ℕ)) (named : List ℕ × ℕ) (files : Option Files) (w w' : Option (List ℕ)) (r : Result Status RunFault) → Some named ≡ snapshot_words words → WritesSeen (snapshot_outcome named) files w w' r
+    → WritesSeen (λ seen. last_outcome words seen (snapshot_words words)) files w w' r
+last_snapshot words named files w w' r is writes = subst (λ o. WritesSeen (λ seen. last_outcome words seen o) files w w' r) is writes
+
+-- words that are `gen`, or name no command
+pub last_unread : (words : List (List ℕ)) (files : Option Files) (w w' : Option (List ℕ)) (before after : Counts) (r : Result Status RunFault) → None ≡ snapshot_words words → Writes (gen_text (gen_numbers words)) w w' before after r
+    → IfOk r (λ s. s.0 ≡ gen_status (gen_numbers words)) → WritesSeen (λ seen. last_outcome words seen (snapshot_words words)) files w w' r
+last_unread words files w w' before after r is writes status =
     let seen : ℕ → Files = λ _. files_behind files [] None in
-    record {
+    subst (λ o. WritesSeen (λ seen. last_outcome words seen o) files w w' r) is
+    (record {
       seen = seen;
       held = seen_any files;
-      writes = subst (λ o. WritesLast o w w' r) (sym (of_unread words is seen)) (record { whole = writes.whole; part = writes.part; status = status });
-    }
+      writes = record { whole = writes.whole; part = writes.part; status = status };
+    })
 
 -- memory ran out before anything was written
 pub nothing_written : {T : Type 0} (text : List ℕ) (w : Option (List ℕ)) (before : Counts) (r : Result T RunFault) → IsErrAnd r (λ e. e ≡ fault.Memory) → Writes text w w before before r
@@ -125,12 +182,16 @@ record IsUnread (o : Outcome) (all : Files) : Type 0 where
 unread_others : (words : List (List ℕ)) (seen : ℕ → Files) → IsUnread (other_outcome words seen) (seen 0)
 unread_others words seen = by (is_replay words)
   where
-    by : (b : Bool) → IsUnread (if b then replay_outcome (replayed_files words) seen else gen_outcome (gen_numbers words) (seen 0)) (seen 0)
+    last : (o : Option (List ℕ × ℕ)) → IsUnread (last_outcome words seen o) (seen 0)
+    last None = record { is = refl }
+    last (Some named) = record { is = refl }
+
+    by : (b : Bool) → IsUnread (if b then replay_outcome (replayed_files words) seen else last_outcome words seen (snapshot_words words)) (seen 0)
     by true = record { is = refl }
-    by false = record { is = refl }
+    by false = last (snapshot_words words)
 
 pub runs_others : {S : Type 0} (words : List (List ℕ)) (left : S → Option (List ℕ)) (input : S) (w w' : Option (List ℕ)) (files files' : Option Files) (before after : Counts) → before.source ≡ 0 → after.source ≡ 0 → (r : Result Status RunFault)
-    → is_commit words ≡ false → WritesOther words files w w' r → HasRunCause before after r → IfOk r (λ s. IsEnd s.0) → files' ≡ files → RunsSeen (outcome words) left input input w w' files files' (status_by r)
+    → is_commit words ≡ false → WritesSeen (other_outcome words) files w w' r → HasRunCause before after r → IfOk r (λ s. IsEnd s.0) → files' ≡ files → RunsSeen (outcome words) left input input w w' files files' (status_by r)
 runs_others {S} words left input w w' files files' before after none none' r other writes cause ended kept = record {
   seen = writes.seen;
   held = writes.held;

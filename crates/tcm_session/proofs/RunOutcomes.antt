@@ -8,11 +8,11 @@ use Rattle.tcm_edges.specs.Files.{Files}
 use Rattle.tcm_edges.specs.Owed.{WritesPrefix}
 use Rattle.tcm_edges.proofs.OwedLemmas.{WritesPrefix-more}
 use Rattle.tcm_session.specs.Endings.{ending_lines, ending_status, ending_text}
-use Rattle.tcm_session.specs.Generated.{gen_numbers}
 use Rattle.tcm_session.specs.Lines.{whole_lines, open_line, if_any, script_lines}
 use Rattle.tcm_session.specs.LogFiles.{Gains, entry_lines, with_added}
 use Rattle.tcm_session.specs.Machine.{SessionState, answers, entries_added, session_after, session_over}
-use Rattle.tcm_session.specs.Outcome.{Outcome, Start, commit_outcome, files_with, gen_outcome, input_limit, is_commit, is_replay, large_outcome, log_file, other_outcome, outcome, printed_by, replay_outcome, replayed_files, script_outcome, too_large_text, whole_outcome}
+use Rattle.tcm_session.specs.Outcome.{Outcome, Start, commit_outcome, files_with, input_limit, is_commit, is_replay, large_outcome, last_outcome, log_file, other_outcome, outcome, printed_by, replay_outcome, replayed_files, script_outcome, too_large_text, whole_outcome}
+use Rattle.tcm_session.specs.StateLine.{snapshot_words}
 use Rattle.tcm_session.specs.Runs.{MayHold, ReadsTo, Standing, StopsAt, standing}
 use Rattle.tcm_session.specs.declared.fault.RunFault.{RunFault}
 use Rattle.tcm_session.specs.declared.reading.ReadEnd.{ReadEnd}
@@ -217,7 +217,7 @@ module _ (words : List (List ℕ)) where
   of_others e seen input = ap (λ b. cond b (commit_outcome (log_file words) (seen 0) input) (other_outcome words seen)) e
 
   pub of_replay : is_replay words ≡ true → (seen : ℕ → Files) → other_outcome words seen ≡ replay_outcome (replayed_files words) seen
-  of_replay e seen = ap (λ b. cond b (replay_outcome (replayed_files words) seen) (gen_outcome (gen_numbers words) (seen 0))) e
+  of_replay e seen = ap (λ b. cond b (replay_outcome (replayed_files words) seen) (last_outcome words seen (snapshot_words words))) e
 
-  pub of_unread : is_replay words ≡ false → (seen : ℕ → Files) → other_outcome words seen ≡ gen_outcome (gen_numbers words) (seen 0)
-  of_unread e seen = ap (λ b. cond b (replay_outcome (replayed_files words) seen) (gen_outcome (gen_numbers words) (seen 0))) e
+  pub of_last : is_replay words ≡ false → (seen : ℕ → Files) → other_outcome words seen ≡ last_outcome words seen (snapshot_words words)
+  of_last e seen = ap (λ b. cond b (replay_outcome (replayed_files words) seen) (last_outcome words seen (snapshot_words words))) e

@@ -1,5 +1,5 @@
 -- Followers of one log: what a step leaves of a follower.
-use Rattle.std.proofs.Common.{◌≡◌, ℕ, ◌+◌, ◌-◌, ◌≤◌, ◌==◌, Bool, true, false, if◌then◌else◌, List, [], ◌∷◌, ◌++◌, filter, take, length, Option, Some, None, is_some, Result, Ok, Err, IsOk, nat_le, nat_lt, codes, refl, sym, ap, ◌∙◌, subst, arith, length-take-le}
+use Rattle.std.proofs.Common.{◌≡◌, ℕ, ◌+◌, ◌-◌, ◌≤◌, ◌==◌, Bool, true, false, if◌then◌else◌, List, [], ◌∷◌, filter, take, length, Option, Some, None, is_some, Result, Ok, Err, IsOk, nat_le, nat_lt, codes, refl, sym, ap, ◌∙◌, subst, arith, length-take-le}
 use Rattle.std.specs.List.{Contains, slice_get}
 use Rattle.std.proofs.lemmas.Bool.Decides.{nat_tests}
 use Rattle.std.proofs.lemmas.Option.{get_or_from_slice_get, none-some, slice_get_within}
@@ -15,13 +15,15 @@ use Rattle.transformations.specs.declared.image.Image.{Image}
 use Rattle.transformations.specs.declared.refusal.Refusal.{Refusal}
 use Rattle.epoch_log.specs.Epochs.{entry_at}
 use Rattle.follower_log.proofs.ShowsLemmas.{entry_shows, image_shows, prefix_ends}
-use Rattle.follower_log.specs.Follower.{Performs, FollowerState, Handed, advanced, by_epoch, cut_first, hand_above, hand_entry, hand_image, is_full, is_next, is_same, stays, unless_dropped, waiting_at}
+use Rattle.follower_log.specs.Follower.{Performs, FollowerState, Handed, advanced, by_epoch, cut_first, hand_above, hand_entry, hand_image, hand_valid, is_full, is_next, is_same, stays, unless_bad, unless_dropped, waiting_at}
 use Rattle.follower_log.specs.Prefix.{IsImageOf, IsPrefix, StandsAfter, StandsFor, Taken, with_entry, with_image}
+use Rattle.transformations.specs.ImageRules.{bad_of}
+use Rattle.transformations.specs.declared.image_rules.BadImage.{BadImage as BadRule}
 use Rattle.follower_log.specs.declared.fault.FollowerFault.{FollowerFault}
-use Rattle.follower_log.specs.declared.fault.FollowerFault.TheVariants.{Fork, Refused, Memory, MemoryAt}
+use Rattle.follower_log.specs.declared.fault.FollowerFault.TheVariants.{Fork, Refused, BadImage, Memory, MemoryAt}
 use Rattle.follower_log.specs.declared.took.Took.{Took}
 use Rattle.follower_log.specs.declared.took.Took.TheVariants.{At, Old, Held, Full}
-use Rattle.script_lang.specs.Texts.{epoch_text, no_text}
+use Rattle.script_lang.specs.Texts.{no_text}
 use Rattle.tcm_session.specs.Machine.{Reply, SessionState, follower_named, follower_reply, image_at, made_reply, most_followers, no_epoch, only_answers}
 use Rattle.tcm_session.specs.Steps.{FollowsLog}
 use Rattle.tcm_session.specs.Taken.{ShowsPrefix, unless_full}
@@ -36,6 +38,7 @@ Tells f (Ok (Held epoch)) g = g ≡ f
 Tells f (Ok (Full epoch)) g = g ≡ f
 Tells f (Err (Fork epoch held came)) g = Unit {0}
 Tells f (Err (Refused epoch refusal)) g = Unit {0}
+Tells f (Err (BadImage bad)) g = Unit {0}
 Tells f (Err Memory) g = ⊥
 Tells f (Err (MemoryAt epoch)) g = ⊥
 
@@ -71,12 +74,19 @@ entry_tells f entry = by (nat_le entry.epoch f.image.epoch)
     by true = refl
     by false = above (waiting_at f.waiting entry.epoch)
 
-pub image_tells : (f : FollowerState) (image : Image) → Tells f (hand_image f image).answer (hand_image f image).after
-image_tells f image = by (nat_le image.epoch f.image.epoch)
+valid_tells : (f : FollowerState) (image : Image) → StepTells f (hand_valid f image)
+valid_tells f image = by (nat_le image.epoch f.image.epoch)
   where
     by : (b : Bool) → StepTells f (if b then stays f (Ok (Old f.image.epoch)) else advanced image (filter (λ (entry : Entry). nat_lt image.epoch entry.epoch) f.waiting))
     by true = refl
     by false = advanced_tells f image (filter (λ (entry : Entry). nat_lt image.epoch entry.epoch) f.waiting)
+
+pub image_tells : (f : FollowerState) (image : Image) → Tells f (hand_image f image).answer (hand_image f image).after
+image_tells f image = by (bad_of image)
+  where
+    by : (bad : Option BadRule) → StepTells f (unless_bad bad f (hand_valid f image))
+    by None = valid_tells f image
+    by (Some bad) = tt
 
 comes_to : (f : FollowerState) (step : Handed) → StepTells f step → Performs f step step.answer step.after
 comes_to f step tells = by step.answer refl tells
@@ -85,6 +95,7 @@ comes_to f step tells = by step.answer refl tells
     by (Ok took) same tells = (same, refl)
     by (Err (Fork epoch held came)) same tells = (same, refl)
     by (Err (Refused epoch refusal)) same tells = (same, refl)
+    by (Err (BadImage bad)) same tells = (same, refl)
     by (Err Memory) same tells = absurd tells
     by (Err (MemoryAt epoch)) same tells = absurd tells
 
@@ -96,6 +107,7 @@ stands_after log before after f g (Ok (Held epoch)) shows tells = shows
 stands_after log before after f g (Ok (Full epoch)) shows tells = shows
 stands_after log before after f g (Err (Fork epoch held came)) shows tells = absurd shows
 stands_after log before after f g (Err (Refused epoch refusal)) shows tells = absurd shows
+stands_after log before after f g (Err (BadImage bad)) shows tells = absurd shows
 stands_after log before after f g (Err Memory) shows tells = absurd tells
 stands_after log before after f g (Err (MemoryAt epoch)) shows tells = absurd tells
 
@@ -115,6 +127,7 @@ prefix_after log before after f g r is at shows tells = by r shows tells
     by (Ok (Full epoch)) shows tells = subst (λ (h : FollowerState). IsPrefix before h.image.epoch) (sym tells) at.longest
     by (Err (Fork epoch held came)) shows tells = absurd shows
     by (Err (Refused epoch refusal)) shows tells = absurd shows
+    by (Err (BadImage bad)) shows tells = absurd shows
     by (Err Memory) shows tells = absurd tells
     by (Err (MemoryAt epoch)) shows tells = absurd tells
 
@@ -129,17 +142,22 @@ image_leaves : (log : List Entry) (taken : Taken) (f : FollowerState) (image : I
 image_leaves log taken f image is of stands =
     image_shows log taken f (hand_image f image).after image (hand_image f image).answer is of stands (comes_to f (hand_image f image) (image_tells f image))
 
--- no fork and no refusal comes
+-- no fork, no refusal and no bad image comes
 ok_after : (log : List Entry) (before after : Taken) (f g : FollowerState) (r : Result Took FollowerFault) → StandsAfter log before after r g → Tells f r g → IsOk r
 ok_after log before after f g (Ok t) shows tells = refl
 ok_after log before after f g (Err (Fork epoch held came)) shows tells = absurd shows
 ok_after log before after f g (Err (Refused epoch refusal)) shows tells = absurd shows
+ok_after log before after f g (Err (BadImage bad)) shows tells = absurd shows
 ok_after log before after f g (Err Memory) shows tells = absurd tells
 ok_after log before after f g (Err (MemoryAt epoch)) shows tells = absurd tells
 
 pub entry_ok : (log : List Entry) (taken : Taken) (f : FollowerState) (entry : Entry) → IsLog log → Contains log entry → StandsFor log taken f → IsOk (hand_entry f entry).answer
 entry_ok log taken f entry is there stands =
     ok_after log taken (with_entry taken entry.epoch) f (hand_entry f entry).after (hand_entry f entry).answer (entry_leaves log taken f entry is there stands) (entry_tells f entry)
+
+pub image_ok : (log : List Entry) (taken : Taken) (f : FollowerState) (image : Image) → IsLog log → IsImageOf log image → StandsFor log taken f → IsOk (hand_image f image).answer
+image_ok log taken f image is of stands =
+    ok_after log taken (with_image taken image.epoch) f (hand_image f image).after (hand_image f image).answer (image_leaves log taken f image is of stands) (image_tells f image)
 
 pub entry_shown : (log : List Entry) (taken : Taken) (f : FollowerState) (entry : Entry) → IsLog log → Contains log entry → ShowsPrefix log taken f
     → ShowsPrefix log (unless_full (hand_entry f entry).answer taken (with_entry taken entry.epoch)) (hand_entry f entry).after

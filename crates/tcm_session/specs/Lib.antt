@@ -15,5 +15,6 @@ pub mod Replays
 pub mod Run
 pub mod Runs
 pub mod Shown
+pub mod StateLine
 pub mod Steps
 pub mod Taken

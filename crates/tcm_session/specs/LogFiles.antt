@@ -11,7 +11,7 @@ use Rattle.wire_json.specs.declared.line.Line.{Line}
 use Rattle.wire_json.specs.declared.line.Line.TheVariants as line
 use Rattle.wire_json.specs.declared.line.ReadLineFault.{ReadLineFault}
 use Rattle.wire_json.specs.declared.line.ReadLineFault.TheVariants as read
-use Rattle.script_lang.specs.Texts.{line as with_feed, refusal_text}
+use Rattle.script_lang.specs.Texts.{bad_image_text, line as with_feed, refusal_text}
 use Rattle.tcm_session.specs.Lines.{open_line, whole_lines}
 use Rattle.tcm_session.specs.declared.refused_line.Cause.{Cause}
 use Rattle.tcm_session.specs.declared.refused_line.Cause.TheVariants as cause
@@ -48,6 +48,7 @@ unless_refused entry (Some cause) = Err cause
 -- without memory)
 abbrev pub entry_read : List Entry → Result Line ReadLineFault → Result Entry Cause
 entry_read log (Ok (line.Entry entry)) = unless_refused entry (entry_cause log entry)
+entry_read log (Ok (line.Snapshot image)) = Err cause.NotEntry
 entry_read log (Err (read.Bad rule)) = Err (cause.Line rule)
 entry_read log (Err read.Memory) = Err (cause.Line 0)
 
@@ -72,8 +73,10 @@ log_of file = log_from [] (whole_lines file)
 
 abbrev pub cause_text : Cause → List ℕ
 cause_text (cause.Line rule) = codes "LINE " ++ decimal rule
+cause_text cause.NotEntry = codes "NOT-ENTRY"
 cause_text (cause.Epoch want came) = codes "EPOCH " ++ decimal want ++ codes " " ++ decimal came
 cause_text (cause.Id id epoch) = codes "ID " ++ decimal id ++ codes " " ++ decimal epoch
+cause_text (cause.Image bad) = codes "IMAGE " ++ bad_image_text bad
 cause_text (cause.Command epoch refusal) = codes "COMMAND " ++ decimal epoch ++ codes " " ++ refusal_text refusal
 cause_text (cause.Fork epoch held came) = codes "FORK " ++ decimal epoch
 

@@ -92,7 +92,7 @@ follower_reply session name =
     if is_some (follower_named session.followers name) then only_answers session (no_text (codes "FOLLOWER-TAKEN"))
     else follower_unless_full session name
 
--- what became of what a follower was handed; a fork and a refusal don't come in a session
+-- what became of what a follower was handed; a fork, a refusal and a bad image don't come in a session
 abbrev pub handed_text : Result Took FollowerFault → List ℕ
 handed_text (Ok (At epoch)) = epoch_text (codes "AT") epoch
 handed_text (Ok (Old epoch)) = epoch_text (codes "OLD") epoch

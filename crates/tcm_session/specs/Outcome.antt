@@ -13,6 +13,8 @@ pub use Rattle.tcm_session.specs.Limits.{input_limit, too_large_text}
 use Rattle.tcm_session.specs.LogFiles.{cut_to_lines, entry_lines, log_of, refused_line_text, with_added}
 use Rattle.tcm_session.specs.Machine.{answers, entries_added, session_over}
 use Rattle.tcm_session.specs.Replay.{replay_ending}
+use Rattle.tcm_session.specs.StateLine.{snapshot_ending, snapshot_words}
+use Rattle.tcm_session.specs.declared.ending.Ending.{Ending}
 use Rattle.tcm_session.specs.declared.refused_line.RefusedLine.{RefusedLine}
 
 -- the log from which lines are answered, these lines, the text that is printed after their answers, and the status
@@ -93,9 +95,9 @@ abbrev pub replayed_files : List (List ℕ) → List (List ℕ)
 replayed_files [] = []
 replayed_files (word ∷ names) = names
 
--- whether the words name a file: a log file, or files that are replayed
+-- whether the words name a file: a log file, files that are replayed, or a log file whose state is shown
 abbrev pub names_file : List (List ℕ) → Bool
-names_file words = is_some (named_log words) || is_replay words
+names_file words = is_some (named_log words) || (is_replay words || is_some (snapshot_words words))
 
 -- a script from the log in a file; if the log is refused, no line is answered
 abbrev pub outcome_from : List ℕ → Files → List ℕ → Result (List Entry) RefusedLine → List ℕ → Outcome
@@ -114,9 +116,17 @@ abbrev pub commit_outcome : Option (List ℕ) → Files → List ℕ → Outcome
 commit_outcome None all input = script_outcome (record { log = []; file = None; files = all }) input
 commit_outcome (Some name) all input = outcome_loaded name all (loaded_of (file_of all name) input_limit) input
 
+-- an end that reads no input, and changes no file
+abbrev pub ended_outcome : Ending → Files → Outcome
+ended_outcome ending all = unread_outcome ending.status ending.text all
+
 -- the outcome of `replay`
 abbrev pub replay_outcome : List (List ℕ) → (ℕ → Files) → Outcome
-replay_outcome names seen = (let ending = replay_ending names seen in unread_outcome ending.status ending.text (seen 0))
+replay_outcome names seen = ended_outcome (replay_ending names seen) (seen 0)
+
+-- the outcome of `snapshot` with this file and this epoch
+abbrev pub snapshot_outcome : List ℕ × ℕ → (ℕ → Files) → Outcome
+snapshot_outcome named seen = ended_outcome (snapshot_ending named.0 named.1 seen) (seen 0)
 
 -- the status and the text of `gen` with these numbers, or of words that name no command
 abbrev pub gen_status : Option (ℕ × ℕ) → ℕ
@@ -130,10 +140,15 @@ gen_text (Some (start, rounds)) = summary start rounds
 abbrev pub gen_outcome : Option (ℕ × ℕ) → Files → Outcome
 gen_outcome numbers all = unread_outcome (gen_status numbers) (gen_text numbers) all
 
+-- the outcome of words other than `commit` and `replay`
+abbrev pub last_outcome : List (List ℕ) → (ℕ → Files) → Option (List ℕ × ℕ) → Outcome
+last_outcome words seen None = gen_outcome (gen_numbers words) (seen 0)
+last_outcome words seen (Some named) = snapshot_outcome named seen
+
 -- the outcome of words other than `commit`
 abbrev pub other_outcome : List (List ℕ) → (ℕ → Files) → Outcome
 other_outcome words seen =
-    if is_replay words then replay_outcome (replayed_files words) seen else gen_outcome (gen_numbers words) (seen 0)
+    if is_replay words then replay_outcome (replayed_files words) seen else last_outcome words seen (snapshot_words words)
 
 -- the outcome of a run, by its words, the files as each of its loads finds them, and its input
 unfoldable pub outcome : List (List ℕ) → (ℕ → Files) → List ℕ → Outcome

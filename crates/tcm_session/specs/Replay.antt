@@ -4,7 +4,8 @@ use Rattle.tcm_edges.specs.Files.{Files, file_of, loaded_of}
 use Rattle.tcm_edges.specs.declared.store.Loaded.{Loaded}
 use Rattle.tcm_edges.specs.declared.store.Loaded.TheVariants as loaded
 use Rattle.transformations.specs.declared.entry.Entry.{Entry}
-use Rattle.follower_log.specs.Follower.{FollowerState, empty_follower, hand_entry}
+use Rattle.transformations.specs.declared.image.Image.{Image}
+use Rattle.follower_log.specs.Follower.{FollowerState, empty_follower, hand_entry, hand_image}
 use Rattle.follower_log.specs.declared.fault.FollowerFault.{FollowerFault}
 use Rattle.follower_log.specs.declared.fault.FollowerFault.TheVariants as fault
 use Rattle.follower_log.specs.declared.took.Took.{Took}
@@ -35,22 +36,27 @@ abbrev pub full_count : Took → ℕ
 full_count (Full epoch) = 1
 full_count _ = 0
 
--- the replay after a line was answered; a fork, and an entry whose command is refused, refuse the line (a step of a
--- follower is never without memory)
+-- the replay after a line was answered; a fork, an entry whose command is refused, and an image that isn't valid refuse
+-- the line (a step of a follower is never without memory)
 abbrev pub answered : Replay → FollowerState → Result Took FollowerFault → Result Replay Cause
 answered replay after (Ok took) = Ok (record { follower = after; lines = replay.lines + 1; full = replay.full + full_count took })
 answered replay after (Err (fault.Fork epoch held came)) = Err (cause.Fork epoch held came)
 answered replay after (Err (fault.Refused epoch refusal)) = Err (cause.Command epoch refusal)
+answered replay after (Err (fault.BadImage bad)) = Err (cause.Image bad)
 answered replay after (Err fault.Memory) = Err (cause.Line 0)
 answered replay after (Err (fault.MemoryAt epoch)) = Err (cause.Line 0)
 
--- an entry is handed to the follower
+-- an entry is handed to the follower; or an image
 abbrev pub entry_replayed : Replay → Entry → Result Replay Cause
 entry_replayed replay entry = (let step = hand_entry replay.follower entry in answered replay step.after step.answer)
+
+abbrev pub image_replayed : Replay → Image → Result Replay Cause
+image_replayed replay image = (let step = hand_image replay.follower image in answered replay step.after step.answer)
 
 -- what was read as a line; a line that breaks a rule is refused (a reading is never without memory)
 abbrev pub read_replayed : Replay → Result Line ReadLineFault → Result Replay Cause
 read_replayed replay (Ok (line.Entry entry)) = entry_replayed replay entry
+read_replayed replay (Ok (line.Snapshot image)) = image_replayed replay image
 read_replayed replay (Err (read.Bad rule)) = Err (cause.Line rule)
 read_replayed replay (Err read.Memory) = Err (cause.Line 0)
 

@@ -5,8 +5,9 @@ use Rattle.tcm_edges.specs.Files.{Files, file_of, loaded_of}
 use Rattle.tcm_edges.specs.declared.store.Loaded.{Loaded}
 use Rattle.tcm_edges.specs.declared.store.Loaded.TheVariants as loaded
 use Rattle.transformations.specs.declared.entry.Entry.{Entry}
-use Rattle.follower_log.specs.Follower.{FollowerState, empty_follower, hand_entry}
-use Rattle.follower_log.specs.Prefix.{IsEntryOf, Taken, nothing_taken, with_entry}
+use Rattle.transformations.specs.declared.image.Image.{Image}
+use Rattle.follower_log.specs.Follower.{FollowerState, empty_follower, hand_entry, hand_image}
+use Rattle.follower_log.specs.Prefix.{IsEntryOf, IsImageOf, Taken, nothing_taken, with_entry, with_image}
 use Rattle.wire_json.specs.Reading.{reading}
 use Rattle.wire_json.specs.declared.line.Line.{Line}
 use Rattle.wire_json.specs.declared.line.Line.TheVariants as line
@@ -28,15 +29,21 @@ pub record Taking : Type 0 where
 abbrev pub nothing_yet : Taking
 nothing_yet = record { follower = empty_follower; taken = nothing_taken }
 
--- an entry is handed over
+-- an entry is handed over; or an image
 abbrev pub entry_taken : Taking → Entry → Taking
 entry_taken so_far entry =
     let step = hand_entry so_far.follower entry in
     record { follower = step.after; taken = unless_full step.answer so_far.taken (with_entry so_far.taken entry.epoch) }
 
+abbrev pub image_taken : Taking → Image → Taking
+image_taken so_far image =
+    let step = hand_image so_far.follower image in
+    record { follower = step.after; taken = unless_full step.answer so_far.taken (with_image so_far.taken image.epoch) }
+
 -- a line is handed over, and lines, one after another
 abbrev pub read_taken : Taking → Result Line ReadLineFault → Taking
 read_taken so_far (Ok (line.Entry entry)) = entry_taken so_far entry
+read_taken so_far (Ok (line.Snapshot image)) = image_taken so_far image
 read_taken so_far (Err fault) = so_far
 
 abbrev pub lines_taken : Taking → List (List ℕ) → Taking
@@ -59,15 +66,16 @@ taken_of_files names seen = (files_taken nothing_yet names seen).taken
 
 -- ---- files of one log
 
--- a line reads as an entry of a log
-abbrev pub ReadsAsEntry : List Entry → Result Line ReadLineFault → Type 0
-ReadsAsEntry log (Ok (line.Entry entry)) = IsEntryOf log entry
-ReadsAsEntry log (Err fault) = ⊥
+-- a line reads as an entry of a log, or as an image of it
+abbrev pub ReadsAsPart : List Entry → Result Line ReadLineFault → Type 0
+ReadsAsPart log (Ok (line.Entry entry)) = IsEntryOf log entry
+ReadsAsPart log (Ok (line.Snapshot image)) = IsImageOf log image
+ReadsAsPart log (Err fault) = ⊥
 
 abbrev pub AreLinesOf : List Entry → List (List ℕ) → Type 0
-AreLinesOf log lines = AllByRecursion (λ bytes. ReadsAsEntry log (reading bytes)) lines
+AreLinesOf log lines = AllByRecursion (λ bytes. ReadsAsPart log (reading bytes)) lines
 
--- each whole line of these files reads as an entry of a log
+-- each whole line of these files reads as an entry of a log, or as an image of it
 abbrev pub AreFilesOf : List Entry → List (List ℕ) → (ℕ → Files) → Type 0
 AreFilesOf log [] seen = Unit {0}
 AreFilesOf log (name ∷ names) seen =

@@ -1,13 +1,16 @@
--- The parts of a replay (of the code: no promise rests on these).
+-- The parts of a replay, and of other runs that read no input (of the code: no promise rests on these).
 use Rattle.std.specs.Prelude.{◌≡◌, ℕ, ◌+◌, ◌^◌, ◌≤◌, List, length, Option, None, Some, Result, Ok, Err, OnOk, IfOk}
 use Rattle.std.specs.Io.KnownBytes.{Appends}
 use Rattle.tcm_edges.specs.Files.{Files, IsLoad}
 use Rattle.tcm_edges.specs.Owed.{WritesPrefix}
 use Rattle.tcm_edges.specs.declared.store.Loaded.{Loaded}
 use Rattle.tcm_edges.specs.declared.store.Loaded.TheVariants as loaded
+use Rattle.follower_log.specs.declared.fault.FollowerFault.{FollowerFault}
+use Rattle.follower_log.specs.declared.fault.FollowerFault.TheVariants as follower_fault
+use Rattle.follower_log.specs.declared.took.Took.{Took}
 use Rattle.tcm_session.specs.Limits.{input_limit}
-use Rattle.tcm_session.specs.Outcome.{Outcome, other_outcome, replay_outcome}
-use Rattle.tcm_session.specs.Replay.{files_replayed, loaded_replayed, nothing_replayed, replay_ending}
+use Rattle.tcm_session.specs.Outcome.{Outcome}
+use Rattle.tcm_session.specs.Replay.{files_replayed, loaded_replayed, nothing_replayed}
 use Rattle.tcm_session.specs.Run.{AreSeen}
 use Rattle.tcm_session.specs.declared.ending.Ending.{Ending}
 use Rattle.tcm_session.specs.declared.fault.RunFault.{RunFault}
@@ -18,6 +21,12 @@ use Rattle.tcm_session.specs.declared.replay.Replay.{Replay}
 abbrev pub LeadsTo : {E : Type 0} → Option E → Result Replay E → Replay → Type 0
 LeadsTo None given after = given ≡ Ok after
 LeadsTo (Some e) given after = given ≡ Err e
+
+-- a follower found memory for what it was handed
+abbrev pub FoundMemory : Result Took FollowerFault → Type 0
+FoundMemory (Err follower_fault.Memory) = ⊥
+FoundMemory (Err (follower_fault.MemoryAt epoch)) = ⊥
+FoundMemory handed = Unit {0}
 
 -- the counts grow by at most this many lines
 pub record GrowsBy (most : ℕ) (before after : Replay) : Type 0 where
@@ -46,11 +55,11 @@ pub record HandsFiles (ended : Option Ending) (names : List (List ℕ)) (files :
   pub held : AreSeen files seen
   pub leads : LeadsTo ended (files_replayed 1 nothing_replayed names seen) after
 
--- the end of a replay of files
-pub record EndsSo (ending : Ending) (names : List (List ℕ)) (files : Option Files) : Type 0 where
+-- the end of a run that reads no input, by the files that its loads find
+pub record EndsSo (end_by : (ℕ → Files) → Ending) (ending : Ending) (files : Option Files) : Type 0 where
   pub seen : ℕ → Files
   pub held : AreSeen files seen
-  pub is : ending ≡ replay_ending names seen
+  pub is : ending ≡ end_by seen
 
 -- an outcome that reads no input: its text is written, or a prefix of it
 pub record WritesLast (o : Outcome) (written written' : Option (List ℕ)) (result : Result Status RunFault) : Type 0 where
@@ -58,14 +67,8 @@ pub record WritesLast (o : Outcome) (written written' : Option (List ℕ)) (resu
   pub part : WritesPrefix written written' o.last
   pub status : IfOk result (λ status. status.0 ≡ o.status)
 
--- files were replayed
-pub record WritesReplay (names : List (List ℕ)) (files : Option Files) (written written' : Option (List ℕ)) (result : Result Status RunFault) : Type 0 where
+-- a run that reads no input: it writes the text of its outcome, by the files that its loads find
+pub record WritesSeen (outcome_by : (ℕ → Files) → Outcome) (files : Option Files) (written written' : Option (List ℕ)) (result : Result Status RunFault) : Type 0 where
   pub seen : ℕ → Files
   pub held : AreSeen files seen
-  pub writes : WritesLast (replay_outcome names seen) written written' result
-
--- a run by words other than `commit`
-pub record WritesOther (words : List (List ℕ)) (files : Option Files) (written written' : Option (List ℕ)) (result : Result Status RunFault) : Type 0 where
-  pub seen : ℕ → Files
-  pub held : AreSeen files seen
-  pub writes : WritesLast (other_outcome words seen) written written' result
+  pub writes : WritesLast (outcome_by seen) written written' result

@@ -14,8 +14,9 @@ use Rattle.tcm_session.specs.ReplayPrefix.{AreFilesOf, ReportsPrefix, taken_of_f
 use Rattle.tcm_session.specs.Shown.{PrintsMeeting}
 use Rattle.tcm_session.specs.Taken.{FollowersShow}
 
--- the statuses: the end of the input or of a replay, out of memory, the usage line, a line of a file that is refused, a
--- fault of the source, of the sink or of the store, a file that is absent, an input or a file that is too large
+-- the statuses: the end of the input, of a replay, of a state or of a summary, out of memory, the usage line, a line of a
+-- file that is refused, a fault of the source, of the sink or of the store, a file or an epoch that is absent, an input or
+-- a file that is too large
 abbrev pub IsStatus : ℕ → Type 0
 IsStatus status =
     IsTrue ((status == 0) || (status == 1) || (status == 2) || (status == 3) || (status == 4) || (status == 5) || (status == 6) || (status == 7) || (status == 8))
@@ -67,15 +68,16 @@ pub record ReadsFor {S : Type 0} (o : Outcome) (left : S → Option (List ℕ)) 
   pub past_limit : status ≡ 8 → o.reads ≡ true → length reads.read ≡ input_limit + 1
   pub unread : o.reads ≡ false → (input' ≡ input) × (status ≢ 4)
 
--- a replay of files of one log refuses no line, and prints the report of a follower at the end of the longest gapless
--- prefix of what it took
+-- a replay of files of one log, with entries and images of it, refuses no line, and prints the report of a follower at
+-- the end of the longest gapless prefix of what it took
 pub record ReplaysLog (words : List (List ℕ)) (seen : ℕ → Files) (log : List Entry) (printed : List ℕ) (status : ℕ) : Type 0 where
   pub unrefused : status ≢ 3
   pub reports : status ≡ 0 → ReportsPrefix log (taken_of_files (replayed_files words) seen) printed
 
 -- a run for these words: it prints the bytes of their outcome, it reads as its outcome says, and the quorums in the
--- printed lines meet (`ShownMeet`), unless the name of an absent file is printed, which may hold any line; each follower
--- of a script, and that of a replay of files of one log, shows the longest gapless prefix of what it took (`ShowsPrefix`)
+-- printed lines meet (`ShownMeet`), unless the status is 7, as the name of an absent file may hold any line; each
+-- follower of a script, and that of a replay of files of one log, shows the longest gapless prefix of what it took
+-- (`ShowsPrefix`)
 pub record IsRun {S : Type 0} (words : List (List ℕ)) (left : S → Option (List ℕ)) (input input' : S) (written written' : Option (List ℕ)) (files files' : Option Files) (status : ℕ) : Type 0 where
   pub given : Given (left input) files
   pub comes : ComesTo (outcome words given.seen given.input) written written' files' status

@@ -101,11 +101,12 @@ pub record Notes {T : Type 0} (entry : Entry) (name : Option (List ℕ)) (log lo
   pub fault : IfErr result (λ e. Leaves e name (entry ∷ []) files files' before after)
   pub later : before ≤ after
 
--- what a follower was handed is of the log of its session: a fork and a refusal don't come (of the code: no promise
--- rests on it, nor on the next)
+-- what a follower was handed is of the log of its session: a fork, a refusal and a bad image don't come (of the code: no
+-- promise rests on it, nor on the next)
 abbrev pub IsOfOneLog : Result Took FollowerFault → Type 0
 IsOfOneLog (Err (follower_fault.Fork epoch held came)) = ⊥
 IsOfOneLog (Err (follower_fault.Refused epoch refusal)) = ⊥
+IsOfOneLog (Err (follower_fault.BadImage bad)) = ⊥
 IsOfOneLog handed = Unit {0}
 
 -- what became of what was handed over is added to the output, if memory was found

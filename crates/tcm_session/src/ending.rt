@@ -1,13 +1,14 @@
-//! The texts with which a replay ends before the end of its files.
+//! The texts with which a run ends that reads no input.
 
-ghost use Rattle.std.specs.Prelude.{◌≡◌, ◌++◌, codes, IfOk};
-ghost use Rattle.script_lang.specs.Texts.{line};
+ghost use Rattle.std.specs.Prelude.{◌≡◌, ◌++◌, codes, decimal, IfOk};
+ghost use Rattle.script_lang.specs.Texts.{line, no_text};
 ghost use Rattle.tcm_session.specs.Limits.{too_large_text};
 ghost use Rattle.tcm_session.specs.LogFiles as log_file;
 
 use crate::limits::TOO_LARGE;
 use crate::refused_line::{RefusedLine, refused_line_text};
 use cluster_terms::{ByteText, Memory};
+use script_lang::no_epoch_text;
 use std::alloc::Global;
 
 /// The end of a run that reads no input: its status, and the text that is printed.
@@ -37,6 +38,16 @@ impl Ending {
         let mut text = ByteText::empty(alloc);
         text.extend(TOO_LARGE.as_bytes())?;
         Ok(Ending { status: 8, text })
+    }
+
+    /// The end at an epoch that a log hasn't reached; `last` is its last epoch. Fails only if memory runs out.
+    pub fn past_last(alloc: Global, last: u64) -> Result<Ending, Memory>
+        ensures { IfOk result (λ ending. ending
+            ≡ record { status = 7; text = no_text (codes "EPOCH " ++ decimal last) }) }
+    {
+        let mut text = ByteText::empty(alloc);
+        no_epoch_text(last, &mut text)?;
+        Ok(Ending { status: 7, text })
     }
 
     /// The end at a line that is refused. Fails only if memory runs out.

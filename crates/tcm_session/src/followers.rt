@@ -85,7 +85,7 @@ fn took_text(took: Took, out: &mut ByteText) -> Result<(), Memory>
 }
 
 /// Answers a line that handed something to a follower, with what became of it. A session hands over what its log says,
-/// so a fork and a refusal don't come.
+/// so a fork, a refusal and a bad image don't come.
 pub fn answer_handed(
     handed: Result<Took, FollowerFault>,
     out: &mut ByteText,
@@ -102,6 +102,7 @@ pub fn answer_handed(
         Err(FollowerFault::MemoryAt(_)) => Err(StepFault::Memory),
         Err(FollowerFault::Fork(_, _, _)) => unreachable!(),
         Err(FollowerFault::Refused(_, _)) => unreachable!(),
+        Err(FollowerFault::BadImage(_)) => unreachable!(),
     }
 }
 

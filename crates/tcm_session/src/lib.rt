@@ -19,6 +19,7 @@ mod replay;
 mod report;
 mod script;
 mod session;
+mod state_line;
 mod validity;
 
 pub use fault::StepFault;

@@ -12,9 +12,10 @@ ghost use Rattle.tcm_session.specs.Generated as generated;
 ghost use Rattle.tcm_session.specs.LogFiles.{Gains, entry_lines, log_of};
 ghost use Rattle.tcm_session.specs.LogFiles as log_file;
 ghost use Rattle.tcm_session.specs.Machine.{entries_added, session_over};
-ghost use Rattle.tcm_session.specs.Outcome.{commit_outcome, gen_status, gen_text, is_commit, is_replay, named_log, names_file, outcome, outcome_from, script_outcome};
+ghost use Rattle.tcm_session.specs.Outcome.{commit_outcome, gen_status, gen_text, is_commit, is_replay, last_outcome, named_log, names_file, other_outcome, outcome, outcome_from, script_outcome};
 ghost use Rattle.tcm_session.specs.Outcome as outcomes;
-ghost use Rattle.tcm_session.specs.Replays.{WritesOther, WritesReplay};
+ghost use Rattle.tcm_session.specs.Replays.{WritesSeen};
+ghost use Rattle.tcm_session.specs.StateLine as state_line;
 ghost use Rattle.tcm_session.specs.Run.{ComesSurely, HasStatus, IsRun};
 ghost use Rattle.tcm_session.specs.Runs.{IsEnd, LeavesStore, RunsOn, RunsOnAny, RunsSeen, Writes};
 ghost use Rattle.tcm_session.specs.Loading.{IsCut, IsLinesPart, TakesFile};
@@ -29,6 +30,7 @@ use crate::refused_line::{RefusedLine, refused_line_text};
 use crate::report::replay_files;
 use crate::script::answer_line;
 use crate::session::Session;
+use crate::state_line::{show_state, snapshot_words};
 use cluster_terms::ByteText;
 use std::alloc::Global;
 use tcm_edges::{
@@ -41,10 +43,10 @@ const USAGE: &str = "usage: tcm commit [LOG] | replay FILE.. | snapshot LOG E | 
 /// The most files of a replay.
 const MOST_FILES: usize = 64;
 
-/// The status of a run: 0 if the input was read to its end, all files were replayed or the answers to a generated
-/// script were counted, 1 if memory ran out, 2 for words that name no command, 3 if a line of a file is refused, 4 if the
-/// source failed, 5 if the sink failed, 6 if the store failed, 7 if a file is absent, 8 if the input or a file is too
-/// large. `run` explains each status.
+/// The status of a run: 0 if the input was read to its end, all files were replayed, a state was printed or the answers to
+/// a generated script were counted, 1 if memory ran out, 2 for words that name no command, 3 if a line of a file is
+/// refused, 4 if the source failed, 5 if the sink failed, 6 if the store failed, 7 if a file or an epoch is absent, 8 if
+/// the input or a file is too large. `run` explains each status.
 #[derive(Clone, Copy, Debug, PartialEq, Eq)]
 pub struct Status(pub u8);
 
@@ -366,7 +368,7 @@ fn replay<K: Sink, D: Store>(
     store: &mut D,
 ) -> Result<Status, RunFault>
     requires { length names.now ≤ 64 }
-    ensures writes { WritesReplay (map string_bytes names.now) (D.files store.old)
+    ensures writes { WritesSeen (outcomes.replay_outcome (map string_bytes names.now)) (D.files store.old)
         (K.written out.old) (K.written out.new) result }
     ensures files { D.files store.new ≡ D.files store.old }
     ensures cause { HasRunCause
@@ -375,6 +377,27 @@ fn replay<K: Sink, D: Store>(
     ensures ended { IfOk result (λ status. IsEnd status.0) }
 {
     let ending = replay_files(alloc, names, store)?;
+    end_with(ending.text.as_slice(), ending.status, out)
+}
+
+/// Prints the state of the log in a file at an epoch, or how the run ends otherwise: the first line of the log that is
+/// refused, the file that is absent or too large, or the last epoch, if the epoch is greater. No file changes.
+fn snapshot<K: Sink, D: Store>(
+    alloc: Global,
+    name: &str,
+    epoch: u64,
+    out: &mut K,
+    store: &mut D,
+) -> Result<Status, RunFault>
+    ensures writes { WritesSeen (outcomes.snapshot_outcome (name.now, epoch)) (D.files store.old)
+        (K.written out.old) (K.written out.new) result }
+    ensures files { D.files store.new ≡ D.files store.old }
+    ensures cause { HasRunCause
+        (counts 0 (K.faults out.old) (D.faults store.old))
+        (counts 0 (K.faults out.new) (D.faults store.new)) result }
+    ensures ended { IfOk result (λ status. IsEnd status.0) }
+{
+    let ending = show_state(alloc, name, epoch, store)?;
     end_with(ending.text.as_slice(), ending.status, out)
 }
 
@@ -394,7 +417,7 @@ fn print_summary<K: Sink>(
     end_with(text.as_slice(), 0, out)
 }
 
-/// Runs the command that words other than `commit` and `replay` name, or prints the usage line.
+/// Runs the command that words other than `commit`, `replay` and `snapshot` name, or prints the usage line.
 fn answer_unread<K: Sink>(alloc: Global, words: &[String], out: &mut K) -> Result<Status, RunFault>
     ensures writes { Writes (gen_text (generated.gen_numbers (map string_bytes words.now)))
         (K.written out.old) (K.written out.new)
@@ -409,6 +432,30 @@ fn answer_unread<K: Sink>(alloc: Global, words: &[String], out: &mut K) -> Resul
     }
 }
 
+/// Runs the command that words other than `commit` and `replay` name, or prints the usage line.
+fn answer_last<K: Sink, D: Store>(
+    alloc: Global,
+    words: &[String],
+    out: &mut K,
+    store: &mut D,
+) -> Result<Status, RunFault>
+    ensures writes { WritesSeen
+        (λ seen. last_outcome (map string_bytes words.now) seen (state_line.snapshot_words (map string_bytes words.now)))
+        (D.files store.old) (K.written out.old) (K.written out.new) result }
+    ensures files { D.files store.new ≡ D.files store.old }
+    ensures cause { HasRunCause
+        (counts 0 (K.faults out.old) (D.faults store.old))
+        (counts 0 (K.faults out.new) (D.faults store.new)) result }
+    ensures ended { IfOk result (λ status. IsEnd status.0) }
+    ensures unnamed { state_line.snapshot_words (map string_bytes words.now) ≡ None
+        → (store.new ≡ store.old) × IfErr result (λ e. e ≢ fault.Store) }
+{
+    match snapshot_words(words) {
+        Some((name, epoch)) => snapshot(alloc, name, epoch, out, store),
+        None => answer_unread(alloc, words, out),
+    }
+}
+
 /// Runs the command that words other than `commit` name, or prints the usage line.
 fn answer_others<K: Sink, D: Store>(
     alloc: Global,
@@ -416,7 +463,7 @@ fn answer_others<K: Sink, D: Store>(
     out: &mut K,
     store: &mut D,
 ) -> Result<Status, RunFault>
-    ensures writes { WritesOther (map string_bytes words.now) (D.files store.old)
+    ensures writes { WritesSeen (other_outcome (map string_bytes words.now)) (D.files store.old)
         (K.written out.old) (K.written out.new) result }
     ensures files { D.files store.new ≡ D.files store.old }
     ensures cause { HasRunCause
@@ -424,11 +471,12 @@ fn answer_others<K: Sink, D: Store>(
         (counts 0 (K.faults out.new) (D.faults store.new)) result }
     ensures ended { IfOk result (λ status. IsEnd status.0) }
     ensures unnamed { is_replay (map string_bytes words.now) ≡ false
+        → state_line.snapshot_words (map string_bytes words.now) ≡ None
         → (store.new ≡ store.old) × IfErr result (λ e. e ≢ fault.Store) }
 {
     match replay_words(words) {
         Some(names) => replay(alloc, names, out, store),
-        None => answer_unread(alloc, words, out),
+        None => answer_last(alloc, words, out, store),
     }
 }
 
@@ -464,10 +512,13 @@ fn answer_words<S: Source, K: Sink, D: Store>(
 /// - `commit LOG` runs it from the log in the file `LOG` of `store`, and adds the line of each new entry to this file
 ///   before its commit is answered. A file that is absent is an empty log; it is made when the first entry is added.
 ///   Bytes after the last line feed of the file are cut off, once all its lines were found good.
-/// - `replay FILE..`, with 1 to 64 files, hands the entries in the lines of these files to one follower, in their order,
-///   and prints a report: the counts of lines, the epoch of the follower and the number of entries that wait at it, and
-///   the nodes and the placements at this epoch. No input is read, and no file changes. Each file is loaded once the
-///   files before it are done. Bytes after the last line feed of a file are passed over.
+/// - `replay FILE..`, with 1 to 64 files, hands the entries and the images in the lines of these files to one follower,
+///   in their order, and prints a report: the counts of lines, the epoch of the follower and the number of entries that
+///   wait at it, and the nodes and the placements at this epoch. No input is read, and no file changes. Each file is
+///   loaded once the files before it are done. Bytes after the last line feed of a file are passed over.
+/// - `snapshot LOG E`, with an E below 2^64 in decimal digits without leading zeros, prints the state of the log in the
+///   file `LOG` at epoch E, as one line. No input is read, and no file changes. The whole log is checked before E is
+///   looked at.
 /// - `gen START N`, with a START below 2^64 and an N up to 3,000, both in decimal digits without leading zeros, answers
 ///   the lines of the generated script, and prints how many of its commits were accepted and refused, the last epoch and
 ///   the epoch of its follower. No input is read, and the store isn't used.
@@ -481,8 +532,8 @@ fn answer_words<S: Source, K: Sink, D: Store>(
 ///
 /// Returns the status of the run:
 ///
-/// - 0: the input was read to its end, and every line was answered; or all files were replayed; or the answers to the
-///   generated script were counted.
+/// - 0: the input was read to its end, and every line was answered; or all files were replayed; or a state was printed;
+///   or the answers to the generated script were counted.
 /// - 1: memory ran out.
 /// - 2: the words name no command. Nothing was read, and the usage line was printed.
 /// - 3: a line of the log file, or of a file that is replayed, is refused. Nothing was read from the input, no file was
@@ -492,7 +543,8 @@ fn answer_words<S: Source, K: Sink, D: Store>(
 ///   bytes read were printed. Only `commit`, with or without a file, gives this status.
 /// - 5: the sink failed: its count of faults rose in this run.
 /// - 6: the store failed: its count of faults rose in this run. Only words that name a file give this status.
-/// - 7: a file that is to be replayed is absent. `NO FILE` and its name were printed.
+/// - 7: a file that is to be replayed, or whose state is to be shown, is absent, and `NO FILE` and its name were printed;
+///   or E is past the last epoch of the log, and `NO EPOCH` and the last epoch were printed.
 /// - 8: byte 536,870,913 of the input was read, and the lines that end before it were answered; or a file has more than
 ///   536,870,912 bytes, and no input was read. Then `TOO-LARGE 536870912` was printed.
 ///
@@ -500,9 +552,10 @@ fn answer_words<S: Source, K: Sink, D: Store>(
 /// sink runs out of memory. With status 1, 4, 5 or 6, the printed bytes are a prefix of the output of a run without the
 /// fault.
 ///
-/// Cost: a run keeps in memory the log, the metadata at the last epoch and that of each follower, the file while it is
-/// loaded, and of the current line at most 16,385 bytes, with its answer. A query of an earlier epoch, and its image for
-/// a follower, cost as much as committing all commands up to that epoch again. A replay keeps its follower and one file.
+/// Cost: a run keeps in memory the log, the image of each 256th epoch, the metadata at the last epoch and that of each
+/// follower, the file while it is loaded, and of the current line at most 16,385 bytes, with its answer. A query of an
+/// earlier epoch, and its image for a follower, cost as much as metadata made from the image before it, and committing
+/// at most 255 commands again. A replay keeps its follower and one file.
 /// `gen` answers up to 60,101 lines, and one for each epoch, and keeps their session.
 pub fn run<S: Source, K: Sink, D: Store>(
     alloc: Global,

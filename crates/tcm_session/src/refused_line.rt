@@ -7,21 +7,25 @@ ghost use Rattle.tcm_session.specs.LogFiles as spec;
 use cluster_terms::{ByteText, Memory};
 use script_lang::{labelled, refusal_text};
 use std::alloc::Global;
-use transformations::{Entry, Refusal};
+use transformations::{BadImage, Entry, Refusal};
 use wire_json::entry_line;
 
-/// Why a line of a file is refused. For a log file, the first four are looked for in this order; for a file that is
-/// replayed, `Line` first, and then the others as the follower finds them.
+/// Why a line of a file is refused. For a log file, `Line`, `NotEntry`, `Epoch`, `Id` and `Command` are looked for in this
+/// order; for a file that is replayed, `Line` first, and then `Image`, `Fork` and `Command` as the follower finds them.
 #[derive(Debug, Drop)]
 pub enum Cause {
     /// The line breaks this rule of `read_line`, and no rule with a smaller number.
     Line(u8),
+    /// The line is an image of a log, not an entry.
+    NotEntry,
     /// The entry's epoch isn't the next epoch: the next one, and the epoch that came.
     Epoch(u64, u64),
     /// The entry's id is in the log already: the id, and the epoch of the earlier entry.
     Id(u64, u64),
     /// The command of the entry at this epoch is refused.
     Command(u64, Refusal),
+    /// The image isn't valid: the first rule that it breaks, with its value.
+    Image(BadImage),
     /// Another entry of this epoch waits: the one that waits, and the one that came.
     Fork(u64, Entry, Entry),
 }
@@ -48,6 +52,7 @@ fn cause_text(cause: &Cause, out: &mut ByteText) -> Result<(), Memory>
 {
     match cause {
         Cause::Line(rule) => labelled(b"LINE ", &u64::from(*rule), out),
+        Cause::NotEntry => out.extend(b"NOT-ENTRY"),
         Cause::Epoch(next, came) => numbers_text(b"EPOCH ", *next, *came, out),
         Cause::Id(id, epoch) => numbers_text(b"ID ", *id, *epoch, out),
         Cause::Command(epoch, refusal) => {
@@ -55,6 +60,7 @@ fn cause_text(cause: &Cause, out: &mut ByteText) -> Result<(), Memory>
             out.extend(b" ")?;
             refusal_text(refusal, out)
         }
+        Cause::Image(bad) => labelled(b"IMAGE ", bad, out),
         Cause::Fork(epoch, _held, _came) => labelled(b"FORK ", epoch, out),
     }
 }

@@ -1,13 +1,13 @@
 //! Hands the lines of files to one follower, one after another.
 
-ghost use Rattle.std.specs.Prelude.{◌≡◌, ◌+◌, ◌≤◌, length, map, string_bytes, None, Some, Ok, IfOk, IsTrue};
+ghost use Rattle.std.specs.Prelude.{◌≡◌, ◌+◌, ◌≤◌, length, map, string_bytes, None, Some, Ok, IfOk, IsTrue, OnOk};
 ghost use Rattle.transformations.specs.History.{is_command, most_epochs};
 ghost use Rattle.wire_json.specs.Reading as reading;
 ghost use Rattle.tcm_session.specs.Counts.{counts};
 ghost use Rattle.tcm_session.specs.Faults.{HasRunCause};
 ghost use Rattle.tcm_session.specs.Lines.{whole_lines};
 ghost use Rattle.tcm_session.specs.Replay as spec;
-ghost use Rattle.tcm_session.specs.Replays.{GrowsBy, HandsFile, HandsFiles, HasRoom, IsFew, LeadsTo};
+ghost use Rattle.tcm_session.specs.Replays.{FoundMemory, GrowsBy, HandsFile, HandsFiles, HasRoom, IsFew, LeadsTo};
 
 use crate::ending::Ending;
 use crate::fault::RunFault;
@@ -18,7 +18,7 @@ use cluster_terms::Memory;
 use follower_log::{Follower, FollowerFault, Took};
 use std::alloc::Global;
 use tcm_edges::{Loaded, Store};
-use transformations::Entry;
+use transformations::{Entry, Image};
 use wire_json::{Line, ReadLineFault, read_line};
 
 /// A follower that is handed the lines of files, the number of lines that were read, and how many of them were answered
@@ -52,7 +52,7 @@ impl Replay {
     }
 
     /// Hands over a line, which comes without its line feed; or returns the first cause to refuse it. Fails only if
-    /// memory runs out; the entry may have been taken by then.
+    /// memory runs out; the entry or the image may have been taken by then.
     pub fn hand_line(&mut self, alloc: Global, line: &[u8]) -> Result<Option<Cause>, Memory>
         requires { HasRoom 1 self.old }
         ensures leads { IfOk result (λ cause. LeadsTo cause (spec.line_replayed self.old line.now) self.new) }
@@ -75,6 +75,7 @@ impl Replay {
     {
         match content {
             Line::Entry(entry) => self.hand_entry(&entry),
+            Line::Snapshot(image) => self.hand_image(image),
         }
     }
 
@@ -86,7 +87,29 @@ impl Replay {
         ensures leads { IfOk result (λ cause. LeadsTo cause (spec.entry_replayed self.old entry.now) self.new) }
         ensures grows { GrowsBy 1 self.old self.new }
     {
-        match self.follower.deliver(entry) {
+        let handed = self.follower.deliver(entry);
+        self.count(handed)
+    }
+
+    /// Hands over an image, as `hand_line` does.
+    fn hand_image(&mut self, image: Image) -> Result<Option<Cause>, Memory>
+        requires { HasRoom 1 self.old }
+        ensures leads { IfOk result (λ cause. LeadsTo cause (spec.image_replayed self.old image) self.new) }
+        ensures grows { GrowsBy 1 self.old self.new }
+    {
+        let handed = self.follower.snapshot(image);
+        self.count(handed)
+    }
+
+    /// Counts a line that the follower was handed, or returns the cause to refuse it. Fails only if memory ran out.
+    fn count(&mut self, handed: Result<Took, FollowerFault>) -> Result<Option<Cause>, Memory>
+        requires { HasRoom 1 self.old }
+        ensures leads { IfOk result (λ cause.
+            LeadsTo cause (spec.answered self.old self.old.follower handed) self.new) }
+        ensures memory { OnOk result (FoundMemory handed) }
+        ensures grows { GrowsBy 1 self.old self.new }
+    {
+        match handed {
             Ok(took) => {
                 self.lines += 1;
                 self.full += full_count(took);
@@ -96,6 +119,7 @@ impl Replay {
                 Ok(Some(Cause::Fork(epoch, held, came)))
             }
             Err(FollowerFault::Refused(epoch, refusal)) => Ok(Some(Cause::Command(epoch, refusal))),
+            Err(FollowerFault::BadImage(bad)) => Ok(Some(Cause::Image(bad))),
             Err(FollowerFault::Memory) => Err(Memory),
             Err(FollowerFault::MemoryAt(_epoch)) => Err(Memory),
         }

@@ -67,10 +67,10 @@ pub fn followers_show_prefixes()
         → AnswerAsLog (session_after (session_over log) lines) }
 {}
 
-/// A replay of files whose whole lines are entries of one log, in any order, some lost and some repeated. No line is
-/// refused. At the end of the files, the follower stands for this log and for what it took: the entries that weren't
-/// answered `Full`. It shows the state of the log at the end of the longest prefix of these without a gap, so the
-/// report is the report of this state.
+/// A replay of files whose whole lines are entries of one log or images of its states, in any order, some lost and some
+/// repeated. No line is refused. At the end of the files, the follower stands for this log and for what it took: the
+/// entries and images that weren't answered `Full`. It shows the state of the log at the end of the longest prefix of
+/// these without a gap, so the report is the report of this state.
 pub fn replays_show_the_longest_prefix()
     ensures { (log : List Entry) (names : List (List ℕ)) (seen : ℕ → Files) → IsLog log → AreFilesOf log names seen
         → ComesToPrefix log (taken_of_files names seen) (files_replayed 1 nothing_replayed names seen) }

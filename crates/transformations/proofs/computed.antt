@@ -1,4 +1,5 @@
 -- Facts on small clusters, each of which is computed.
+pub mod ImageRows
 pub mod MeetingRows
 pub mod MovementRows
 pub mod Rows

@@ -3,13 +3,16 @@ pub mod CutSteps
 pub mod DeltaSteps
 pub mod Deltas
 pub mod History
+pub mod ImageRules
 pub mod Log
 pub mod Meeting
+pub mod OneNode
 pub mod Orders
 pub mod Ranges
 pub mod Refusals
 pub mod RingKind
 pub mod Rings
+pub mod RuleGroups
 pub mod Same
 pub mod States
 pub mod Steps

@@ -1,19 +1,19 @@
 ghost use Rattle.std.specs.Prelude.{◌≡◌, [], ◌∷◌, not, option_map, IfOk, IsTrue, MatchOption};
 ghost use Rattle.std.specs.List.{list_any};
-ghost use Rattle.std.specs.List.Sorted.{IsStrictlySortedBy};
 ghost use Rattle.std.specs.Ordering.{int_eq};
-ghost use Rattle.transformations.specs.Orders.{by_token};
 ghost use Rattle.transformations.specs.Refusals.{may_move_or_leave, has_keyspace, in_sequence, may_join, may_be_removed, is_registered, is_taken, keyspaces_full, name_taken, no_keyspace, no_node, no_sequence, nodes_full, not_idle, first_of, early_refusal_of, refused_if, token_taken, tokens_full, wrong_state, wrong_step};
 ghost use Rattle.transformations.specs.States.{node_state};
+ghost use Rattle.transformations.specs.Valid.{IsSound};
 ghost use Rattle.transformations.specs.declared.command.Command.TheVariants as command;
 
 use crate::command::Command;
 use crate::image::Image;
-use crate::pair_search::{ascend, finds};
+use crate::node_search::row_among;
+use crate::pair_search::finds;
 use crate::prepares::{no_tokens, not_one_token, other_rack, too_few_nodes};
 use crate::refusal::Refusal;
 use crate::sequence::{Goal, Kind, SeqRow};
-use crate::state::{NodeState, node_state, row_of};
+use crate::state::{NodeState, state_of};
 use crate::steps::{is_next_step, movement_of, takes_part};
 use crate::token_count::{count_all, tokens_with};
 use cluster_terms::{Memory, Name, NodeId, Pair, Token};
@@ -59,13 +59,15 @@ fn nodes_full(image: &Image) -> Option<Refusal>
 
 /// Whether a node is registered.
 fn is_registered(image: &Image, n: NodeId) -> bool
+    requires { IsSound image.now }
     ensures { result ≡ is_registered image.now n }
 {
-    row_of(image.nodes.as_slice(), n).is_some()
+    row_among(image.nodes.as_slice(), n).is_some()
 }
 
 /// `NoNode` if the node isn't registered.
 fn no_node(image: &Image, n: NodeId) -> Option<Refusal>
+    requires { IsSound image.now }
     ensures { result ≡ no_node image.now n }
 {
     refused_if(!is_registered(image, n), Refusal::NoNode)
@@ -98,11 +100,13 @@ fn wrong_state<F: FnOnce(NodeState) -> bool>(
     n: NodeId,
     allowed: F,
 ) -> Option<Refusal>
-    requires { F.IsAlwaysCallable allowed }
+    requires sound { IsSound image.now }
+    requires callable { F.IsAlwaysCallable allowed }
     ensures { MatchOption (node_state image.now n) (result ≡ None)
         (λ s. (b : _) × F.post allowed s b × (result ≡ refused_if (not b) (Refusal.WrongState s))) }
 {
-    let state = node_state(image, n)?;
+    let row = row_among(image.nodes.as_slice(), n)?;
+    let state = state_of(image, row);
     refused_if(!allowed(state), Refusal::WrongState(state))
 }
 
@@ -160,39 +164,23 @@ fn is_brought(sequences: &[SeqRow], token: Token) -> bool
         .any(|row| has_token(row.in_pairs.as_slice(), token))
 }
 
-/// Whether a pair in a list has this token. `ascending` tells that the tokens of the list are known to ascend. Then the
-/// cost is a binary search, and otherwise a pass over the list.
-fn is_in_ring(pairs: &[Pair], ascending: bool, token: Token) -> bool
-    requires { IsTrue ascending → IsStrictlySortedBy by_token pairs.now }
-    ensures { result ≡ list_any (λ p. int_eq p.token token) pairs.now }
-{
-    if ascending {
-        finds(pairs, token)
-    } else {
-        has_token(pairs, token)
-    }
-}
-
-/// Whether a token is in the ring, or a movement in flight brings it. `ascending` tells that the tokens of the ring are
-/// known to ascend.
-fn is_taken(image: &Image, ascending: bool, token: Token) -> bool
-    requires { IsTrue ascending → IsStrictlySortedBy by_token image.now.tokens }
+/// Whether a token is in the ring, or a movement in flight brings it.
+fn is_taken(image: &Image, token: Token) -> bool
+    requires { IsSound image.now }
     ensures { result ≡ is_taken image.now token }
 {
-    is_in_ring(image.tokens.as_slice(), ascending, token)
-        || is_brought(image.sequences.as_slice(), token)
+    finds(image.tokens.as_slice(), token) || is_brought(image.sequences.as_slice(), token)
 }
 
-/// `TokenTaken` with the first of these tokens that is taken. For k tokens, the cost is at most one pass over the pairs
-/// of the ring, then k binary searches in them if their tokens ascend and k passes over them if not, and k passes over
-/// the pairs that movements bring.
+/// `TokenTaken` with the first of these tokens that is taken. For k tokens, the cost is k binary searches in the pairs of
+/// the ring, and k passes over the pairs that movements bring.
 fn token_taken(image: &Image, tokens: &[Token]) -> Option<Refusal>
+    requires { IsSound image.now }
     ensures { result ≡ token_taken image.now tokens.now }
 {
-    let ascending = ascend(image.tokens.as_slice());
     tokens
         .iter()
-        .find(|token| is_taken(image, ascending, **token))
+        .find(|token| is_taken(image, **token))
         .map(|token| Refusal::TokenTaken(*token))
 }
 
@@ -239,6 +227,7 @@ fn tokens_full(alloc: Global, image: &Image, tokens: &[Token]) -> Result<Option<
 
 /// The first refusal of a node that isn't registered, takes part in a movement, or isn't in state `Registered`.
 fn not_ready(image: &Image, n: NodeId) -> Option<Refusal>
+    requires { IsSound image.now }
     ensures { result ≡ first_of
         (no_node image.now n ∷ in_sequence image.now n ∷ wrong_state may_join image.now n ∷ []) }
 {
@@ -249,6 +238,7 @@ fn not_ready(image: &Image, n: NodeId) -> Option<Refusal>
 
 /// The first refusal of a node that isn't registered, takes part in a movement, or isn't in state `Joined`.
 fn not_settled(image: &Image, n: NodeId) -> Option<Refusal>
+    requires { IsSound image.now }
     ensures { result ≡ first_of
         (no_node image.now n ∷ in_sequence image.now n ∷ wrong_state may_move_or_leave image.now n ∷ []) }
 {
@@ -259,6 +249,7 @@ fn not_settled(image: &Image, n: NodeId) -> Option<Refusal>
 
 /// The first refusal of two nodes, if either isn't registered or takes part in a movement.
 fn not_both_free(image: &Image, n: NodeId, m: NodeId) -> Option<Refusal>
+    requires { IsSound image.now }
     ensures { result ≡ first_of
         (no_node image.now n ∷ no_node image.now m ∷ in_sequence image.now n ∷ in_sequence image.now m ∷ []) }
 {
@@ -270,6 +261,7 @@ fn not_both_free(image: &Image, n: NodeId, m: NodeId) -> Option<Refusal>
 
 /// The first refusal of tokens, if any is taken or there would be too many.
 fn not_available(alloc: Global, image: &Image, tokens: &[Token]) -> Result<Option<Refusal>, Memory>
+    requires { IsSound image.now }
     ensures { IfOk result
         (λ found. found ≡ first_of
         (token_taken image.now tokens.now ∷ tokens_full image.now tokens.now ∷ [])) }
@@ -282,6 +274,7 @@ fn not_available(alloc: Global, image: &Image, tokens: &[Token]) -> Result<Optio
 
 /// The first refusal of tokens, if a movement is in flight or any of the tokens is taken.
 fn not_free(image: &Image, tokens: &[Token]) -> Option<Refusal>
+    requires { IsSound image.now }
     ensures { result ≡ first_of (not_idle image.now.sequences ∷ token_taken image.now tokens.now ∷ []) }
 {
     not_idle(image.sequences.as_slice()).or_else(|| token_taken(image, tokens))
@@ -307,6 +300,7 @@ pub fn register_refusal(image: &Image, owner: Option<NodeId>) -> Option<Refusal>
 
 /// The first refusal of `Unregister`.
 fn unregister(image: &Image, n: NodeId) -> Option<Refusal>
+    requires { IsSound image.now }
     ensures { result ≡ first_of
         (no_node image.now n ∷ in_sequence image.now n ∷ wrong_state may_be_removed image.now n ∷ []) }
 {
@@ -331,6 +325,7 @@ fn drop_keyspace(image: &Image, name: &Name) -> Option<Refusal>
 
 /// The first refusal of `Cancel`.
 fn cancel(image: &Image, n: NodeId) -> Option<Refusal>
+    requires { IsSound image.now }
     ensures { result ≡ first_of (no_node image.now n ∷ no_sequence image.now n ∷ []) }
 {
     no_node(image, n).or_else(|| no_sequence(image, n))
@@ -338,6 +333,7 @@ fn cancel(image: &Image, n: NodeId) -> Option<Refusal>
 
 /// The first refusal of `Step`.
 fn step(image: &Image, goal: Goal, kind: Kind, n: NodeId) -> Option<Refusal>
+    requires { IsSound image.now }
     ensures { result ≡ first_of
         (no_node image.now n ∷ no_sequence image.now n ∷ wrong_step goal kind image.now n ∷ []) }
 {
@@ -352,6 +348,7 @@ fn unsafe_join(
     node: NodeId,
     tokens: &[Token],
 ) -> Result<Option<Refusal>, Memory>
+    requires { IsSound image.now }
     ensures { IfOk result (λ found. found ≡ early_refusal_of image.now (command.UnsafeJoin node tokens.now)) }
 {
     if let Some(refusal) = not_ready(image, node) {
@@ -371,6 +368,7 @@ fn prepare_join(
     node: NodeId,
     tokens: &[Token],
 ) -> Result<Option<Refusal>, Memory>
+    requires { IsSound image.now }
     ensures { IfOk result
         (λ found. found ≡ early_refusal_of image.now (command.PrepareJoin node tokens.now)) }
 {
@@ -388,6 +386,7 @@ fn prepare_move(
     node: NodeId,
     token: Token,
 ) -> Result<Option<Refusal>, Memory>
+    requires { IsSound image.now }
     ensures { IfOk result (λ found. found ≡ early_refusal_of image.now (command.PrepareMove node token)) }
 {
     if let Some(refusal) = not_settled(image, node) {
@@ -402,6 +401,7 @@ fn prepare_move(
 /// The first refusal of `PrepareLeave`, apart from `Locked`.
 #[tactic(auto, unfolding(crate::specs::Refusals::early_refusal_of))]
 fn prepare_leave(alloc: Global, image: &Image, node: NodeId) -> Result<Option<Refusal>, Memory>
+    requires { IsSound image.now }
     ensures { IfOk result (λ found. found ≡ early_refusal_of image.now (command.PrepareLeave node)) }
 {
     if let Some(refusal) = not_settled(image, node) {
@@ -413,6 +413,7 @@ fn prepare_leave(alloc: Global, image: &Image, node: NodeId) -> Result<Option<Re
 /// The first refusal of `PrepareReplace`, apart from `Locked`.
 #[tactic(auto, unfolding(crate::specs::Refusals::early_refusal_of))]
 fn prepare_replace(image: &Image, node: NodeId, gone: NodeId) -> Result<Option<Refusal>, Memory>
+    requires { IsSound image.now }
     ensures { IfOk result (λ found. found ≡ early_refusal_of image.now (command.PrepareReplace node gone)) }
 {
     if let Some(refusal) = not_both_free(image, node, gone) {
@@ -433,9 +434,11 @@ fn prepare_replace(image: &Image, node: NodeId, gone: NodeId) -> Result<Option<R
 /// `Err` means that memory ran out for counting tokens or nodes or for copying the names of a refusal, or that a node
 /// that is to be moved has 2^32 tokens or more.
 ///
-/// Cost: a search for a node or a keyspace is one pass over the rows. For k tokens of a command, the search for a token
-/// that is taken is at most one pass over the pairs of the ring, then k binary searches in them if their tokens ascend
-/// and k passes over them if not, and k passes over the pairs that movements bring. `PrepareLeave` sorts the nodes with
+/// The image is sound, so its nodes and its tokens ascend.
+///
+/// Cost: a search for a node is a binary search, and one for a keyspace a pass over the rows. For k tokens of a command,
+/// the search for a token that is taken is k binary searches in the ring, and k passes over the pairs that movements
+/// bring. `PrepareLeave` sorts the nodes with
 /// tokens once. Each of them costs one pass over the rows for each keyspace that names the datacenter of the node that
 /// is to leave.
 #[tactic(auto, unfolding(crate::specs::Refusals::early_refusal_of))]
@@ -444,6 +447,7 @@ pub fn early_refusal(
     image: &Image,
     command: &Command,
 ) -> Result<Option<Refusal>, Memory>
+    requires { IsSound image.now }
     ensures { IfOk result (λ found. found ≡ early_refusal_of image.now command.now) }
 {
     match command {

@@ -1,6 +1,6 @@
 //! Facts about the images that commands lead to.
 
-ghost use Rattle.std.specs.Prelude.{◌≡◌, ◌+◌, ◌++◌, ◌<◌, ◌≤◌, ℕ, ℤ, true, false, [], List, Some, None, Ok, IsTrue, length, nat_eq};
+ghost use Rattle.std.specs.Prelude.{◌≡◌, ◌↔◌, ◌+◌, ◌++◌, ◌<◌, ◌≤◌, ℕ, ℤ, true, false, [], List, Some, None, Ok, IsTrue, length, nat_eq};
 ghost use Rattle.std.specs.List.{All, AllByRecursion, Any, Contains, list_any};
 ghost use Rattle.std.specs.List.Sorted.{IsStrictlySortedBy};
 ghost use Rattle.std.specs.Ordering.{int_cmp, int_eq};
@@ -15,6 +15,7 @@ ghost use Rattle.transformations.specs.CutSteps.{CutsFollow, SameAcross};
 ghost use Rattle.transformations.specs.DeltaSteps.{ChangesByDeltas};
 ghost use Rattle.transformations.specs.Deltas.{KeepsDeltas, LivesOn, RowsStandForDeltas, gained_at, lives_through, lost_at};
 ghost use Rattle.transformations.specs.History.{IsHistory, are_accepted, empty_image, image_after, is_command, most_epochs, next_image};
+ghost use Rattle.transformations.specs.ImageRules.{bad_of, broken_rule};
 ghost use Rattle.transformations.specs.Log.{IsLog, commit_of};
 ghost use Rattle.transformations.specs.Meeting.{HaveReplications, QuorumsExistTogether, QuorumsMeet, ReadsAreWritten, makes_movement_epoch};
 ghost use Rattle.transformations.specs.Ranges.{AreApart, AreOutcomes, ArePlacedByOutcomes, IsLockedBy, KeepsRanges, PlacedByRanges, RowsStandInRanges, first_shared, in_both, in_ranges};
@@ -159,4 +160,11 @@ pub fn locked_ranges_overlap()
     ensures refused { (image : Image) (c : Command) (n : ℕ) (right : RightEnd) → IsSound image
         → IsTrue (is_command c)
         → refusal_of image c ≡ Some (Locked n right) → IsLockedOf image c n right }
+{}
+
+/// An image is sound if and only if it breaks none of the rules but the last one, and valid if and only if it breaks none
+/// of the rules.
+pub fn valid_images_break_no_rule()
+    ensures sound { (image : Image) → IsSound image ↔ broken_rule image ≡ None }
+    ensures valid { (image : Image) → IsValid image ↔ bad_of image ≡ None }
 {}

@@ -7,7 +7,7 @@ use Rattle.std.proofs.lemmas.Int.{ints}
 use Rattle.cluster_terms.specs.Arc.{IsToken}
 use Rattle.cluster_terms.specs.Name.{is_name}
 use Rattle.cluster_terms.proofs.RoundTrip.{round_trip}
-use Rattle.serde_json.specs.Data.{Data, number, depth, items_depth}
+use Rattle.serde_json.specs.Data.{Data, depth, items_depth}
 use Rattle.serde_json.specs.Find.{of_integer}
 use Rattle.serde_json.specs.Written.{compact_text}
 use Rattle.transformations.specs.History.{are_tokens, is_command}
@@ -20,20 +20,21 @@ use Rattle.transformations.specs.declared.sequence.Kind.{Kind}
 use Rattle.transformations.specs.declared.sequence.Kind.TheVariants as kind
 use Rattle.wire_json.specs.Entries.{HasValues, IsEntry, IsNode}
 use Rattle.wire_json.specs.Kinds as spec
-use Rattle.wire_json.specs.Reading.{entry_of, found, most_bytes, reading, value_of}
-use Rattle.wire_json.specs.Texts.{command_data, entry_data, goal_word, movement_word, node_data, entry_text, token_items, tokens_data}
-use Rattle.wire_json.specs.Values.{each_token_of, list_of, token_of}
+use Rattle.wire_json.specs.Reading.{entry_of, line_in, most_bytes, reading}
+use Rattle.wire_json.specs.Texts.{command_data, entry_data, goal_word, movement_word, node_data, entry_text, list_items, token_data, tokens_data}
+use Rattle.wire_json.specs.Values.{list_of, token_of}
 use Rattle.wire_json.specs.declared.line.Line.TheVariants as line
-use Rattle.wire_json.proofs.ReadingLemmas.{reading-entry, value_is}
+use Rattle.wire_json.proofs.ListItems.{each_there, AreWhole-list, depth-list}
+use Rattle.wire_json.proofs.ReadingLemmas.{reading-line, value_is}
 use Rattle.wire_json.proofs.TextBytes.{IsShort-name, IsShort-replication, IsUtf8-replication, IsUtf8-tested, IsUtf8-name}
 use Rattle.wire_json.proofs.WholeData.{Fits-text, IsWhole, AreWhole, IsWholeNumber, items_most, most, read-text}
 
 -- ---- values that are there
 
-node_there : (n : ℕ) → IsNode n → (if nat_lt n (2 ^ 32) then Some n else None) ≡ Some n
+pub node_there : (n : ℕ) → IsNode n → (if nat_lt n (2 ^ 32) then Some n else None) ≡ Some n
 node_there n h = ap (λ b. if b then Some n else None) (lt-ltb n (2 ^ 32) h)
 
-name_there : (text : List ℕ) → IsTrue (is_name text) → (if is_name text then Some text else None) ≡ Some text
+pub name_there : (text : List ℕ) → IsTrue (is_name text) → (if is_name text then Some text else None) ≡ Some text
 name_there text h = ap (λ b. if b then Some text else None) h
 
 one : {A D : Type 0} (f : A → D) (x : A) (ox : Option A) → ox ≡ Some x → option_and_then (λ a. Some (f a)) ox ≡ Some (f x)
@@ -48,18 +49,13 @@ three f x y z ox oy oz p q r = ap (option_and_then (λ a. option_and_then (λ b.
 
 -- ---- tokens
 
-token_there : (token : ℤ) → IsToken token → token_of (number (of_integer token)) ≡ Some token
+pub token_there : (token : ℤ) → IsToken token → token_of (token_data token) ≡ Some token
 token_there (pos n) is = (let below : n < 2 ^ 63 = omega (arith, ints, is.1) in ap (λ b. if b then Some (pos n) else None) (lt-ltb n (2 ^ 63) below))
 token_there (negsuc n) is = refl
 
-each_there : (tokens : List ℤ) → AllByRecursion IsToken tokens → each_token_of (token_items tokens) ≡ Some tokens
-each_there [] all = refl
-each_there (t ∷ ts) all =
-    ap (option_and_then (λ token. option_map (λ tokens. token ∷ tokens) (each_token_of (token_items ts)))) (token_there t all.0) ∙ ap (option_map (λ tokens. t ∷ tokens)) (each_there ts all.1)
-
-list_there : (tokens : List ℤ) → AllByRecursion IsToken tokens → are_tokens tokens ≡ true → list_of (token_items tokens) ≡ Some tokens
+list_there : (tokens : List ℤ) → AllByRecursion IsToken tokens → are_tokens tokens ≡ true → list_of (list_items token_data tokens) ≡ Some tokens
 list_there tokens all are =
-    ap (option_and_then (λ ts. if are_tokens ts then Some ts else None)) (each_there tokens all) ∙ ap (λ b. if b then Some tokens else None) are
+    ap (option_and_then (λ ts. if are_tokens ts then Some ts else None)) (each_there token_of token_data IsToken token_there tokens all) ∙ ap (λ b. if b then Some tokens else None) are
 
 -- ---- a command's object is the command
 
@@ -99,23 +95,25 @@ entry_there entry is =
     let command = command_there entry.cmd is.values is.tokens in
     rw (epoch, command)
 
+line_there : (entry : Entry) → IsEntry entry → line_in (entry_data entry) ≡ Ok (line.Entry entry)
+unfolding line_in
+line_there entry is = (let there = entry_there entry is in rw there)
+
 -- ---- its data can be written
 
-whole_token : (token : ℤ) → IsToken token → IsWholeNumber (of_integer token)
+pub whole_token : (token : ℤ) → IsToken token → IsWholeNumber (of_integer token)
 whole_token (pos n) is = omega (arith, ints, is.1)
 whole_token (negsuc n) is = omega (arith, ints, is.0)
 
-whole_tokens : (tokens : List ℤ) → AllByRecursion IsToken tokens → AreWhole (token_items tokens)
-whole_tokens [] all = tt
-whole_tokens (t ∷ ts) all = (whole_token t all.0, whole_tokens ts all.1)
+whole_tokens : (tokens : List ℤ) → AllByRecursion IsToken tokens → AreWhole (list_items token_data tokens)
+whole_tokens tokens all = AreWhole-list token_data IsToken whole_token tokens all
 
-most-tokens : (tokens : List ℤ) → items_most (token_items tokens) ≡ 1 + 22 * length tokens
+most-tokens : (tokens : List ℤ) → items_most (list_items token_data tokens) ≡ 1 + 22 * length tokens
 most-tokens [] = refl
 most-tokens (t ∷ ts) = omega (arith, most-tokens ts)
 
-depth-tokens : (tokens : List ℤ) → items_depth (token_items tokens) ≡ 0
-depth-tokens [] = refl
-depth-tokens (t ∷ ts) = omega (arith, depth-tokens ts)
+depth-tokens : (tokens : List ℤ) → items_depth (list_items token_data tokens) ≤ 0
+depth-tokens tokens = depth-list token_data 0 (λ token. omega arith) tokens
 
 few : (tokens : List ℤ) → are_tokens tokens ≡ true → length tokens ≤ 256
 few tokens is = grind (arith, nat_tests)
@@ -256,5 +254,4 @@ entry_reads_back entry is =
     let whole = whole_entry entry is in
     let fits = Fits-text value whole in
     let short : length (compact_text value) ≤ most_bytes = omega (arith, fits.1, short_entry entry is) in
-    let read : found 2 (value_of (compact_text value)) ≡ Ok value = ap (found 2) (value_is (compact_text value) value fits.0 (read-text value whole (flat_entry entry is))) in
-    reading-entry (compact_text value) value entry short read (entry_there entry is)
+    reading-line (compact_text value) value short (value_is (compact_text value) value fits.0 (read-text value whole (flat_entry entry is))) ∙ line_there entry is

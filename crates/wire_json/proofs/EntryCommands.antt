@@ -1,5 +1,5 @@
 -- What holds of the commands of each kind holds of the commands of lines.
-use Rattle.std.proofs.Common.{◌≡◌, ℕ, Bool, true, false, cond, if◌then◌else◌, List, [], ◌∷◌, Option, Some, None, option_map, option_and_then, Result, Ok, Err, codes, length, nat_le, refl, sym, ap, ◌∙◌, subst}
+use Rattle.std.proofs.Common.{◌≡◌, ℕ, Bool, true, false, cond, if◌then◌else◌, List, [], ◌∷◌, Option, Some, None, option_map, option_and_then, Result, Ok, codes, length, nat_le, refl, sym, subst}
 use Rattle.std.specs.List.{AllByRecursion, find}
 use Rattle.std.specs.Option.{IfSome}
 use Rattle.std.specs.Str.{bytes_eq}
@@ -9,12 +9,12 @@ use Rattle.transformations.specs.declared.command.Command.{Command}
 use Rattle.transformations.specs.declared.entry.Entry.{Entry}
 use Rattle.wire_json.specs.Kinds as spec
 use Rattle.wire_json.specs.Kinds.{Kind}
-use Rattle.wire_json.specs.Reading.{◌>>=◌, entry_of, found, holds, most_bytes, reading, value_of}
+use Rattle.wire_json.specs.Reading.{◌>>=◌, entry_of, found, holds, line_in, most_bytes, reading, value_of}
 use Rattle.wire_json.specs.Values.{has_keys, node_at, text_at}
 use Rattle.wire_json.specs.declared.line.Line.{Line}
 use Rattle.wire_json.specs.declared.line.Line.TheVariants as line
 use Rattle.wire_json.specs.declared.line.ReadLineFault.{ReadLineFault}
-use Rattle.wire_json.proofs.EntryParts.{entry_parts}
+use Rattle.wire_json.proofs.EntryParts.{entry_parts, line_entry}
 use Rattle.wire_json.proofs.KindsLemmas.{no_node_command, node_command}
 
 -- ---- what holds of the value in an option
@@ -106,14 +106,9 @@ module _ (Q : Command → Type 0) (of : HoldsOfKinds Q) where
       read_by short value = do
         short ← holds 1 short
         value ← found 2 value
-        entry ← entry_of value
-        Ok (line.Entry entry)
-
-      of_value : (value : Data) (r : Result Entry ReadLineFault) → entry_of value ≡ r → (r >>= (λ e. Ok (line.Entry e))) ≡ Ok (line.Entry entry) → Q entry.cmd
-      of_value value (Ok e) made is = (let same : e ≡ entry = cc in entry_commands value entry (made ∙ ap Ok same))
-      of_value value (Err fault) made is = absurd (cc)
+        line_in value
 
       by : (short : Bool) (value : Option Data) → read_by short value ≡ Ok (line.Entry entry) → Q entry.cmd
       by false value is = absurd (cc)
       by true None is = absurd (cc)
-      by true (Some value) is = of_value value (entry_of value) refl is
+      by true (Some value) is = entry_commands value entry (line_entry value entry is)

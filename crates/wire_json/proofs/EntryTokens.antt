@@ -1,5 +1,5 @@
 -- The commands of lines have tokens that they may have.
-use Rattle.std.proofs.Common.{◌≡◌, ℕ, ℤ, Bool, true, false, cond, if◌then◌else◌, List, [], ◌∷◌, Option, Some, None, option_map, option_and_then, Result, Ok, codes, refl, sym, subst}
+use Rattle.std.proofs.Common.{◌≡◌, ℕ, ℤ, Bool, true, false, if◌then◌else◌, List, Some, None, option_and_then, Ok, codes, refl}
 use Rattle.std.specs.Option.{IfSome}
 use Rattle.serde_json.specs.Data.{Data, Items}
 use Rattle.serde_json.specs.Find.{as_array, get}
@@ -8,7 +8,7 @@ use Rattle.transformations.specs.declared.command.Command.{Command}
 use Rattle.transformations.specs.declared.entry.Entry.{Entry}
 use Rattle.wire_json.specs.Kinds as spec
 use Rattle.wire_json.specs.Reading.{entry_of}
-use Rattle.wire_json.specs.Values.{each_token_of, list_of, name_at, node_at, replication_at, token_at, tokens_at}
+use Rattle.wire_json.specs.Values.{each_of, list_of, name_at, node_at, replication_at, token_at, token_of, tokens_at}
 use Rattle.wire_json.proofs.EntryCommands.{HoldsOfKinds, IfSome-option_and_then, IfSome-where, entry_commands}
 
 -- ---- tokens
@@ -17,7 +17,7 @@ abbrev AreTokens : List ℤ → Type 0
 AreTokens tokens = are_tokens tokens ≡ true
 
 of_list : (values : Items) → IfSome (list_of values) AreTokens
-of_list values = IfSome-option_and_then _ AreTokens (λ tokens. by tokens (are_tokens tokens) refl) (each_token_of values)
+of_list values = IfSome-option_and_then _ AreTokens (λ tokens. by tokens (are_tokens tokens) refl) (each_of token_of values)
   where
     by : (tokens : List ℤ) (b : Bool) → are_tokens tokens ≡ b → IfSome (if b then Some tokens else None) AreTokens
     by tokens true is = is

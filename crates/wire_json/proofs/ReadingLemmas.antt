@@ -6,10 +6,8 @@ use Rattle.std.proofs.lemmas.Bool.Decides.{nat_tests}
 use Rattle.std.proofs.lemmas.Str.{IsUtf8-from_is_utf8, is_utf8-from_IsUtf8}
 use Rattle.serde_json.specs.Data.{Data}
 use Rattle.serde_json.specs.Read.{read}
-use Rattle.transformations.specs.declared.entry.Entry.{Entry as AnyEntry}
-use Rattle.wire_json.specs.Reading.{Gives, entry_of, found, most_bytes, reading, value_of}
+use Rattle.wire_json.specs.Reading.{Gives, found, line_in, most_bytes, reading, value_of}
 use Rattle.wire_json.specs.declared.line.Line.{Line}
-use Rattle.wire_json.specs.declared.line.Line.TheVariants.{Entry}
 use Rattle.wire_json.specs.declared.line.ReadLineFault.{ReadLineFault}
 use Rattle.wire_json.specs.declared.line.ReadLineFault.TheVariants.{Bad, Memory}
 
@@ -40,26 +38,25 @@ reading-long bytes long = rw (lt-leb-false (length bytes) long)
     lt-leb-false : (n : ℕ) → most_bytes < n → nat_le n most_bytes ≡ false
     lt-leb-false n more = grind (arith, nat_tests)
 
--- a line that is no value, a value that is no entry, and an entry
+-- a line that is no value, and a value
 pub reading-no_value : (bytes : List ℕ) (rule : ℕ) → length bytes ≤ most_bytes → found 2 (value_of bytes) ≡ Err (Bad rule) → reading bytes ≡ Err (Bad rule)
 unfolding reading
 reading-no_value bytes rule short none = rw (le-leb _ _ short, none)
 
-pub reading-no_entry : (bytes : List ℕ) (d : Data) (rule : ℕ) → length bytes ≤ most_bytes → found 2 (value_of bytes) ≡ Ok d → entry_of d ≡ Err (Bad rule) → reading bytes ≡ Err (Bad rule)
+reading-value : (bytes : List ℕ) (d : Data) → length bytes ≤ most_bytes → found 2 (value_of bytes) ≡ Ok d → reading bytes ≡ line_in d
 unfolding reading
-reading-no_entry bytes d rule short is none = rw (le-leb _ _ short, is, none)
+reading-value bytes d short is = rw (le-leb _ _ short, is)
 
-pub reading-entry : (bytes : List ℕ) (d : Data) (entry : AnyEntry) → length bytes ≤ most_bytes → found 2 (value_of bytes) ≡ Ok d → entry_of d ≡ Ok entry → reading bytes ≡ Ok (Entry entry)
-unfolding reading
-reading-entry bytes d entry short is there = rw (le-leb _ _ short, is, there)
+pub reading-line : (bytes : List ℕ) (d : Data) → length bytes ≤ most_bytes → value_of bytes ≡ Some d → reading bytes ≡ line_in d
+reading-line bytes d short is = reading-value bytes d short (ap (found 2) is)
 
--- what is passed on of a fault
+-- what is passed on of a fault, and of what a value says
 pub passed_no_value : {X : Type 0} (view : X → Data) (bytes : List ℕ) (e : ReadLineFault) (r : Result Line ReadLineFault) → length bytes ≤ most_bytes → Gives view (Err e) (found 2 (value_of bytes)) → r ≡ Err e → r ≢ Err Memory
     → r ≡ reading bytes
 passed_no_value view bytes Memory r short given is other = absurd (other is)
 passed_no_value view bytes (Bad rule) r short given is other = is ∙ sym (reading-no_value bytes rule short given)
 
-pub passed_no_entry : (bytes : List ℕ) (d : Data) (e : ReadLineFault) (r : Result Line ReadLineFault) → length bytes ≤ most_bytes → found 2 (value_of bytes) ≡ Ok d → Gives (λ (entry : AnyEntry). entry) (Err e) (entry_of d)
-    → r ≡ Err e → r ≢ Err Memory → r ≡ reading bytes
-passed_no_entry bytes d Memory r short there given is other = absurd (other is)
-passed_no_entry bytes d (Bad rule) r short there given is other = is ∙ sym (reading-no_entry bytes d rule short there given)
+pub passed_line : (bytes : List ℕ) (d : Data) (r : Result Line ReadLineFault) → length bytes ≤ most_bytes → found 2 (value_of bytes) ≡ Ok d → Gives (λ line. line) r (line_in d) → r ≢ Err Memory → r ≡ reading bytes
+passed_line bytes d (Ok line) short is given other = sym (reading-value bytes d short is ∙ given)
+passed_line bytes d (Err Memory) short is given other = absurd (other refl)
+passed_line bytes d (Err (Bad rule)) short is given other = sym (reading-value bytes d short is ∙ given)

@@ -1,5 +1,5 @@
--- JSON data of texts and whole numbers: how long its text is, and that its text reads as the data.
-use Rattle.std.proofs.Common.{◌≡◌, ℕ, suc, ◌+◌, ◌*◌, ◌/◌, ◌%◌, ◌^◌, ◌<◌, ◌≤◌, pos, negsuc, max, Bool, true, false, cond, List, [], ◌∷◌, ◌++◌, length, Some, option_map, option_and_then, IsUtf8, decimal, refl, sym, ap, ap₂, ◌∙◌, arith, append-nil, length-append, nat_lt}
+-- JSON data of texts, whole numbers, true and false: how long its text is, and that its text reads as the data.
+use Rattle.std.proofs.Common.{◌≡◌, ℕ, suc, ◌+◌, ◌*◌, ◌/◌, ◌%◌, ◌^◌, ◌<◌, ◌≤◌, pos, negsuc, max, Bool, true, false, cond, List, [], ◌∷◌, ◌++◌, length, Some, option_map, option_and_then, IsUtf8, codes, decimal, refl, sym, ap, ap₂, ◌∙◌, arith, append-nil, length-append, nat_lt}
 use Rattle.std.proofs.lemmas.Fmt.{IsAscii-decimal, length-decimal-le}
 use Rattle.std.proofs.lemmas.Str.{IsUtf8-append, IsUtf8-from_ascii, IsUtf8-nil}
 use Rattle.std.proofs.lemmas.Str.Ascii.{IsAscii-nil, IsAscii-cons}
@@ -17,6 +17,7 @@ use Rattle.serde_json.specs.Read.{number_of, of_json, of_items, of_members, max_
 use Rattle.serde_json.specs.Written.{comma_if, compact_text, items_text, members_text, number_text, outline, items_outline, members_outline}
 use Rattle.serde_json.proofs.Numbers.{number_of-decimal, number_of-negative}
 use Rattle.serde_json.proofs.Texts.{print-outline}
+use Rattle.wire_json.proofs.TextBytes.{IsUtf8-tested}
 
 -- ---- such data
 
@@ -32,11 +33,11 @@ abbrev pub put_members : Members → Members → Members
 put_members no_members found = found
 put_members (member key value members) found = put_members members (put key value found)
 
--- texts, whole numbers, lists of these, and objects of these, whose keys ascend
+-- texts, whole numbers, true and false, lists of these, and objects of these, whose keys ascend
 abbrev mutual
   pub IsWhole : Data → Type 0
   IsWhole null = ⊥
-  IsWhole (boolean b) = ⊥
+  IsWhole (boolean b) = Unit {0}
   IsWhole (number n) = IsWholeNumber n
   IsWhole (string text) = IsUtf8 text
   IsWhole (array items) = AreWhole items
@@ -55,7 +56,7 @@ abbrev mutual
 abbrev mutual
   pub most : Data → ℕ
   most null = 0
-  most (boolean b) = 0
+  most (boolean b) = 5
   most (number n) = 21
   most (string text) = 6 * length text + 2
   most (array items) = 1 + items_most items
@@ -109,10 +110,14 @@ Fits-number (negative (negsuc n)) h =
     (IsUtf8-from_ascii (45 ∷ decimal (suc n)) (IsAscii-cons 45 (decimal (suc n)) (omega arith) (IsAscii-decimal (suc n) fits)), omega (arith, length-decimal-le 20 (suc n) (omega arith) (omega arith) fits))
 Fits-number (float x) h = absurd h
 
+Fits-boolean : (b : Bool) → Fits 5 (compact_text (boolean b))
+Fits-boolean true = (IsUtf8-tested (codes "true") refl, omega arith)
+Fits-boolean false = (IsUtf8-tested (codes "false") refl, omega arith)
+
 mutual
   pub Fits-text : (value : Data) → IsWhole value → Fits (most value) (compact_text value)
   Fits-text null h = absurd h
-  Fits-text (boolean b) h = absurd h
+  Fits-text (boolean b) h = Fits-boolean b
   Fits-text (number n) h = Fits-number n h
   Fits-text (string text) h = Fits-quoted text h
   Fits-text (array items) h = Fits-append 1 (items_most items) (91 ∷ []) (items_text false items) (Fits-one 91 (omega arith)) (Fits-items false items h)
@@ -150,7 +155,7 @@ number_of-whole (float x) h = absurd h
 mutual
   HasNumbers-outline : (value : Data) → IsWhole value → tree.HasNumbers (outline value)
   HasNumbers-outline null h = absurd h
-  HasNumbers-outline (boolean b) h = absurd h
+  HasNumbers-outline (boolean b) h = tt
   HasNumbers-outline (number n) h = IsNumber-whole n h
   HasNumbers-outline (string text) h = tt
   HasNumbers-outline (array items) h = HasNumbers-items items h
@@ -184,7 +189,7 @@ mutual
 mutual
   of_json-outline : (value : Data) → IsWhole value → of_json (outline value) ≡ Some value
   of_json-outline null h = absurd h
-  of_json-outline (boolean b) h = absurd h
+  of_json-outline (boolean b) h = refl
   of_json-outline (number n) h = ap (option_map number) (number_of-whole n h)
   of_json-outline (string text) h = refl
   of_json-outline (array items) h = ap (option_map array) (of_items-outline items h)

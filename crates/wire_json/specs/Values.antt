@@ -6,7 +6,7 @@ use Rattle.cluster_terms.specs.Name.{is_name}
 use Rattle.cluster_terms.specs.ReplicationText.{replication_of}
 use Rattle.cluster_terms.specs.declared.replication.Replication.{Replication}
 use Rattle.serde_json.specs.Data.{Data, Items, no_items, item, Members, no_members, member}
-use Rattle.serde_json.specs.Find.{get, as_array, as_number, as_object, as_str, as_i64, as_u64}
+use Rattle.serde_json.specs.Find.{get, as_array, as_bool, as_number, as_object, as_str, as_i64, as_u64}
 use Rattle.transformations.specs.History.{are_tokens}
 
 -- the keys of an object, which ascend
@@ -28,15 +28,26 @@ text_at key value = option_and_then as_str (get key value)
 abbrev pub number_at : List ℕ → Data → Option ℕ
 number_at key value = option_and_then as_u64 (option_and_then as_number (get key value))
 
--- the name at a key, the replication at a key, and the node at a key: a whole number below 2^32
+-- true or false at a key
+abbrev pub flag_at : List ℕ → Data → Option Bool
+flag_at key value = option_and_then as_bool (get key value)
+
+-- the name at a key, and the replication at a key
 abbrev pub name_at : List ℕ → Data → Option (List ℕ)
 name_at key value = option_and_then (λ text. if is_name text then Some text else None) (text_at key value)
 
 abbrev pub replication_at : List ℕ → Data → Option Replication
 replication_at key value = option_and_then replication_of (text_at key value)
 
+-- a node: a whole number below 2^32
+abbrev pub node_by : ℕ → Option ℕ
+node_by n = if nat_lt n (2 ^ 32) then Some n else None
+
+abbrev pub node_in : Data → Option ℕ
+node_in value = option_and_then node_by (option_and_then as_u64 (as_number value))
+
 abbrev pub node_at : List ℕ → Data → Option ℕ
-node_at key value = option_and_then (λ n. if nat_lt n (2 ^ 32) then Some n else None) (number_at key value)
+node_at key value = option_and_then node_by (number_at key value)
 
 -- a token: a whole number from -2^63 to 2^63 - 1
 abbrev pub token_of : Data → Option ℤ
@@ -45,14 +56,17 @@ token_of value = option_and_then as_i64 (as_number value)
 abbrev pub token_at : List ℕ → Data → Option ℤ
 token_at key value = option_and_then token_of (get key value)
 
--- tokens: a list of 1 to 256 tokens that ascend
-abbrev pub each_token_of : Items → Option (List ℤ)
-each_token_of no_items = Some []
-each_token_of (item value values) =
-    option_and_then (λ token. option_map (λ tokens. token ∷ tokens) (each_token_of values)) (token_of value)
+-- a list whose items are all of one form, and such a list at a key
+abbrev pub each_of : {A : Type 0} → (Data → Option A) → Items → Option (List A)
+each_of form no_items = Some []
+each_of form (item value values) = option_and_then (λ x. option_map (λ xs. x ∷ xs) (each_of form values)) (form value)
 
+abbrev pub each_at : {A : Type 0} → (Data → Option A) → List ℕ → Data → Option (List A)
+each_at form key value = option_and_then (each_of form) (option_and_then as_array (get key value))
+
+-- tokens: a list of 1 to 256 tokens that ascend
 abbrev pub list_of : Items → Option (List ℤ)
-list_of values = option_and_then (λ tokens. if are_tokens tokens then Some tokens else None) (each_token_of values)
+list_of values = option_and_then (λ tokens. if are_tokens tokens then Some tokens else None) (each_of token_of values)
 
 abbrev pub tokens_at : List ℕ → Data → Option (List ℤ)
 tokens_at key value = option_and_then list_of (option_and_then as_array (get key value))

@@ -1,9 +1,12 @@
 //! Writes commands as JSON objects.
 
 ghost use Rattle.std.specs.Prelude.{◌≡◌, ◌++◌, IfOk};
-ghost use Rattle.serde_json.specs.View.{items_view, view};
+ghost use Rattle.cluster_terms.specs.ReplicationText.{text_of};
+ghost use Rattle.serde_json.specs.Data.{string};
+ghost use Rattle.serde_json.specs.View.{view};
 ghost use Rattle.wire_json.specs.Texts as spec;
 
+use crate::lists::list_value;
 use cluster_terms::{ByteText, Memory, Name, NodeId, Replication, TokenList};
 use serde_json::{Value, json};
 use std::alloc::Global;
@@ -41,10 +44,19 @@ pub fn command_value(alloc: Global, command: &Command) -> Result<Value, Memory>
 fn keyspace_value(alloc: Global, name: &Name, replication: &Replication) -> Result<Value, Memory>
     ensures { IfOk result (λ value. view value ≡ spec.keyspace_data name.now replication.now) }
 {
+    let text = replication_value(alloc, replication)?;
+    let value = json!(in alloc; {"kind": "keyspace", "name": name.as_str(), "replication": text})?;
+    Ok(value)
+}
+
+/// The text of a replication as a JSON value. Fails only if memory runs out.
+pub fn replication_value(alloc: Global, replication: &Replication) -> Result<Value, Memory>
+    ensures { IfOk result (λ value. view value ≡ string (text_of replication.now)) }
+{
     let mut text = ByteText::empty(alloc);
     replication.write(&mut text)?;
     let text = std::str::from_utf8(text.as_slice()).unwrap();
-    let value = json!(in alloc; {"kind": "keyspace", "name": name.as_str(), "replication": text})?;
+    let value = json!(in alloc; text)?;
     Ok(value)
 }
 
@@ -65,7 +77,7 @@ fn tokens_value(
 ) -> Result<Value, Memory>
     ensures { IfOk result (λ value. view value ≡ spec.tokens_data word.now node tokens.now) }
 {
-    let tokens = token_values(alloc, tokens)?;
+    let tokens = list_value(alloc, tokens)?;
     let value = json!(in alloc; {"kind": word, "node": node.0, "tokens": tokens})?;
     Ok(value)
 }
@@ -76,18 +88,6 @@ fn replace_value(alloc: Global, node: NodeId, gone: NodeId) -> Result<Value, Mem
 {
     let value = json!(in alloc; {"gone": gone.0, "kind": "prepare-replace", "node": node.0})?;
     Ok(value)
-}
-
-// The tokens as a list of JSON numbers.
-fn token_values(alloc: Global, tokens: &TokenList) -> Result<Vec<Value>, Memory>
-    ensures { IfOk result (λ values. items_view values.items ≡ spec.token_items tokens.now) }
-{
-    let items = tokens.as_slice();
-    let mut values = Vec::with_capacity(alloc, items.len())?;
-    for token in items {
-        values.push(Value::from(token.value()))?;
-    }
-    Ok(values)
 }
 
 // The word of a step, such as `start-join`.

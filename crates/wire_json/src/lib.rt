@@ -1,10 +1,13 @@
-//! Reads and writes the lines of log files. Each line is the JSON object of one entry.
+//! Reads and writes the lines of files. Each line is a JSON object: that of an entry, or that of a snapshot.
 #![tactic(auto)]
 
 mod command_values;
 mod commands;
 mod line;
+mod lists;
 mod reading;
+mod snapshot_values;
+mod snapshots;
 mod tokens;
 mod validity;
 mod values;
@@ -12,5 +15,5 @@ mod writing;
 
 pub use line::{Line, ReadLineFault};
 pub use reading::read_line;
-pub use validity::entries_read_back;
-pub use writing::entry_line;
+pub use validity::{entries_read_back, images_read_back, sound_images_fit};
+pub use writing::{entry_line, snapshot_line};

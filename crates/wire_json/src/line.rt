@@ -1,17 +1,19 @@
 use cluster_terms::Memory;
-use transformations::Entry;
+use transformations::{Entry, Image};
 
-/// The content of a line of a log file, as `read_line` returns it.
+/// The content of a line of a file, as `read_line` returns it.
 #[derive(Debug, Drop)]
 pub enum Line {
     /// An entry: a command, the id that its sender gave it, and the epoch that it made.
     Entry(Entry),
+    /// A snapshot: the image of some epoch.
+    Snapshot(Image),
 }
 
 /// Why `read_line` returned no line.
 #[derive(Clone, Copy, Debug, PartialEq, Eq)]
 pub enum ReadLineFault {
-    /// The line breaks this rule, and no rule with a smaller number. `read_line` lists the rules, 1 to 5.
+    /// The line breaks this rule, and no rule with a smaller number. `read_line` lists the rules, 1 to 6.
     Bad(u8),
     /// Memory ran out.
     Memory,

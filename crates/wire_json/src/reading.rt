@@ -1,4 +1,4 @@
-//! Reads the lines of log files.
+//! Reads the lines of files: entries and snapshots.
 
 ghost use Rattle.std.specs.Prelude.{◌≡◌, ◌≢◌, ◌<◌, length, Err, IfOk};
 ghost use Rattle.serde_json.specs.View.{view};
@@ -8,6 +8,7 @@ ghost use Rattle.wire_json.specs.declared.line.ReadLineFault.TheVariants as faul
 
 use crate::commands::command_of;
 use crate::line::{Line, ReadLineFault};
+use crate::snapshots::snapshot_at;
 use crate::values::{has_keys, number_at};
 use cluster_terms::Memory;
 use serde_json::Value;
@@ -20,21 +21,25 @@ const MOST_BYTES: usize = 4_194_304;
 /// The greatest epoch of an entry.
 const MOST_EPOCHS: u64 = 65_536;
 
-/// Reads a line of a log file; `bytes` is the line without its line feed. The line may be any JSON text of the entry's
-/// object: keys may come in any order, and if a key comes twice, the last value counts.
+/// Reads a line of a file; `bytes` is the line without its line feed. The line is an entry line or a snapshot line. It
+/// may be any JSON text of its object: keys may come in any order, and if a key comes twice, the last value counts.
 ///
 /// Fails with `Bad(rule)` for the first of these rules that the line breaks:
 ///
 /// 1. The line has at most 4,194,304 bytes. A longer line is refused without taking memory.
 /// 2. It is a JSON text in UTF-8, nested at most 127 deep, and no number in it is too large for a float.
-/// 3. It is an object with exactly the keys `command`, `entry` and `epoch`.
+/// 3. It is an object with exactly the keys `command`, `entry` and `epoch`, or with exactly the key `snapshot`.
 /// 4. `entry` is a whole number below 2^64, and `epoch` is a whole number from 1 to 65,536. A whole number has no point
 ///    and no exponent, and isn't `-0`.
 /// 5. `command` is an object with exactly the keys of its kind. Names are valid, a replication is written as in
 ///    scripts, nodes are whole numbers below 2^32, tokens are whole numbers from -2^63 to 2^63 - 1, and a list of
 ///    tokens has 1 to 256 tokens that ascend.
+/// 6. `snapshot` is an object with exactly the keys `epoch`, `keyspaces`, `next`, `nodes`, `sequences` and `tokens`:
+///    `epoch` is a whole number below 2^64, `next` a whole number below 2^32, and the others are lists of any length.
+///    Their items have exactly the keys of their kind, with values as in rule 5; a pair is a list of a token and a node.
+///    An image that is read needn't be valid.
 ///
-/// Fails with `Memory` if memory runs out.
+/// Fails with `Memory` if memory runs out. The cost is a pass over the bytes and over the value.
 pub fn read_line(alloc: Global, bytes: &[u8]) -> Result<Line, ReadLineFault>
     ensures meaning { result ≢ Err fault.Memory → result ≡ spec.reading bytes.now }
     ensures tokens { IfOk result spec.HasTokens }
@@ -45,8 +50,28 @@ pub fn read_line(alloc: Global, bytes: &[u8]) -> Result<Line, ReadLineFault>
         return Err(ReadLineFault::Bad(1));
     }
     let value = value_of(alloc, bytes)?;
-    let entry = entry_of(alloc, &value)?;
-    Ok(Line::Entry(entry))
+    line_in(alloc, &value)
+}
+
+// What a JSON value says: rules 3 to 6.
+#[tactic(auto, using(crate::proofs::LineLemmas::gives_entry), unfolding(crate::specs::Reading::line_in))]
+fn line_in(alloc: Global, value: &Value) -> Result<Line, ReadLineFault>
+    ensures { spec.Gives (λ line. line) result (spec.line_in (view value.now)) }
+{
+    if has_keys(value, &["snapshot"]) {
+        return image_of_line(alloc, value);
+    }
+    entry_of(alloc, value).map(Line::Entry)
+}
+
+// The image of a snapshot line: rule 6.
+fn image_of_line(alloc: Global, value: &Value) -> Result<Line, ReadLineFault>
+    ensures { spec.Gives (λ line. line) result (spec.image_of_line (view value.now)) }
+{
+    match snapshot_at(alloc, value, "snapshot")? {
+        Some(image) => Ok(Line::Snapshot(image)),
+        None => Err(ReadLineFault::Bad(6)),
+    }
 }
 
 // The JSON value in the bytes: rule 2.

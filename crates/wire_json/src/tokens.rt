@@ -5,7 +5,7 @@ ghost use Rattle.serde_json.specs.View.{items_view, view};
 ghost use Rattle.transformations.specs.History as history;
 ghost use Rattle.wire_json.specs.Values as spec;
 
-use crate::values::token_of;
+use crate::lists::each_of;
 use cluster_terms::{Memory, Token, TokenList};
 use serde_json::Value;
 use std::alloc::Global;
@@ -25,20 +25,6 @@ fn ascend(tokens: &[Token]) -> bool
     true
 }
 
-/// The tokens in a list of values, or `None` if a value is not a token.
-fn each_token_of(alloc: Global, values: &Vec<Value>) -> Result<Option<TokenList>, Memory>
-    ensures { IfOk result (λ found. found ≡ spec.each_token_of (items_view values.now.items)) }
-{
-    let mut tokens = Vec::with_capacity(alloc, values.len())?;
-    for value in values {
-        match token_of(value) {
-            Some(token) => tokens.push(token)?,
-            None => return Ok(None),
-        }
-    }
-    Ok(Some(TokenList::from_vec(tokens)))
-}
-
 /// The tokens in a list of values, or `None` unless they are 1 to 256 tokens that ascend. A list of more than 256
 /// values is refused before any value is read.
 #[tactic(auto, using(crate::proofs::TokenItems::no_list, crate::proofs::TokenItems::list_by_order))]
@@ -48,7 +34,7 @@ fn list_of(alloc: Global, values: &Vec<Value>) -> Result<Option<TokenList>, Memo
     if values.is_empty() || MOST_TOKENS < values.len() {
         return Ok(None);
     }
-    match each_token_of(alloc, values)? {
+    match each_of::<Token>(alloc, values)? {
         Some(tokens) if ascend(tokens.as_slice()) => Ok(Some(tokens)),
         _ => Ok(None),
     }

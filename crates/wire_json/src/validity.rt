@@ -1,9 +1,13 @@
 //! Facts about the definitions of lines.
 
-ghost use Rattle.std.specs.Prelude.{◌≡◌, Ok};
+ghost use Rattle.std.specs.Prelude.{◌≡◌, ◌≤◌, length, Ok};
+ghost use Rattle.transformations.specs.Valid.{IsSound};
 ghost use Rattle.transformations.specs.declared.entry.Entry.{Entry};
+ghost use Rattle.transformations.specs.declared.image.Image.{Image};
 ghost use Rattle.wire_json.specs.Entries.{IsEntry};
-ghost use Rattle.wire_json.specs.Reading.{reading};
+ghost use Rattle.wire_json.specs.LineImages.{FitsLine};
+ghost use Rattle.wire_json.specs.Reading.{most_bytes, reading};
+ghost use Rattle.wire_json.specs.SnapshotTexts.{image_text};
 ghost use Rattle.wire_json.specs.Texts.{entry_text};
 ghost use Rattle.wire_json.specs.declared.line.Line.TheVariants as line;
 
@@ -12,4 +16,19 @@ ghost use Rattle.wire_json.specs.declared.line.Line.TheVariants as line;
 #[tactic(auto, using(crate::proofs::EntriesReadBack::entry_reads_back))]
 pub fn entries_read_back()
     ensures { (entry : Entry) → IsEntry entry → reading (entry_text entry) ≡ Ok (line.Entry entry) }
+{}
+
+/// Reading the text of an image gives the image back, if its values fit a line and its text isn't longer than a line may
+/// be. The image needn't be valid.
+#[tactic(auto, using(crate::proofs::ImagesReadBack::image_reads_back))]
+pub fn images_read_back()
+    ensures { (image : Image) → FitsLine image → length (image_text image) ≤ most_bytes
+        → reading (image_text image) ≡ Ok (line.Snapshot image) }
+{}
+
+/// The text of a sound image isn't longer than a line may be, if its values fit a line: so reading it gives the image
+/// back.
+#[tactic(auto, using(crate::proofs::ImageSizes::sound_fits))]
+pub fn sound_images_fit()
+    ensures { (image : Image) → FitsLine image → IsSound image → length (image_text image) ≤ most_bytes }
 {}

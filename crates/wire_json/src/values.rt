@@ -46,12 +46,33 @@ pub fn number_at(value: &Value, key: &str) -> Option<u64>
     value.get(key)?.as_u64()
 }
 
+/// True or false at a key.
+pub fn flag_at(value: &Value, key: &str) -> Option<bool>
+    ensures { result ≡ spec.flag_at key.now (view value.now) }
+{
+    value.get(key)?.as_bool()
+}
+
+/// The node with this number, if the number is below 2^32.
+fn node_by(number: u64) -> Option<NodeId>
+    ensures { result ≡ spec.node_by number }
+{
+    let id = u32::try_from(number).ok()?;
+    Some(NodeId(id))
+}
+
+/// The node in a value: a whole number below 2^32.
+pub fn node_in(value: &Value) -> Option<NodeId>
+    ensures { result ≡ spec.node_in (view value.now) }
+{
+    node_by(value.as_u64()?)
+}
+
 /// The node at a key: a whole number below 2^32.
 pub fn node_at(value: &Value, key: &str) -> Option<NodeId>
     ensures { result ≡ spec.node_at key.now (view value.now) }
 {
-    let id = u32::try_from(number_at(value, key)?).ok()?;
-    Some(NodeId(id))
+    node_by(number_at(value, key)?)
 }
 
 /// The name at a key, or `None` if no valid name is there. Fails only if memory runs out.

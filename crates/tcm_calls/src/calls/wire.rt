@@ -154,7 +154,6 @@ const BROKEN: [(u8, &[u8]); 26] = [
     (3, b"null"),
     (3, b"1"),
     (3, br#""entry""#),
-    (3, br#"{"snapshot":{}}"#),
     (3, br#"{"entry":1,"epoch":2}"#),
     (3, br#"{"command":{"kind":"cancel","node":4},"epoch":2}"#),
     (3, br#"{"command":{"kind":"cancel","node":4},"entry":1}"#),
@@ -169,6 +168,7 @@ const BROKEN: [(u8, &[u8]); 26] = [
     (3, br#"{"a":0,"command":5,"entry":-1,"epoch":0}"#),
     (4, br#"{"command":5,"entry":-1,"epoch":0}"#),
     (5, br#"{"command":5,"entry":1,"epoch":2}"#),
+    (6, br#"{"snapshot":{}}"#),
 ];
 
 /// JSON texts that aren't the id of an entry.
@@ -270,10 +270,11 @@ fn line_of(alloc: Global, command: &str, id: &str, epoch: &str) -> Result<String
     Ok(format!(in alloc; "{{\"command\":{command},\"entry\":{id},\"epoch\":{epoch}}}")?)
 }
 
-/// The entry in a line, or `None` if the line breaks a rule.
+/// The entry in a line, or `None` if the line is an image or breaks a rule.
 fn read(alloc: Global, line: &[u8]) -> Result<Option<Entry>, Fail> {
     match read_line(alloc, line) {
         Ok(Line::Entry(entry)) => Ok(Some(entry)),
+        Ok(Line::Snapshot(_)) => Ok(None),
         Err(ReadLineFault::Bad(_)) => Ok(None),
         Err(ReadLineFault::Memory) => Err("memory")?,
     }

@@ -1,7 +1,6 @@
 //! Calls that no script makes, beside the worked scripts whose openings and texts they share.
 
 mod deltas;
-mod edges;
 mod metadata;
 mod plans;
 mod rings;

@@ -1,4 +1,5 @@
-//! Scripts that reach the limits of nodes, tokens, keyspaces, epochs and waiting entries.
+//! Scripts that reach the limits of nodes, tokens, keyspaces, epochs and waiting entries, and queries of epochs near those
+//! whose images are kept.
 
 use crate::tests::running::{accepted, ran};
 use std::alloc::Global;
@@ -168,5 +169,78 @@ fn waiting_entries_end_at_1024(rt: HostRuntime) -> Result<(), Fail> {
     deliver(alloc, &mut script, &mut want, 1_026..1_031, "FULL 0\n")?;
     script.push_str("deliver f 1025\ndeliver f 1\ndeliver f 1026\ndeliver f 1028\n")?;
     want.push_str("HELD 0\nAT 1025\nAT 1026\nAT 1026\n")?;
+    is_answered(&rt, alloc, &script, &want)
+}
+
+/// Seven nodes on a ring, at the epochs up to 14.
+const SEVEN: &str = "commit 1 register a dc1 r1\n\
+    commit 2 register b dc1 r1\n\
+    commit 3 register c dc1 r1\n\
+    commit 4 register d dc1 r1\n\
+    commit 5 register e dc1 r1\n\
+    commit 6 register f dc1 r1\n\
+    commit 7 register g dc1 r1\n\
+    commit 8 unsafe-join 1 0\n\
+    commit 9 unsafe-join 2 100\n\
+    commit 10 unsafe-join 3 200\n\
+    commit 11 unsafe-join 4 300\n\
+    commit 12 unsafe-join 5 400\n\
+    commit 13 unsafe-join 6 500\n\
+    commit 14 unsafe-join 7 600\n";
+
+/// The epochs that are asked: the first and the last with a keyspace, and those near 256 and 512.
+const ASKED: [u64; 10] = [15, 16, 255, 256, 257, 511, 512, 513, 599, 600];
+
+/// The replicas that the keyspace has at an epoch. They differ at epochs that are near one another.
+fn replicas_at(epoch: u64) -> u64 {
+    1 + epoch % 7
+}
+
+/// The first nodes, this many.
+fn first_nodes(alloc: Global, count: u64) -> Result<String, Fail> {
+    let mut list = String::from_str(alloc, "1")?;
+    for id in 2..=count {
+        list.push_str(&format!(in alloc; ",{id}")?)?;
+    }
+    Ok(list)
+}
+
+/// The answer to a query of the quorums at the first token.
+fn quorum_at(alloc: Global, epoch: u64) -> Result<String, Fail> {
+    let replicas = replicas_at(epoch);
+    let need = replicas / 2 + 1;
+    let nodes = first_nodes(alloc, replicas)?;
+    let text = format!(in alloc;
+        "QUORUM {epoch} read {need} of {nodes} write {need} of {nodes}\n"
+    )?;
+    Ok(text)
+}
+
+/// Adds queries of an epoch, also by a follower that is handed its image, and their answers.
+fn ask(alloc: Global, script: &mut String, want: &mut String, epoch: u64) -> Result<(), Fail> {
+    let lines = format!(in alloc; "quorum @{epoch} ks 0\nsnapshot f {epoch}\nquorum f ks 0\n")?;
+    script.push_str(lines.as_str())?;
+    let quorum = quorum_at(alloc, epoch)?;
+    want.push_str(&format!(in alloc; "{quorum}AT {epoch}\n{quorum}")?)?;
+    Ok(())
+}
+
+#[test]
+fn each_epoch_is_answered(rt: HostRuntime) -> Result<(), Fail> {
+    let alloc = rt.alloc();
+    let mut script = String::from_str(alloc, SEVEN)?;
+    for epoch in 15..=600 {
+        let replicas = replicas_at(epoch);
+        script.push_str(&format!(in alloc; "commit {epoch} keyspace ks simple {replicas}\n")?)?;
+    }
+    script.push_str("follower f\n")?;
+    let mut want = accepted(alloc, 1, 600)?;
+    want.push_str("AT 0\n")?;
+    for epoch in &ASKED {
+        ask(alloc, &mut script, &mut want, *epoch)?;
+    }
+    script.push_str("quorum @256 ks 0\nquorum @14 ks 0\nquorum @601 ks 0\n")?;
+    want.push_str(quorum_at(alloc, 256)?.as_str())?;
+    want.push_str("NO KEYSPACE\nNO EPOCH 600\n")?;
     is_answered(&rt, alloc, &script, &want)
 }

@@ -6,28 +6,14 @@ use cluster_terms::ByteText;
 use std::alloc::Global;
 use std::process::Abort;
 use std::test::Fail;
-use tcm_edges::{CallList, SureSink, SureSource, SureStore};
+use tcm_edges::{SureSink, SureSource, SureStore};
 use tcm_session::{Status, run_surely};
 
 /// The name of a script, its lines, and their answers.
 pub type Script = (&'static str, &'static str, &'static str);
 
-/// A text.
-pub fn text_of(alloc: Global, text: &[u8]) -> Result<ByteText, Fail> {
-    let mut bytes = ByteText::empty(alloc);
-    bytes.extend(text).map_err(|_| "memory")?;
-    Ok(bytes)
-}
-
-/// A list of one call.
-pub fn calls_of(alloc: Global, call: u64) -> Result<CallList, Fail> {
-    let mut calls = CallList::empty(alloc);
-    calls.push(call).map_err(|_| "memory")?;
-    Ok(calls)
-}
-
 /// The words of a run: this word, or no words if it is empty.
-pub fn words_of(alloc: Global, word: &str) -> Result<Vec<String>, Fail> {
+fn words_of(alloc: Global, word: &str) -> Result<Vec<String>, Fail> {
     let mut words = Vec::new(alloc);
     if !word.is_empty() {
         words.push(String::from_str(alloc, word)?)?;
@@ -45,7 +31,7 @@ pub fn ran(
     requires { 1 ≤ piece }
 {
     let words = words_of(alloc, word)?;
-    let mut input = SureSource::new(text_of(alloc, script)?, piece);
+    let mut input = SureSource::new(ByteText::from_vec(script.to_vec(alloc)?), piece);
     let mut out = SureSink::new(alloc);
     let mut store = SureStore::new(alloc);
     let status = run_surely(alloc, &words, &mut input, &mut out, &mut store);

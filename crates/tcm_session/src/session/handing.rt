@@ -2,8 +2,6 @@
 
 ghost use Rattle.std.specs.Prelude.{◌≡◌, ◌≤◌, length, None, IfOk};
 ghost use Rattle.epoch_log.specs.Epochs.{entry_at};
-ghost use Rattle.transformations.specs.Meeting.{HaveReplications};
-ghost use Rattle.transformations.specs.Valid.{IsValid};
 ghost use Rattle.transformations.specs.History.{state_after};
 ghost use Rattle.transformations.specs.Log.{commands_of};
 ghost use Rattle.tcm_session.specs.Machine.{deliver_to, follower_named, follower_reply, image_at, on_follower, snapshot_to};
@@ -77,11 +75,10 @@ impl Session {
         answer_handed(named.follower.snapshot(image), out)
     }
 
-    /// The image of an epoch of the log: a valid one. Fails only if memory runs out.
-    fn image_at(&self, epoch: u64) -> Result<Image, Memory>
+    /// The image of an epoch of the log. Fails only if memory runs out.
+    pub(crate) fn image_at(&self, epoch: u64) -> Result<Image, Memory>
         requires { epoch ≤ length self.now.log }
-        ensures image { IfOk result (λ image. image ≡ state_after (commands_of self.now.log) epoch) }
-        ensures valid { IfOk result (λ image. IsValid image × HaveReplications image) }
+        ensures { IfOk result (λ image. image ≡ state_after (commands_of self.now.log) epoch) }
     {
         if epoch == self.log.last_epoch() {
             return self.metadata.image();

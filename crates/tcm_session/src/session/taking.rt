@@ -42,6 +42,7 @@ impl Session {
                 self.keep_image()?;
                 self.take_entry(entry)
             }
+            Line::Snapshot(_image) => Ok(Some(Cause::NotEntry)),
         }
     }
 

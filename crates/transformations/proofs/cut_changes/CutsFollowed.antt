@@ -127,7 +127,7 @@ begins : (image : Image) (c : Command) (j : SeqRow) → IsSound image → is_com
 begins image c j h right none is = cuts_begun image j (new_movement image c j h right none is)
 
 -- a movement in another phase
-cuts_at_phase : (image : Image) (phase : Phase) (n epoch : ℕ) → cuts (record image { epoch = epoch; sequences = map (at_phase phase n) image.sequences }) ≡ cuts image
+pub cuts_at_phase : (image : Image) (phase : Phase) (n epoch : ℕ) → cuts (record image { epoch = epoch; sequences = map (at_phase phase n) image.sequences }) ≡ cuts image
 cuts_at_phase image phase n epoch = ap (λ l. ascending int_cmp (tokens_of (image.tokens ++ l))) (phase_incoming phase n image.sequences)
 
 finishes : (image : Image) (n : ℕ) → IsSound image → (s : SeqRow) → movement_of image n ≡ Some s

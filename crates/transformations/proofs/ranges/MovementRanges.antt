@@ -91,7 +91,7 @@ module _ (image : Image) (x w : ℤ) (le : x ≤ℤ w) (clear : AllByRecursion (
       let all : AllByRecursion out (widest image) = clear_pairs image x w clear in
       reached-between (groups_of image.nodes replication) (fixed_ring image) (widest image) (moved_by s) x w le (part_all_of out (fixed_part image) all) (moved_hold out image s within all)
 
-  both_between : (s q : SeqRow) → IsWithinWidest image s → IsWithinWidest image q → in_both image s q x ≡ in_both image s q w
+  pub both_between : (s q : SeqRow) → IsWithinWidest image s → IsWithinWidest image q → in_both image s q x ≡ in_both image s q w
   both_between s q one other =
       λ i. list_any (λ k. ranges_between k.replication s one i && ranges_between k.replication q other i) image.keyspaces
 

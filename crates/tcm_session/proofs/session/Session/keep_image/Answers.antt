@@ -7,8 +7,8 @@ use Rattle.tcm_session.proofs.ImageLemmas.{above_last, images_with}
 use Rattle.tcm_session.proofs.session.Session.keep_image.Goals as goal
 use Rattle.tcm_session.proofs.session.Session.keep_image.Goals.{in-Ok, in-Err}
 
-pub keep-requires-clause-epoch : goal.keep-requires-clause-epoch
-keep-requires-clause-epoch c =
+pub keep-requires : goal.keep-requires
+keep-requires c =
     let history = commands_of c.self.inside.log in
     let is : c.in_ok-image.image ≡ image_after empty_image history = c.in_ok-image.ensures.image ∙ c.self.invariant.0 in
     let below : c.last_epoch.result < length history = omega (arith, c.if-epoch-last_epoch.false, c.last_epoch-epoch.ensures.last, length-commands_of c.self.inside.log) in

@@ -52,7 +52,7 @@ answer_handed-requires c =
     let at = sym (c.in-Some.ensures ∙ ap (position (named name)) c.deref.ensures.value) in
     let has = has_follower s name c.in-Some.place c.index_mut-named.result.now _ c.self.invariant.2 at c.index_mut-named.ensures.value in
     let within : c.args.epoch ≤ length s.log = omega (arith, c.if-epoch-last.false, c.last_epoch-last.ensures.last) in
-    let is = c.in_ok-image.ensures.image ∙ ap (λ (t : SessionState). state_after (commands_of t.log) c.args.epoch) (sym c.self.view_is) in
+    let is = c.in_ok-image.ensures ∙ ap (λ (t : SessionState). state_after (commands_of t.log) c.args.epoch) (sym c.self.view_is) in
     one_log_shown s.log has.follows.taken _ c.snapshot.result c.snapshot.new.self
     (c.snapshot.ensures.shows s.log has.follows.taken c.self.invariant.1 (image_of_log s.log c.args.epoch c.in_ok-image.image within is) has.follows.stands)
 
@@ -63,7 +63,7 @@ invariant_of-self c =
     let at = sym (c.in-Some.ensures ∙ ap (position (named name)) c.deref.ensures.value) in
     let has = has_follower s name c.in-Some.place c.index_mut-named.result.now _ c.self.invariant.2 at c.index_mut-named.ensures.value in
     let within : c.args.epoch ≤ length s.log = omega (arith, c.if-epoch-last.false, c.last_epoch-last.ensures.last) in
-    let is = c.in_ok-image.ensures.image ∙ ap (λ (t : SessionState). state_after (commands_of t.log) c.args.epoch) (sym c.self.view_is) in
+    let is = c.in_ok-image.ensures ∙ ap (λ (t : SessionState). state_after (commands_of t.log) c.args.epoch) (sym c.self.view_is) in
     let follows = follows_shown s.log has.follows.taken _ c.snapshot.result c.snapshot.new.self
     (c.snapshot.ensures.shows s.log has.follows.taken c.self.invariant.1 (image_of_log s.log c.args.epoch c.in_ok-image.image within is) has.follows.stands) in
     (c.self.invariant.0, c.self.invariant.1, moved_follow s name c.in-Some.place c.index_mut-named.result.now c.snapshot.new.self has c.self.invariant.2 follows, c.self.invariant.3)
@@ -76,7 +76,7 @@ returns c =
     let at = sym (c.in-Some.ensures ∙ ap (position (named name)) c.deref.ensures.value) in
     let has = has_follower s name c.in-Some.place f _ c.self.invariant.2 at c.index_mut-named.ensures.value in
     let within : c.args.epoch ≤ length s.log = omega (arith, c.if-epoch-last.false, c.last_epoch-last.ensures.last) in
-    let is = c.in_ok-image.ensures.image ∙ ap (λ (t : SessionState). state_after (commands_of t.log) c.args.epoch) (sym c.self.view_is) in
+    let is = c.in_ok-image.ensures ∙ ap (λ (t : SessionState). state_after (commands_of t.log) c.args.epoch) (sym c.self.view_is) in
     let follows = follows_shown s.log has.follows.taken _ c.snapshot.result c.snapshot.new.self
     (c.snapshot.ensures.shows s.log has.follows.taken c.self.invariant.1 (image_of_log s.log c.args.epoch c.in_ok-image.image within is) has.follows.stands) in
     let after : SessionState = record s { followers = set s.followers c.in-Some.place (record f { follower = c.snapshot.new.self }) } in

@@ -1,0 +1,14 @@
+//! Runs over files, each over objects in memory, and the sources, sinks and stores by themselves.
+
+mod bad_images;
+mod bad_lines;
+mod edges;
+mod faults;
+mod generated;
+mod logs;
+mod moving;
+mod replays;
+mod running;
+mod snapshots;
+mod told;
+mod words;

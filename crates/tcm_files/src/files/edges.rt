@@ -1,0 +1,227 @@
+//! Sources, sinks and stores: those in memory, and those over readers, writers and files.
+
+use crate::files::running::calls_of;
+use cluster_terms::ByteText;
+use std::alloc::Global;
+use std::fs;
+use std::io::{Error, ErrorKind, Read, Write};
+use std::process::Abort;
+use std::rt::Files;
+use std::test::Fail;
+use tcm_edges::{
+    Failed, FileStore, InputSource, LoadFault, Loaded, MemSink, MemSource, MemStore, OutputSink,
+    Sink, Source, Store, StoreFail, StoreFailList, SureSink, SureSource, SureStore, WriteFault,
+    write_all,
+};
+
+/// A reader of two bytes that fails at every read after the first.
+#[derive(Drop)]
+struct Broken {
+    read: bool,
+}
+
+impl Read for Broken {
+    fn read(&mut self, buf: &mut [u8]) -> std::io::Result<usize> {
+        if self.read || buf.len() < 2 {
+            return Err(Error::from(ErrorKind::BrokenPipe));
+        }
+        self.read = true;
+        buf[0] = b'o';
+        buf[1] = b'k';
+        Ok(2)
+    }
+}
+
+/// A writer that counts the bytes that it holds and the bytes that it has passed on. It passes bytes on only at a
+/// flush.
+#[derive(Drop)]
+struct Holding {
+    held: usize,
+    passed: usize,
+}
+
+impl Write for Holding {
+    fn write(&mut self, buf: &[u8]) -> std::io::Result<usize> {
+        self.held = self.held.saturating_add(buf.len());
+        Ok(buf.len())
+    }
+
+    fn flush(&mut self) -> std::io::Result<()> {
+        self.passed = self.passed.saturating_add(self.held);
+        self.held = 0;
+        Ok(())
+    }
+}
+
+/// Reads at most two bytes at a time, once for each wanted result, and returns the buffer.
+fn reads<A: Abort, S: Source>(rt: &A, source: &mut S, wanted: &[Result<usize, Failed>]) -> [u8; 2] {
+    let mut buf = [0; 2];
+    for want in wanted {
+        assert_eq!(rt; source.read(&mut buf), *want);
+    }
+    buf
+}
+
+fn sources<A: Abort>(rt: &A, alloc: Global) -> Result<(), Fail> {
+    let mut sure = SureSource::new(ByteText::from_vec(b"hello".to_vec(alloc)?), 1);
+    assert_eq!(rt; reads(rt, &mut sure, &[Ok(1), Ok(1)]), *b"e\0");
+    let mut listed = MemSource::new(
+        ByteText::from_vec(b"abc".to_vec(alloc)?),
+        9,
+        calls_of(alloc, 2)?,
+    );
+    let wanted = [Ok(2), Err(Failed), Ok(1), Ok(0)];
+    assert_eq!(rt; reads(rt, &mut listed, &wanted), *b"cb");
+    let mut input = InputSource::new(b"abc".as_slice());
+    assert_eq!(rt; reads(rt, &mut input, &[Ok(2), Ok(1), Ok(0)]), *b"cb");
+    let mut broken = InputSource::new(Broken { read: false });
+    let wanted = [Ok(2), Err(Failed), Err(Failed)];
+    assert_eq!(rt; reads(rt, &mut broken, &wanted), *b"ok");
+    Ok(())
+}
+
+fn sinks<A: Abort>(rt: &A, alloc: Global) -> Result<(), Fail> {
+    let mut sure = SureSink::new(alloc);
+    assert_eq!(rt; sure.write(b"ab"), Ok(2));
+    write_all(&mut sure, b"")?;
+    write_all(&mut sure, b"cde")?;
+    assert_eq!(rt; sure.bytes(), b"abcde".as_slice());
+    let mut listed = MemSink::new(alloc, calls_of(alloc, 2)?);
+    for want in [Ok(2), Err(WriteFault::Failed), Ok(2)] {
+        assert_eq!(rt; listed.write(b"ab"), want);
+    }
+    assert_eq!(rt; listed.bytes(), b"abab".as_slice());
+    let mut room = [0; 3];
+    let mut full = OutputSink::new(room.as_mut_slice());
+    assert_eq!(rt; write_all(&mut full, b"abcde"), Err(WriteFault::Failed));
+    assert_eq!(rt; room, *b"abc");
+    let mut holding = Holding { held: 0, passed: 0 };
+    write_all(&mut OutputSink::new(&mut holding), b"abcde")?;
+    assert_eq!(rt; (holding.held, holding.passed), (0, 5));
+    Ok(())
+}
+
+fn stores<A: Abort>(rt: &A, alloc: Global) -> Result<(), Fail> {
+    let mut store = SureStore::new(alloc);
+    store.append("log", b"ab")?;
+    store.append("log", b"c")?;
+    store.replace("snapshot", b"xy")?;
+    store.replace("snapshot", b"z")?;
+    store.put("empty", b"")?;
+    for (name, want) in [
+        ("log", b"abc".as_slice()),
+        ("snapshot", b"z".as_slice()),
+        ("empty", b"".as_slice()),
+    ] {
+        assert!(rt; store.file(name) == Some(want), "{name}");
+    }
+    assert!(rt; store.file("other").is_none());
+    assert!(rt; matches!(store.load("other", 9)?, Loaded::Absent));
+    assert!(rt; matches!(store.load("log", 2)?, Loaded::TooLarge(3)));
+    let loaded = store.load("log", 3)?;
+    assert!(rt; matches!(&loaded, Loaded::Bytes(text) if text.as_slice() == b"abc".as_slice()));
+    Ok(())
+}
+
+/// A list of calls that are to fail, each with the number of bytes that it keeps.
+fn fails_of(alloc: Global, fails: &[(u64, u64)]) -> Result<StoreFailList, Fail> {
+    let mut list = StoreFailList::empty(alloc);
+    for (call, keep) in fails {
+        let fail = StoreFail {
+            call: *call,
+            keep: *keep,
+        };
+        list.push(fail).map_err(|_| "memory")?;
+    }
+    Ok(list)
+}
+
+fn failing_stores<A: Abort>(rt: &A, alloc: Global) -> Result<(), Fail> {
+    let fails = fails_of(
+        alloc,
+        &[(2, 2), (3, 0), (4, 9), (5, 0), (6, 1), (6, 0), (8, 1)],
+    )?;
+    let mut store = MemStore::new(alloc, fails);
+    store.put("log", b"a")?;
+    let failed = Err(WriteFault::Failed);
+    for (name, bytes, want, file) in [
+        ("log", b"b".as_slice(), Ok(()), Some(b"ab".as_slice())),
+        ("log", b"cde".as_slice(), failed, Some(b"abcd".as_slice())),
+        ("new", b"x".as_slice(), failed, None),
+        ("new", b"xy".as_slice(), failed, Some(b"xy".as_slice())),
+    ] {
+        assert_eq!(rt; store.append(name, bytes), want);
+        assert!(rt; store.file(name) == file, "{name}");
+    }
+    for (want, file) in [
+        (failed, b"abcd".as_slice()),
+        (failed, b"z".as_slice()),
+        (Ok(()), b"z".as_slice()),
+    ] {
+        assert_eq!(rt; store.replace("log", b"z"), want);
+        assert!(rt; store.file("log") == Some(file));
+    }
+    assert!(rt; matches!(store.load("log", 1), Err(LoadFault::Failed)));
+    assert!(rt; matches!(store.load("log", 0)?, Loaded::TooLarge(1)));
+    Ok(())
+}
+
+/// Makes a folder for temporary files, and returns its path.
+fn new_folder<R: AllocGlobal + Files>(rt: &R) -> Result<String, Fail> {
+    for number in 0..1000 {
+        let folder = format!(in rt.alloc(); "/tmp/tcm-{number}")?;
+        if fs::create_dir(rt, folder.as_str()).is_ok() {
+            return Ok(folder);
+        }
+    }
+    Err(Fail::from("no folder for temporary files"))
+}
+
+/// Stores a file in a folder.
+fn real_files<R: Abort + AllocGlobal + Files>(rt: &R, folder: &str) -> Result<(), Fail> {
+    let path = format!(in rt.alloc(); "{folder}/log")?;
+    let name = path.as_str();
+    let mut store = FileStore::new(rt);
+    assert!(rt; matches!(store.load(name, 9)?, Loaded::Absent));
+    store.append(name, b"ab")?;
+    store.append(name, b"c")?;
+    assert!(rt; matches!(store.load(name, 2)?, Loaded::TooLarge(3)));
+    for bytes in [b"abcd".as_slice(), b"xyz".as_slice()] {
+        store.replace(name, bytes)?;
+        let loaded = store.load(name, 4)?;
+        assert!(rt; matches!(&loaded, Loaded::Bytes(text) if text.as_slice() == bytes));
+    }
+    for name in [folder, "/dev/null/log"] {
+        assert!(rt;
+            matches!(store.load(name, 9), Err(LoadFault::Failed)),
+            "{name}"
+        );
+        assert_eq!(rt;
+            store.append(name, b"ab"),
+            Err(WriteFault::Failed),
+            "{name}"
+        );
+    }
+    assert_eq!(rt;
+        store.replace("/dev/null/log", b"ab"),
+        Err(WriteFault::Failed)
+    );
+    Ok(())
+}
+
+#[test]
+fn objects_of_the_outside(rt: HostRuntime) -> Result<(), Fail> {
+    sources(&rt, rt.alloc())?;
+    sinks(&rt, rt.alloc())?;
+    stores(&rt, rt.alloc())?;
+    failing_stores(&rt, rt.alloc())
+}
+
+#[test]
+fn files_of_the_operating_system(rt: HostRuntime) -> Result<(), Fail> {
+    let folder = new_folder(&rt)?;
+    let stored = real_files(&rt, folder.as_str());
+    let removed = fs::remove_dir_all(&rt, folder.as_str());
+    stored?;
+    Ok(removed?)
+}

@@ -1,0 +1,205 @@
+//! Runs of `snapshot`: the state of a log at an epoch, logs that are refused, and logs that have a state in them.
+
+use crate::files::running::{fail_of, is_run, is_shown, is_too_large};
+use crate::files::told::{File, bytes_of, holds, store_of, sure_store_of};
+use std::alloc::Global;
+use std::process::Abort;
+use std::str::from_utf8;
+use std::test::Fail;
+
+/// The name of a run, the file `x`, the epoch, the status, and the text that is printed.
+type Shown = (&'static str, File, &'static str, u8, &'static str);
+
+/// Runs of `snapshot x E` that don't print a state.
+const OTHERS: [Shown; 17] = [
+    ("past the last epoch", Some("123"), "4", 7, "NO EPOCH 3\n"),
+    (
+        "the greatest number",
+        Some("123"),
+        "18446744073709551615",
+        7,
+        "NO EPOCH 3\n",
+    ),
+    ("past no entry", Some(""), "1", 7, "NO EPOCH 0\n"),
+    ("past a cut tail", Some("1|2"), "2", 7, "NO EPOCH 1\n"),
+    ("an absent file", None, "0", 7, "NO FILE x\n"),
+    (
+        "a gap before the epoch that is asked",
+        Some("13"),
+        "3",
+        3,
+        "REFUSED 1 2 EPOCH 2 3\n",
+    ),
+    (
+        "a gap after the epoch that is asked",
+        Some("13"),
+        "0",
+        3,
+        "REFUSED 1 2 EPOCH 2 3\n",
+    ),
+    (
+        "a gap before an epoch past the last",
+        Some("13"),
+        "9",
+        3,
+        "REFUSED 1 2 EPOCH 2 3\n",
+    ),
+    (
+        "a line that breaks a rule",
+        Some("12x"),
+        "2",
+        3,
+        "REFUSED 1 3 LINE 2\n",
+    ),
+    (
+        "an entry twice",
+        Some("1234563"),
+        "6",
+        3,
+        "REFUSED 1 7 EPOCH 7 3\n",
+    ),
+    (
+        "a command that is refused",
+        Some("1b34"),
+        "1",
+        3,
+        "REFUSED 1 4 COMMAND 4 NAME-TAKEN 2\n",
+    ),
+    (
+        "snapshot-in-log",
+        Some("1A"),
+        "0",
+        3,
+        "REFUSED 1 2 NOT-ENTRY\n",
+    ),
+    (
+        "the state of the log's last entry",
+        Some("12A"),
+        "2",
+        3,
+        "REFUSED 1 3 NOT-ENTRY\n",
+    ),
+    (
+        "a state that the log goes on from",
+        Some("A3"),
+        "2",
+        3,
+        "REFUSED 1 1 NOT-ENTRY\n",
+    ),
+    (
+        "a state that is not valid",
+        Some("1N"),
+        "0",
+        3,
+        "REFUSED 1 2 NOT-ENTRY\n",
+    ),
+    (
+        "a state before a gap",
+        Some("1A3"),
+        "0",
+        3,
+        "REFUSED 1 2 NOT-ENTRY\n",
+    ),
+    (
+        "a state in the cut tail",
+        Some("1|A"),
+        "2",
+        7,
+        "NO EPOCH 1\n",
+    ),
+];
+
+/// Runs `snapshot x E`, and compares the status and the text. The file is unchanged.
+fn is_asked<A: Abort>(
+    rt: &A,
+    alloc: Global,
+    name: &str,
+    file: File,
+    epoch: &str,
+    wanted: (u8, &str),
+) -> Result<(), Fail> {
+    let mut store = sure_store_of(alloc, file)?;
+    let words = ["snapshot", "x", epoch];
+    is_shown(rt, alloc, name, &words, &mut store, wanted)?;
+    assert!(rt; holds(alloc, &store, file)?, "{name}");
+    Ok(())
+}
+
+/// Asks for each of the epochs.
+fn others<A: Abort>(rt: &A, alloc: Global) -> Result<(), Fail> {
+    for row in &OTHERS {
+        let (name, file, epoch, status, text) = *row;
+        is_asked(rt, alloc, name, file, epoch, (status, text))?;
+    }
+    Ok(())
+}
+
+/// A log, an epoch, and the letter of the state that is printed.
+const STATES: [(&str, &str, &str); 12] = [
+    ("123456", "0", "O"),
+    ("123456", "2", "A"),
+    ("123456", "3", "K"),
+    ("123456", "6", "J"),
+    ("12345678", "6", "J"),
+    ("123", "3", "K"),
+    ("12", "2", "A"),
+    ("", "0", "O"),
+    ("|1", "0", "O"),
+    ("123|4", "3", "K"),
+    ("sp", "2", "A"),
+    ("1b", "2", "T"),
+];
+
+/// Asks for each of the states.
+fn states<A: Abort>(rt: &A, alloc: Global) -> Result<(), Fail> {
+    for row in &STATES {
+        let (log, epoch, state) = *row;
+        let bytes = bytes_of(alloc, state)?;
+        let line = from_utf8(bytes.as_slice()).map_err(|_| "no text")?;
+        is_asked(rt, alloc, log, Some(log), epoch, (0, line))?;
+    }
+    Ok(())
+}
+
+/// A log with a state in it can't go on.
+fn refuses_states<A: Abort>(rt: &A, alloc: Global) -> Result<(), Fail> {
+    let script = "commit 9 register z dc1 r1\n";
+    for (file, text) in [
+        ("1A", "REFUSED 1 2 NOT-ENTRY\n"),
+        ("T4", "REFUSED 1 1 NOT-ENTRY\n"),
+        ("12NA", "REFUSED 1 3 NOT-ENTRY\n"),
+    ] {
+        let mut store = sure_store_of(alloc, Some(file))?;
+        is_run(
+            rt,
+            alloc,
+            file,
+            &["commit", "x"],
+            script,
+            &mut store,
+            (3, text),
+        )?;
+        assert!(rt; holds(alloc, &store, Some(file))?, "{file}");
+    }
+    Ok(())
+}
+
+#[test]
+fn states_of_logs_are_shown(rt: HostRuntime) -> Result<(), Fail> {
+    others(&rt, rt.alloc())?;
+    states(&rt, rt.alloc())?;
+    refuses_states(&rt, rt.alloc())
+}
+
+/// The words of a run that is stopped.
+const WORDS: [&str; 3] = ["snapshot", "x", "1"];
+
+#[test]
+fn states_are_not_shown(rt: HostRuntime) -> Result<(), Fail> {
+    let fails = fail_of(rt.alloc(), (1, 0))?;
+    let mut store = store_of(rt.alloc(), fails, Some("1"))?;
+    let name = "a load that fails";
+    is_shown(&rt, rt.alloc(), name, &WORDS, &mut store, (6, ""))?;
+    assert!(rt; holds(rt.alloc(), &store, Some("1"))?);
+    is_too_large(&rt, rt.alloc(), &WORDS)
+}

@@ -1,0 +1,60 @@
+//! Words that name no command.
+
+use crate::files::running::is_shown;
+use crate::files::told::{holds, sure_store_of};
+use std::test::Fail;
+
+/// The line that is printed for other words.
+pub const USAGE: &str = "usage: tcm commit [LOG] | replay FILE.. | snapshot LOG E | gen START N\n";
+
+/// Words that name no command.
+const OTHER_WORDS: [&[&str]; 31] = [
+    &["commit", ""],
+    &["commit", "x", "y"],
+    &["commit", "x", ""],
+    &["Commit", "x"],
+    &["replay"],
+    &["replay", ""],
+    &["replay", "x", ""],
+    &["replays", "x"],
+    &["snapshot"],
+    &["snapshot", "x"],
+    &["snapshot", "", "1"],
+    &["snapshot", "x", "1", "1"],
+    &["snapshot", "x", ""],
+    &["snapshot", "x", "01"],
+    &["snapshot", "x", "+1"],
+    &["snapshot", "x", "-1"],
+    &["snapshot", "x", "@1"],
+    &["snapshot", "x", "18446744073709551616"],
+    &["snapshot", "1", "x"],
+    &["Snapshot", "x", "1"],
+    &["gen"],
+    &["gen", "0"],
+    &["gen", "0", "0", "0"],
+    &["gen", "0", "3001"],
+    &["gen", "01", "0"],
+    &["gen", "0", "00"],
+    &["gen", "+1", "0"],
+    &["gen", "-1", "0"],
+    &["gen", "", "0"],
+    &["gen", "18446744073709551616", "0"],
+    &["Gen", "0", "0"],
+];
+
+#[test]
+fn other_words_are_answered_by_the_usage(rt: HostRuntime) -> Result<(), Fail> {
+    for words in &OTHER_WORDS {
+        let mut store = sure_store_of(rt.alloc(), Some("1"))?;
+        is_shown(
+            &rt,
+            rt.alloc(),
+            "other words",
+            words,
+            &mut store,
+            (2, USAGE),
+        )?;
+        assert!(rt; holds(rt.alloc(), &store, Some("1"))?);
+    }
+    Ok(())
+}
