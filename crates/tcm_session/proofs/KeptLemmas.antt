@@ -1,5 +1,5 @@
 -- What is kept of a line that has begun: its reply is that of the whole line.
-use Rattle.std.proofs.Common.{◌≡◌, ℕ, ◌+◌, ◌-◌, ◌≤◌, min, suc, zero, Bool, true, false, if◌then◌else◌, ◌==◌, nat_le, List, [], ◌∷◌, ◌++◌, length, take, Option, None, ◌⊎◌, inl, inr, refl, sym, ap, ◌∙◌, append_assoc, length-take, arith}
+use Rattle.std.proofs.Common.{◌≡◌, ℕ, ◌+◌, ◌-◌, ◌≤◌, min, suc, zero, Bool, true, false, if◌then◌else◌, ◌==◌, nat_le, List, [], ◌∷◌, ◌++◌, length, take, Option, None, ◌⊎◌, inl, inr, refl, sym, ap, ◌∙◌, subst, append_assoc, length-take, arith}
 use Rattle.std.proofs.Math.Seq.{take-append-add}
 use Rattle.std.proofs.lemmas.Bool.{eqb-true}
 use Rattle.std.proofs.lemmas.Bool.Decides.{nat_tests}
@@ -49,7 +49,7 @@ kept_of-extend o b n few is =
         let all : length b ≤ length b = omega arith in
         ap (λ m. take m b) same ∙ take_all (length b) b all ∙ sym (take_all (most_kept - length o) b beyond)
 
-HasNoFeed-take : (n : ℕ) (bytes : List ℕ) → HasNoFeed bytes → HasNoFeed (take n bytes)
+pub HasNoFeed-take : (n : ℕ) (bytes : List ℕ) → HasNoFeed bytes → HasNoFeed (take n bytes)
 HasNoFeed-take zero bytes plain = tt
 HasNoFeed-take (suc n) [] plain = tt
 HasNoFeed-take (suc n) (c ∷ bytes) plain = (plain.0, HasNoFeed-take n bytes plain.1)
@@ -128,6 +128,21 @@ lines-kept f session depends o b plain = by (ends b)
         ap (λ x. f (whole_lines (kept_of o ++ x))) it.is ∙ ap f (one_line (kept_of o) it.line it.more kept_plain it.plain)
         ∙ depends.same (kept_of o ++ it.line) (o ++ it.line) (whole_lines it.more) (reply-kept_append session o it.line)
         ∙ sym (ap (λ x. f (whole_lines (o ++ x))) it.is ∙ ap f (one_line o it.line it.more plain it.plain))
+
+-- what holds of lines, if it holds of a first line for any with the same reply
+pub lines-carried : (F : List (List ℕ) → Type 0) (session : SessionState) → ((x y : List ℕ) (lines : List (List ℕ)) → reply session x ≡ reply session y → F (x ∷ lines) → F (y ∷ lines)) → (o b : List ℕ) → HasNoFeed o
+    → F (whole_lines (kept_of o ++ b)) → F (whole_lines (o ++ b))
+lines-carried F session carry o b plain = by (ends b)
+  where
+    kept_plain : HasNoFeed (kept_of o)
+    kept_plain = HasNoFeed-kept o plain
+
+    by : HasNoFeed b ⊎ Ends b → F (whole_lines (kept_of o ++ b)) → F (whole_lines (o ++ b))
+    by (inl none) = subst F (whole_lines-none (kept_of o ++ b) (HasNoFeed-append (kept_of o) b kept_plain none) ∙ sym (whole_lines-none (o ++ b) (HasNoFeed-append o b plain none)))
+    by (inr it) = λ given.
+        let kept : whole_lines (kept_of o ++ b) ≡ (kept_of o ++ it.line) ∷ whole_lines it.more = ap (λ x. whole_lines (kept_of o ++ x)) it.is ∙ one_line (kept_of o) it.line it.more kept_plain it.plain in
+        let all : whole_lines (o ++ b) ≡ (o ++ it.line) ∷ whole_lines it.more = ap (λ x. whole_lines (o ++ x)) it.is ∙ one_line o it.line it.more plain it.plain in
+        subst F (sym all) (carry (kept_of o ++ it.line) (o ++ it.line) (whole_lines it.more) (reply-kept_append session o it.line) (subst F kept given))
 
 pub answers-kept : (session : SessionState) (o b : List ℕ) → HasNoFeed o → answers session (whole_lines (kept_of o ++ b)) ≡ answers session (whole_lines (o ++ b))
 answers-kept session o b plain = lines-kept (answers session) session (record { same = answers-same session }) o b plain

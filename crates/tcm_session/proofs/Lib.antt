@@ -10,7 +10,9 @@ pub mod HandedLemmas
 pub mod ImageLemmas
 pub mod KeptLemmas
 pub mod KeyspacePlacements
+pub mod LeftLemmas
 pub mod LinesLemmas
+pub mod LogLines
 pub mod LoadLemmas
 pub mod LocalLemmas
 pub mod PieceLoop
@@ -28,10 +30,14 @@ pub mod ReplayRuns
 pub mod RunCauses
 pub mod RunLemmas
 pub mod RunOutcomes
+pub mod SaidValues
+pub mod SentFiles
+pub mod SentLemmas
 pub mod SessionLemmas
 pub mod ShownAnswers
 pub mod ShownLemmas
 pub mod StepLemmas
+pub mod StopLemmas
 pub mod TakenLemmas
 pub mod TakenLines
 pub mod WholeLines

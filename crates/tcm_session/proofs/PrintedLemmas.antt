@@ -11,10 +11,11 @@ use Rattle.script_lang.specs.Grammar.{line_of}
 use Rattle.script_lang.specs.Texts.{line, no_text}
 use Rattle.tcm_session.specs.declared.ending.Ending.{Ending}
 use Rattle.tcm_session.specs.Generated.{gen_numbers}
+use Rattle.tcm_session.specs.Left.{LeavesFiles}
 use Rattle.tcm_session.specs.Lines.{open_line}
 use Rattle.tcm_session.specs.LogFiles.{cut_to_lines, log_of, refused_line_text}
 use Rattle.tcm_session.specs.Machine.{SessionState, answers, no_epoch, reply, session_next, session_over}
-use Rattle.tcm_session.specs.Outcome.{Outcome, Start, commit_outcome, gen_status, gen_text, input_limit, is_commit, is_replay, large_outcome, last_outcome, log_file, other_outcome, outcome, outcome_from, outcome_loaded, printed_by, replay_outcome, replayed_files, script_outcome, too_large_text, unread_outcome, usage_text, whole_outcome}
+use Rattle.tcm_session.specs.Outcome.{Outcome, Start, commit_outcome, gen_status, gen_text, input_limit, is_commit, is_replay, large_outcome, last_outcome, log_file, named_log, other_outcome, outcome, outcome_from, outcome_loaded, printed_by, replay_outcome, replayed_files, script_outcome, too_large_text, unread_outcome, usage_text, whole_outcome}
 use Rattle.tcm_session.specs.Run.{IsFinal, IsRun}
 use Rattle.tcm_session.specs.Runs.{IsEnd, RunsSeen}
 use Rattle.tcm_session.specs.Shown.{BeginsWithWord, IsOfNoQuorum, IsShownLine, LinesAreShown, Shown, and_shown, shown, shown_by, shown_text}
@@ -168,7 +169,7 @@ final_at : (n status : ℕ) → status ≡ n → IsEnd n → IsFinal status
 final_at n status e is = (final_end status (subst IsEnd (sym e) is)).1
 
 pub is_run : {S : Type 0} (words : List (List ℕ)) (left : S → Option (List ℕ)) (input input' : S) (w w' : Option (List ℕ)) (f f' : Option Files) (status : ℕ)
-    → RunsSeen (outcome words) left input input' w w' f f' status → IsRun words left input input' w w' f f' status
+    → RunsSeen (outcome words) (LeavesFiles (named_log words) f f') left input input' w w' f f' status → IsRun words left input input' w w' f f' status
 is_run words left input input' w w' f f' status on =
     let o = outcome words on.seen on.runs.given in
     let plain = plain_outcome words on.seen on.runs.given in
@@ -188,4 +189,5 @@ is_run words left input input' w w' f f' status on =
         meet = shown_meet (session_over o.log) plain.is o.lines;
       };
       followers = followers_show o.log o.lines plain.is;
+      leaves = on.runs.leaves;
     }

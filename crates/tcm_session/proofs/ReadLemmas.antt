@@ -1,26 +1,26 @@
 -- Lemmas on reading a script in pieces.
-use Rattle.std.proofs.Common.{◌≡◌, ℕ, ◌+◌, ◌≤◌, IfErr, IsErrAnd, List, [], ◌++◌, length, Option, None, Result, Ok, Err, refl, sym, ap, ◌∙◌, subst, append_assoc, append-nil, length-append, arith}
+use Rattle.std.proofs.Common.{◌≡◌, ℕ, ◌+◌, ◌≤◌, IfErr, IsErrAnd, List, [], ◌++◌, length, Option, Result, Ok, Err, refl, sym, ap, ◌∙◌, subst, append_assoc, append-nil, length-append, arith}
 use Rattle.std.specs.Io.KnownBytes.{Appends, Consumes, Keeps}
 use Rattle.std.proofs.KnownBytes.{Consumes-trans, Consumes-nil, Consumes-kept, Appends-trans, Appends-nil}
-use Rattle.std.proofs.lemmas.Grind.{flat_map-append}
-use Rattle.tcm_edges.specs.Owed.{WritesPrefix}
-use Rattle.tcm_edges.proofs.OwedLemmas.{WritesPrefix-then, WritesPrefix-whole}
-use Rattle.transformations.specs.declared.entry.Entry.{Entry}
-use Rattle.wire_json.specs.Texts.{entry_line}
+use Rattle.tcm_edges.specs.Files.{Files}
 use Rattle.tcm_session.specs.Faults.{Shows}
+use Rattle.tcm_session.specs.Left.{StopsIn}
 use Rattle.tcm_session.specs.Lines.{HasNoFeed, whole_lines, open_line}
 use Rattle.tcm_session.specs.LogFiles.{Gains, entry_lines}
 use Rattle.tcm_session.specs.Machine.{answers, entries_added, session_after}
 use Rattle.tcm_session.specs.Outcome.{input_limit}
 use Rattle.tcm_session.specs.Counts.{Counts}
 use Rattle.tcm_session.specs.Runs.{IsBegun, PastBy, ReadsOnce, ReadsTo, Standing, StopsAt, Takes, kept_of, lines_ended}
+use Rattle.tcm_session.specs.Stops.{Stopped, StopsThere}
 use Rattle.tcm_session.specs.declared.fault.RunFault.{RunFault}
+use Rattle.tcm_session.specs.declared.fault.RunFault.TheVariants as fault
 use Rattle.tcm_session.specs.declared.reading.ReadEnd.{ReadEnd}
 use Rattle.tcm_session.specs.declared.reading.ReadEnd.TheVariants as end
 use Rattle.tcm_session.proofs.AnswersLemmas.{answers-append, entries_added-append, session_after-append}
 use Rattle.tcm_session.proofs.GainLemmas.{Gains-append, Gains-nil}
-use Rattle.tcm_session.proofs.KeptLemmas.{IsBegun-kept, answers-kept, entries_added-kept, kept_of-short, session_after-kept, open_line-kept}
+use Rattle.tcm_session.proofs.KeptLemmas.{IsBegun-kept, answers-kept, lines-carried, entries_added-kept, kept_of-short, session_after-kept, open_line-kept}
 use Rattle.tcm_session.proofs.RunCauses.{not_source}
+use Rattle.tcm_session.proofs.StopLemmas.{Adds-of_gains, Stopped-after, Stopped-map, Stopped-none, StopsIn-none, StopsThere-lines, StopsThere-same, StopsThere-session, StopsThere-then, entry_lines-append}
 use Rattle.tcm_session.proofs.LinesLemmas.{HasNoFeed-open, whole_lines-append, open_line-append, whole_lines-none, open_line-none}
 
 -- the lines of two pieces after an open line
@@ -29,9 +29,6 @@ lines_of_two o a b = ap whole_lines (sym (append_assoc o a b)) ∙ whole_lines-a
 
 begun_of_two : (o a b : List ℕ) → open_line (o ++ (a ++ b)) ≡ open_line (open_line (o ++ a) ++ b)
 begun_of_two o a b = ap open_line (sym (append_assoc o a b)) ∙ open_line-append (o ++ a) b
-
-pub entry_lines-append : (a b : List Entry) → entry_lines (a ++ b) ≡ entry_lines a ++ entry_lines b
-entry_lines-append a b = flat_map-append entry_line a b
 
 -- nothing was taken
 pub Takes-nil : (file : Option (List ℕ)) (at : Standing) → IsBegun at.begun → Takes file [] at at
@@ -94,34 +91,52 @@ module _ (file : Option (List ℕ)) (a : List ℕ) (at at₁ : Standing) (first 
       }
 
   -- a piece, and a part of the next
-  pub StopsAt-then : (e : RunFault) (most : ℕ) (l l₁ l₂ : Option (List ℕ)) (w₂ : Option (List ℕ)) → Consumes l l₁ a → StopsAt e most l₁ l₂ at₁ w₂ → StopsAt e (length a + most) l l₂ at w₂
-  StopsAt-then e most l l₁ l₂ w₂ consumed second =
+  pub StopsAt-then : (e : RunFault) (most : ℕ) (l l₁ l₂ : Option (List ℕ)) (w₂ : Option (List ℕ)) (f₂ : Option Files) → Consumes l l₁ a → StopsAt file e most l₁ l₂ at₁ w₂ f₂ → StopsAt file e (length a + most) l l₂ at w₂ f₂
+  StopsAt-then e most l l₁ l₂ w₂ f₂ consumed second =
+      let P = e ≡ fault.Source in
+      let b = second.bytes in
+      let lines = lines_ended at a in
+      let later = whole_lines (open_line (at.begun ++ a) ++ b) in
+      let here = session_after at.session lines in
+      let begun : lines_ended at₁ b ≡ whole_lines (kept_of (open_line (at.begun ++ a)) ++ b) = ap (λ x. whole_lines (x ++ b)) first.begun in
+      let step : (printed added : List ℕ) → StopsThere P at₁.session (lines_ended at₁ b) printed added
+      → StopsThere P at.session (lines_ended at (a ++ b)) (answers at.session lines ++ printed) (entry_lines (entries_added at.session lines) ++ added) =
+      λ printed added s.
+      let kept : StopsThere P here (whole_lines (kept_of (open_line (at.begun ++ a)) ++ b)) printed added =
+      StopsThere-lines P here (lines_ended at₁ b) _ printed added (sym begun) (StopsThere-session P at₁.session here (lines_ended at₁ b) printed added (sym first.session) s) in
+      let all : StopsThere P here later printed added = lines-carried (λ ls. StopsThere P here ls printed added) here (StopsThere-same P here printed added) (open_line (at.begun ++ a)) b opened_plain kept in
+      StopsThere-lines P at.session (lines ++ later) (lines_ended at (a ++ b)) _ _ (later_lines b) (StopsThere-then P at.session lines later printed added all) in
       record {
-        bytes = a ++ second.bytes;
-        consumed = Consumes-trans l l₁ l₂ a second.bytes consumed second.consumed;
-        bounded = omega (arith, length-append a second.bytes, second.bounded);
-        part = subst (WritesPrefix at.written w₂) (sym (later_answers second.bytes)) (WritesPrefix-then at.written at₁.written w₂ _ _ first.answered second.part);
-        whole = λ is. subst (Appends at.written w₂) (sym (later_answers second.bytes)) (Appends-trans at.written at₁.written w₂ _ _ first.answered (second.whole is));
+        bytes = a ++ b;
+        consumed = Consumes-trans l l₁ l₂ a b consumed second.consumed;
+        bounded = omega (arith, length-append a b, second.bounded);
+        stopped = Stopped-after (StopsThere P at₁.session (lines_ended at₁ b)) (StopsThere P at.session (lines_ended at (a ++ b))) file at.written at₁.written w₂ at.files at₁.files f₂
+            (answers at.session lines) (entry_lines (entries_added at.session lines)) step first.answered (Adds-of_gains file _ at.files at₁.files first.files) second.stopped;
       }
 
 -- a read that failed
-pub StopsAt-none : (e : RunFault) (most : ℕ) (l l' : Option (List ℕ)) (at : Standing) → Keeps l l' → IsBegun at.begun → StopsAt e most l l' at at.written
-StopsAt-none e most l l' at kept begun =
-    let none = (Takes-nil None at begun).answered in
+pub StopsAt-none : (file : Option (List ℕ)) (e : RunFault) (most : ℕ) (l l' : Option (List ℕ)) (at : Standing) → Keeps l l' → IsBegun at.begun → StopsAt file e most l l' at at.written at.files
+StopsAt-none file e most l l' at kept begun =
+    let none : lines_ended at [] ≡ [] = ap whole_lines (append-nil at.begun) ∙ whole_lines-none at.begun begun.plain in
     record {
       bytes = [];
       consumed = Consumes-kept l l l' [] (Consumes-nil l) kept;
       bounded = omega arith;
-      part = WritesPrefix-whole at.written at.written _ none;
-      whole = λ is. none;
+      stopped = Stopped-none (StopsThere (e ≡ fault.Source) at.session (lines_ended at [])) file at.written at.files at.files refl (record { stops = StopsIn-none at.session (lines_ended at []) []; all = λ is. none });
     }
 
--- a piece of which the answers are not all written, for no fault of the source
-pub StopsAt-piece : (e : RunFault) (most : ℕ) (l l' : Option (List ℕ)) (at : Standing) (w' : Option (List ℕ)) (bytes : List ℕ) (before after : Counts)
+-- a piece of which not all lines are done, for no fault of the source
+pub StopsAt-piece : (file : Option (List ℕ)) (e : RunFault) (most : ℕ) (l l' : Option (List ℕ)) (at : Standing) (w' : Option (List ℕ)) (f' : Option Files) (bytes : List ℕ) (before after : Counts)
     → before.source ≡ 0 → after.source ≡ 0
-    → Consumes l l' bytes → length bytes ≤ most → WritesPrefix at.written w' (answers at.session (lines_ended at bytes)) → Shows e before after → StopsAt e most l l' at w'
-StopsAt-piece e most l l' at w' bytes before after none none' consumed fits part shown =
-    record { bytes = bytes; consumed = consumed; bounded = fits; part = part; whole = λ is. absurd (not_source e before after none none' shown is) }
+    → Consumes l l' bytes → length bytes ≤ most → Stopped (StopsIn at.session (lines_ended at bytes) []) file at.written w' at.files f' → Shows e before after → StopsAt file e most l l' at w' f'
+StopsAt-piece file e most l l' at w' f' bytes before after none none' consumed fits stopped shown =
+    record {
+      bytes = bytes;
+      consumed = consumed;
+      bounded = fits;
+      stopped = Stopped-map (StopsIn at.session (lines_ended at bytes) []) (StopsThere (e ≡ fault.Source) at.session (lines_ended at bytes)) file at.written w' at.files f'
+          (λ printed added s. record { stops = s; all = λ is. absurd (not_source e before after none none' shown is) }) stopped;
+    }
 
 -- ---- the loop over reads
 
@@ -145,24 +160,18 @@ module _ (file : Option (List ℕ)) (taken : ℕ) (l l₁ : Option (List ℕ)) (
         takes = Takes-then file so_far.bytes at at₁ so_far.takes once.bytes at₂ once.takes;
       }
 
-  pub ReadsSoFar-stop : (e : RunFault) (most all : ℕ) (l₂ w₂ : Option (List ℕ)) → taken + most ≤ all → StopsAt e most l₁ l₂ at₁ w₂ → StopsAt e all l l₂ at w₂
-  ReadsSoFar-stop e most all l₂ w₂ fits part =
-      let stops = StopsAt-then file so_far.bytes at at₁ so_far.takes e most l l₁ l₂ w₂ so_far.consumed part in
-      record {
-        bytes = stops.bytes;
-        consumed = stops.consumed;
-        bounded = omega (arith, stops.bounded, so_far.count);
-        part = stops.part;
-        whole = stops.whole;
-      }
+  pub ReadsSoFar-stop : (e : RunFault) (most all : ℕ) (l₂ w₂ : Option (List ℕ)) (f₂ : Option Files) → taken + most ≤ all → StopsAt file e most l₁ l₂ at₁ w₂ f₂ → StopsAt file e all l l₂ at w₂ f₂
+  ReadsSoFar-stop e most all l₂ w₂ f₂ fits part =
+      let stops = StopsAt-then file so_far.bytes at at₁ so_far.takes e most l l₁ l₂ w₂ f₂ so_far.consumed part in
+      record { bytes = stops.bytes; consumed = stops.consumed; bounded = omega (arith, stops.bounded, so_far.count); stopped = stops.stopped }
 
   -- what is kept of the line that has begun
   pub ReadsSoFar-begun : IsBegun at₁.begun
   ReadsSoFar-begun = subst IsBegun (sym so_far.takes.begun) (IsBegun-kept (open_line (at.begun ++ so_far.bytes)) (HasNoFeed-open (at.begun ++ so_far.bytes)))
 
   -- nothing more was read
-  pub ReadsSoFar-none_more : (e : RunFault) (all : ℕ) (l₂ : Option (List ℕ)) → taken ≤ all → Keeps l₁ l₂ → StopsAt e all l l₂ at at₁.written
-  ReadsSoFar-none_more e all l₂ fits kept = ReadsSoFar-stop e 0 all l₂ at₁.written (omega arith) (StopsAt-none e 0 l₁ l₂ at₁ kept ReadsSoFar-begun)
+  pub ReadsSoFar-none_more : (e : RunFault) (all : ℕ) (l₂ : Option (List ℕ)) → taken ≤ all → Keeps l₁ l₂ → StopsAt file e all l l₂ at at₁.written at₁.files
+  ReadsSoFar-none_more e all l₂ fits kept = ReadsSoFar-stop e 0 all l₂ at₁.written at₁.files (omega arith) (StopsAt-none file e 0 l₁ l₂ at₁ kept ReadsSoFar-begun)
 
   -- the input is at its end after a read of nothing
   pub ReadsTo-end : (n most : ℕ) (l₂ : Option (List ℕ)) (at₂ : Standing) → taken ≤ input_limit → n ≡ 0 → ReadsOnce file n most l₁ l₂ at₁ at₂ → ReadsTo file end.AtEnd l l₂ at at₂

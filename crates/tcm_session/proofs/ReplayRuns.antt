@@ -8,7 +8,7 @@ use Rattle.tcm_session.specs.Counts.{Counts, NoneFell}
 use Rattle.tcm_session.specs.Endings.{IsReplayOf, status_by}
 use Rattle.tcm_session.specs.Faults.{HasRunCause, Shows}
 use Rattle.tcm_session.specs.Generated.{gen_numbers}
-use Rattle.tcm_session.specs.Outcome.{Outcome, ended_outcome, gen_status, gen_text, is_commit, is_replay, last_outcome, other_outcome, outcome, replay_outcome, replayed_files, snapshot_outcome, unread_outcome}
+use Rattle.tcm_session.specs.Outcome.{Outcome, ended_outcome, gen_status, gen_text, is_commit, is_replay, last_outcome, log_file, named_log, other_outcome, outcome, replay_outcome, replayed_files, snapshot_outcome, unread_outcome}
 use Rattle.transformations.specs.History.{state_after}
 use Rattle.transformations.specs.Log.{commands_of}
 use Rattle.transformations.specs.declared.entry.Entry.{Entry}
@@ -16,12 +16,13 @@ use Rattle.wire_json.specs.SnapshotTexts.{snapshot_line}
 use Rattle.script_lang.specs.Texts.{no_text}
 use Rattle.tcm_session.specs.LogFiles.{log_of}
 use Rattle.tcm_session.specs.Machine.{no_epoch}
+use Rattle.tcm_session.specs.Left.{LeavesFiles}
 use Rattle.tcm_session.specs.Limits.{input_limit}
 use Rattle.tcm_session.specs.Lines.{whole_lines}
 use Rattle.tcm_session.specs.Replay.{ending_of, files_replayed, lines_replayed, loaded_replayed, nothing_replayed, replay_ending, then_replayed, unless_ended}
 use Rattle.tcm_session.specs.Replays.{EndsSo, WritesLast, WritesSeen}
 use Rattle.tcm_session.specs.StateLine.{file_ending, log_ending, snapshot_ending, snapshot_words, state_ending}
-use Rattle.tcm_session.specs.Run.{AreSeen}
+use Rattle.tcm_session.specs.Run.{AreSeen, IsFinal}
 use Rattle.tcm_session.specs.Runs.{IsEnd, MayHold, RunsFor, RunsSeen, Writes}
 use Rattle.tcm_session.specs.declared.ending.Ending.{Ending}
 use Rattle.tcm_session.specs.declared.fault.RunFault.{RunFault}
@@ -30,6 +31,7 @@ use Rattle.tcm_session.specs.declared.program.Status.{Status}
 use Rattle.tcm_session.specs.declared.refused_line.RefusedLine.{RefusedLine}
 use Rattle.tcm_session.specs.declared.replay.Replay.{Replay}
 use Rattle.tcm_session.proofs.CutLemmas.{behind_held, behind_loaded, files_behind}
+use Rattle.tcm_session.proofs.LeftLemmas.{named_files}
 use Rattle.tcm_session.proofs.ReplayLemmas.{seen_any, seen_held}
 use Rattle.tcm_session.proofs.RunLemmas.{final_end, runs_unread, runs_unread_err}
 use Rattle.tcm_session.proofs.RunOutcomes.{of_last, of_others, of_replay}
@@ -191,11 +193,12 @@ unread_others words seen = by (is_replay words)
     by false = last (snapshot_words words)
 
 pub runs_others : {S : Type 0} (words : List (List ℕ)) (left : S → Option (List ℕ)) (input : S) (w w' : Option (List ℕ)) (files files' : Option Files) (before after : Counts) → before.source ≡ 0 → after.source ≡ 0 → (r : Result Status RunFault)
-    → is_commit words ≡ false → WritesSeen (other_outcome words) files w w' r → HasRunCause before after r → IfOk r (λ s. IsEnd s.0) → files' ≡ files → RunsSeen (outcome words) left input input w w' files files' (status_by r)
+    → is_commit words ≡ false → WritesSeen (other_outcome words) files w w' r → HasRunCause before after r → IfOk r (λ s. IsEnd s.0) → files' ≡ files
+    → RunsSeen (outcome words) (LeavesFiles (named_log words) files files') left input input w w' files files' (status_by r)
 runs_others {S} words left input w w' files files' before after none none' r other writes cause ended kept = record {
   seen = writes.seen;
   held = writes.held;
-  runs = subst (λ o. RunsFor o left input input w w' files' (status_by r)) (λ i given. (unread.is ∙ sym (of_others words other writes.seen given)) i) (by r writes.writes cause ended);
+  runs = subst (λ o. RunsFor o (LeavesFiles (named_log words) files files') left input input w w' files' (status_by r)) (λ i given. (unread.is ∙ sym (of_others words other writes.seen given)) i) (by r writes.writes cause ended);
 }
   where
     o : Outcome
@@ -207,8 +210,17 @@ runs_others {S} words left input w w' files files' before after none none' r oth
     held : MayHold files' (writes.seen 0)
     held = subst (λ f. MayHold f (writes.seen 0)) (sym kept) (held_first files writes.seen writes.held)
 
-    by : (r : Result Status RunFault) → WritesLast o w w' r → HasRunCause before after r → IfOk r (λ s. IsEnd s.0) → RunsFor (λ _. unread_outcome o.status o.last (writes.seen 0)) left input input w w' files' (status_by r)
+    all : Outcome
+    all = unread_outcome o.status o.last (writes.seen 0)
+
+    leaves : (printed : List ℕ) (status : ℕ) → LeavesFiles (named_log words) files files' all printed status
+    leaves printed status = named_files words None files files' (ap (λ b. if b then log_file words else None) other) all printed status kept
+
+    by : (r : Result Status RunFault) → WritesLast o w w' r → HasRunCause before after r → IfOk r (λ s. IsEnd s.0)
+        → RunsFor (λ _. unread_outcome o.status o.last (writes.seen 0)) (LeavesFiles (named_log words) files files') left input input w w' files' (status_by r)
     by (Ok s) last cause ended =
-        let not_4 : o.status ≢ 4 = λ four. (final_end s.0 ended).1.source (last.status ∙ four) in
-        runs_unread o.status o.last (writes.seen 0) left input w w' files' before after none none' (Ok s) not_4 held (record { whole = last.whole; part = last.part; cause = cause }) last.status
-    by (Err e) last cause ended = runs_unread_err o.status o.last (writes.seen 0) left input w w' files' before after none none' e last.part cause.shown
+        let final : IsFinal o.status = subst IsFinal last.status (final_end s.0 ended).1 in
+        runs_unread o.status o.last (writes.seen 0) (LeavesFiles (named_log words) files files') left input w w' files' before after none none' (Ok s) final held
+        (record { whole = last.whole; part = last.part; cause = cause }) last.status leaves
+    by (Err e) last cause ended =
+        runs_unread_err o.status o.last (writes.seen 0) (LeavesFiles (named_log words) files files') left input w w' files' before after none none' e last.part cause.shown leaves

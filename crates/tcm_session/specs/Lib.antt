@@ -3,6 +3,7 @@ pub mod Endings
 pub mod Faults
 pub mod Generated
 pub mod GeneratedLines
+pub mod Left
 pub mod Limits
 pub mod Lines
 pub mod Loading
@@ -14,7 +15,9 @@ pub mod ReplayPrefix
 pub mod Replays
 pub mod Run
 pub mod Runs
+pub mod SentAgain
 pub mod Shown
 pub mod StateLine
 pub mod Steps
+pub mod Stops
 pub mod Taken

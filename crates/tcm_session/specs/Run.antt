@@ -7,9 +7,10 @@ use Rattle.tcm_edges.specs.Files.{Files}
 use Rattle.transformations.specs.Log.{IsLog}
 use Rattle.transformations.specs.declared.entry.Entry.{Entry}
 use Rattle.tcm_session.specs.Counts.{Counts, NoneFell}
+use Rattle.tcm_session.specs.Left.{LeavesFiles}
 use Rattle.tcm_session.specs.Lines.{whole_lines}
 use Rattle.tcm_session.specs.Machine.{answers, session_over}
-use Rattle.tcm_session.specs.Outcome.{Outcome, input_limit, is_replay, outcome, printed_by, replayed_files}
+use Rattle.tcm_session.specs.Outcome.{Outcome, input_limit, is_replay, named_log, outcome, printed_by, replayed_files}
 use Rattle.tcm_session.specs.ReplayPrefix.{AreFilesOf, ReportsPrefix, taken_of_files}
 use Rattle.tcm_session.specs.Shown.{PrintsMeeting}
 use Rattle.tcm_session.specs.Taken.{FollowersShow}
@@ -77,7 +78,8 @@ pub record ReplaysLog (words : List (List ℕ)) (seen : ℕ → Files) (log : Li
 -- a run for these words: it prints the bytes of their outcome, it reads as its outcome says, and the quorums in the
 -- printed lines meet (`ShownMeet`), unless the status is 7, as the name of an absent file may hold any line; each
 -- follower of a script, and that of a replay of files of one log, shows the longest gapless prefix of what it took
--- (`ShowsPrefix`)
+-- (`ShowsPrefix`); and what a fault leaves in the log file is what the lines added that were done, with at most a part of
+-- one entry more
 pub record IsRun {S : Type 0} (words : List (List ℕ)) (left : S → Option (List ℕ)) (input input' : S) (written written' : Option (List ℕ)) (files files' : Option Files) (status : ℕ) : Type 0 where
   pub given : Given (left input) files
   pub comes : ComesTo (outcome words given.seen given.input) written written' files' status
@@ -87,6 +89,7 @@ pub record IsRun {S : Type 0} (words : List (List ℕ)) (left : S → Option (Li
   pub followers : FollowersShow (outcome words given.seen given.input).log (outcome words given.seen given.input).lines
   pub replays : is_replay words ≡ true → (log : List Entry) → IsLog log → AreFilesOf log (replayed_files words) given.seen
       → ReplaysLog words given.seen log comes.printed status
+  pub leaves : (IsFinal status → ⊥) → LeavesFiles (named_log words) files files' (outcome words given.seen given.input) comes.printed status
 
 -- the meaning of a status, by the counts of faults before the run and after it
 pub record HasStatus (before after : Counts) (status : ℕ) : Type 0 where

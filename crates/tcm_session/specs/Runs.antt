@@ -9,7 +9,8 @@ use Rattle.tcm_session.specs.Lines.{HasNoFeed, whole_lines, open_line}
 use Rattle.tcm_session.specs.LogFiles.{Gains, entry_lines}
 use Rattle.tcm_session.specs.Machine.{SessionState, answers, entries_added, session_after}
 use Rattle.tcm_session.specs.Outcome.{Outcome, input_limit}
-use Rattle.tcm_session.specs.Run.{AreSeen, ComesTo, ReadsFor}
+use Rattle.tcm_session.specs.Run.{AreSeen, ComesTo, IsFinal, ReadsFor}
+use Rattle.tcm_session.specs.Stops.{Stopped, StopsThere}
 use Rattle.tcm_session.specs.declared.fault.RunFault.{RunFault}
 use Rattle.tcm_session.specs.declared.fault.RunFault.TheVariants as fault
 use Rattle.tcm_session.specs.declared.reading.ReadEnd.{ReadEnd}
@@ -48,14 +49,13 @@ pub record Takes (file : Option (List ℕ)) (bytes : List ℕ) (at at' : Standin
   pub answered : Appends at.written at'.written (answers at.session (lines_ended at bytes))
   pub files : Gains file (entry_lines (entries_added at.session (lines_ended at bytes))) at.files at'.files
 
--- reading stopped at a fault, after at most `most` bytes were read; a prefix of the answers to the lines that end among
--- them is written, and at a fault of the source all these answers
-pub record StopsAt (cause : RunFault) (most : ℕ) (left left' : Option (List ℕ)) (at : Standing) (written' : Option (List ℕ)) : Type 0 where
+-- reading stopped at a fault, after at most `most` bytes were read, within the lines that end among them; at a fault of
+-- the source all these lines are done
+pub record StopsAt (name : Option (List ℕ)) (cause : RunFault) (most : ℕ) (left left' : Option (List ℕ)) (at : Standing) (written' : Option (List ℕ)) (files' : Option Files) : Type 0 where
   pub bytes : List ℕ
   pub consumed : Consumes left left' bytes
   pub bounded : length bytes ≤ most
-  pub part : WritesPrefix at.written written' (answers at.session (lines_ended at bytes))
-  pub whole : cause ≡ fault.Source → Appends at.written written' (answers at.session (lines_ended at bytes))
+  pub stopped : Stopped (StopsThere (cause ≡ fault.Source) at.session (lines_ended at bytes)) name at.written written' at.files files'
 
 -- one read of n bytes, at most `most`, which are taken
 pub record ReadsOnce (file : Option (List ℕ)) (n most : ℕ) (left left' : Option (List ℕ)) (at at' : Standing) : Type 0 where
@@ -96,27 +96,29 @@ pub record Writes {T : Type 0} (text : List ℕ) (written written' : Option (Lis
   pub part : WritesPrefix written written' text
   pub cause : HasRunCause before after result
 
--- a run that was given some input: it comes to the outcome of this input, and reads as the outcome says
-pub record RunsFor {S : Type 0} (outcome_of : List ℕ → Outcome) (left : S → Option (List ℕ)) (input input' : S) (written written' : Option (List ℕ)) (files' : Option Files) (status : ℕ) : Type 0 where
+-- a run that was given some input: it comes to the outcome of this input, reads as the outcome says, and leaves this if a
+-- fault ends it
+pub record RunsFor {S : Type 0} (outcome_of : List ℕ → Outcome) (Left : Outcome → List ℕ → ℕ → Type 0) (left : S → Option (List ℕ)) (input input' : S) (written written' : Option (List ℕ)) (files' : Option Files) (status : ℕ) : Type 0 where
   pub given : List ℕ
   pub told : IfSome (left input) (λ bytes. bytes ≡ given)
   pub comes : ComesTo (outcome_of given) written written' files' status
   pub reads : ReadsFor (outcome_of given) left input input' written written' status
+  pub leaves : (IsFinal status → ⊥) → Left (outcome_of given) comes.printed status
 
 -- a store may hold these files: it tells nothing else
 abbrev pub MayHold : Option Files → Files → Type 0
 MayHold files all = IfSome files (λ these. these ≡ all)
 
 -- a run over a store, for all files that the store may hold
-abbrev pub RunsOnAny : {S : Type 0} → (Files → List ℕ → Outcome) → (S → Option (List ℕ)) → S → S → Option (List ℕ) → Option (List ℕ) → Option Files → Option Files → ℕ → Type 0
-RunsOnAny outcome_of left input input' written written' files files' status =
-    (all : Files) → MayHold files all → RunsFor (outcome_of all) left input input' written written' files' status
+abbrev pub RunsOnAny : {S : Type 0} → (Files → List ℕ → Outcome) → (Outcome → List ℕ → ℕ → Type 0) → (S → Option (List ℕ)) → S → S → Option (List ℕ) → Option (List ℕ) → Option Files → Option Files → ℕ → Type 0
+RunsOnAny outcome_of Left left input input' written written' files files' status =
+    (all : Files) → MayHold files all → RunsFor (outcome_of all) Left left input input' written written' files' status
 
 -- a run over a store that may hold some files
-pub record RunsOn {S : Type 0} (outcome_of : Files → List ℕ → Outcome) (left : S → Option (List ℕ)) (input input' : S) (written written' : Option (List ℕ)) (files files' : Option Files) (status : ℕ) : Type 0 where
+pub record RunsOn {S : Type 0} (outcome_of : Files → List ℕ → Outcome) (Left : Outcome → List ℕ → ℕ → Type 0) (left : S → Option (List ℕ)) (input input' : S) (written written' : Option (List ℕ)) (files files' : Option Files) (status : ℕ) : Type 0 where
   pub all : Files
   pub held : MayHold files all
-  pub runs : RunsFor (outcome_of all) left input input' written written' files' status
+  pub runs : RunsFor (outcome_of all) Left left input input' written written' files' status
 
 -- the statuses of runs that no fault ends
 abbrev pub IsEnd : ℕ → Type 0
@@ -127,7 +129,7 @@ abbrev pub LeavesStore : {D T : Type 0} → Option (List ℕ) → D → D → Re
 LeavesStore name store store' result = name ≡ None → (store' ≡ store) × IfErr result (λ e. e ≢ fault.Store)
 
 -- a run over a store whose loads may find some files
-pub record RunsSeen {S : Type 0} (outcome_of : (ℕ → Files) → List ℕ → Outcome) (left : S → Option (List ℕ)) (input input' : S) (written written' : Option (List ℕ)) (files files' : Option Files) (status : ℕ) : Type 0 where
+pub record RunsSeen {S : Type 0} (outcome_of : (ℕ → Files) → List ℕ → Outcome) (Left : Outcome → List ℕ → ℕ → Type 0) (left : S → Option (List ℕ)) (input input' : S) (written written' : Option (List ℕ)) (files files' : Option Files) (status : ℕ) : Type 0 where
   pub seen : ℕ → Files
   pub held : AreSeen files seen
-  pub runs : RunsFor (outcome_of seen) left input input' written written' files' status
+  pub runs : RunsFor (outcome_of seen) Left left input input' written written' files' status

@@ -25,4 +25,7 @@ mod validity;
 pub use fault::StepFault;
 pub use program::{Status, run, run_surely};
 pub use session::Session;
-pub use validity::{lines_make_the_input, replays_show_the_longest_prefix, shown_quorums_meet};
+pub use validity::{
+    followers_show_prefixes, lines_make_the_input, replays_show_the_longest_prefix,
+    scripts_are_sent_again, shown_quorums_meet,
+};

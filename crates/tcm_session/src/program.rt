@@ -1,6 +1,6 @@
 //! Runs the program: the words after its name, a script as input, and the printed answers.
 
-ghost use Rattle.std.specs.Prelude.{◌≡◌, ◌≢◌, ◌≤◌, ◌⊎◌, false, not, [], length, None, Some, Ok, map, string_bytes, OnOk, IfErr, IfOk, IfSome, IsTrue};
+ghost use Rattle.std.specs.Prelude.{◌≡◌, ◌≢◌, ◌≤◌, ◌⊎◌, false, not, [], length, None, Some, Ok, map, string_bytes, OnErr, OnOk, IfErr, IfOk, IfSome, IsTrue};
 ghost use Rattle.std.specs.List.{list_all};
 ghost use Rattle.std.specs.Option.{option_copied, option_map};
 ghost use Rattle.std.specs.Str.{bytes_eq};
@@ -18,7 +18,9 @@ ghost use Rattle.tcm_session.specs.Replays.{WritesSeen};
 ghost use Rattle.tcm_session.specs.StateLine as state_line;
 ghost use Rattle.tcm_session.specs.Run.{ComesSurely, HasStatus, IsRun};
 ghost use Rattle.tcm_session.specs.Runs.{IsEnd, LeavesStore, RunsOn, RunsOnAny, RunsSeen, Writes};
+ghost use Rattle.tcm_session.specs.Left.{LeavesFiles, StopsNext};
 ghost use Rattle.tcm_session.specs.Loading.{IsCut, IsLinesPart, TakesFile};
+ghost use Rattle.tcm_session.specs.Stops.{IsKeptOrCut, LeavesLoaded, LeavesScript, Stopped};
 ghost use Rattle.tcm_session.specs.declared.fault.RunFault.TheVariants as fault;
 
 use crate::fault::RunFault;
@@ -172,6 +174,10 @@ fn finish<K: Sink, D: Store>(
     ensures file { OnOk result (Gains (option_copied log.entry)
         (entry_lines (entries_added session.old (spec.ending_lines ending begun.now)))
         (D.files store.old) (D.files store.new)) }
+    ensures stopped { OnErr result (Stopped
+        (StopsNext (spec.ending_text ending session.old begun.now)
+        (entry_lines (entries_added session.old (spec.ending_lines ending begun.now))))
+        (option_copied log.entry) (K.written out.old) (K.written out.new) (D.files store.old) (D.files store.new)) }
     ensures unnamed { LeavesStore (option_copied log.entry) store.old store.new result }
 {
     match ending {
@@ -195,6 +201,7 @@ fn run_script<S: Source, K: Sink, D: Store>(
     ensures runs { RunsOnAny
         (λ all. script_outcome
         (record { log = session.old.log; file = option_copied log.entry; files = all }))
+        (LeavesScript (option_copied log.entry) (D.files store.old) (D.files store.new))
         S.left input.old input.new (K.written out.old) (K.written out.new)
         (D.files store.old) (D.files store.new) (spec.status_by result) }
     ensures cause { HasRunCause
@@ -219,6 +226,7 @@ fn commit<S: Source, K: Sink, D: Store>(
 ) -> Result<Status, RunFault>
     ensures runs { RunsOnAny
         (λ all. script_outcome (record { log = []; file = option_copied log.entry; files = all }))
+        (LeavesScript (option_copied log.entry) (D.files store.old) (D.files store.new))
         S.left input.old input.new (K.written out.old) (K.written out.new)
         (D.files store.old) (D.files store.new) (spec.status_by result) }
     ensures cause { HasRunCause
@@ -248,10 +256,11 @@ fn refuse_log<K: Sink>(
     end_with(text.as_slice(), 3, out)
 }
 
-/// Cuts off the bytes after the whole lines of a file, if there are any.
+/// Cuts off the bytes after the whole lines of a file, if there are any. After a fault the file is as before or cut.
 fn cut_file<D: Store>(name: &str, file: &[u8], size: usize, store: &mut D) -> Result<(), RunFault>
     requires { IsLinesPart size file.now }
     ensures cut { OnOk result (IsCut name.now file.now (D.files store.old) (D.files store.new)) }
+    ensures stopped { OnErr result (IsKeptOrCut name.now file.now (D.files store.old) (D.files store.new)) }
     ensures cause { HasRunCause (counts 0 0 (D.faults store.old)) (counts 0 0 (D.faults store.new)) result }
 {
     if size < file.len() {
@@ -275,6 +284,7 @@ fn take_log<D: Store>(
     requires { session.old ≡ session_over [] }
     ensures taken { IfOk result (λ refused.
         TakesFile refused name.now file session.new.log (D.files store.old) (D.files store.new)) }
+    ensures stopped { OnErr result (IsKeptOrCut name.now file (D.files store.old) (D.files store.new)) }
     ensures over { OnOk result (session.new ≡ session_over session.new.log) }
     ensures cause { HasRunCause (counts 0 0 (D.faults store.old)) (counts 0 0 (D.faults store.new)) result }
 {
@@ -300,6 +310,7 @@ fn resume<S: Source, K: Sink, D: Store>(
 ) -> Result<Status, RunFault>
     requires { session.old ≡ session_over [] }
     ensures runs { RunsOnAny (λ all. outcome_from name.now all file (log_of file))
+        (LeavesLoaded name.now file (D.files store.old) (D.files store.new))
         S.left input.old input.new (K.written out.old) (K.written out.new)
         (D.files store.old) (D.files store.new) (spec.status_by result) }
     ensures cause { HasRunCause
@@ -323,6 +334,7 @@ fn commit_from<S: Source, K: Sink, D: Store>(
     store: &mut D,
 ) -> Result<Status, RunFault>
     ensures runs { RunsOnAny (λ all. outcome_from name.now all file (log_of file))
+        (LeavesLoaded name.now file (D.files store.old) (D.files store.new))
         S.left input.old input.new (K.written out.old) (K.written out.new)
         (D.files store.old) (D.files store.new) (spec.status_by result) }
     ensures cause { HasRunCause
@@ -345,6 +357,7 @@ fn commit_to<S: Source, K: Sink, D: Store>(
     store: &mut D,
 ) -> Result<Status, RunFault>
     ensures runs { RunsOn (commit_outcome (Some name.now))
+        (LeavesFiles (Some name.now) (D.files store.old) (D.files store.new))
         S.left input.old input.new (K.written out.old) (K.written out.new)
         (D.files store.old) (D.files store.new) (spec.status_by result) }
     ensures cause { HasRunCause
@@ -489,6 +502,7 @@ fn answer_words<S: Source, K: Sink, D: Store>(
     store: &mut D,
 ) -> Result<Status, RunFault>
     ensures runs { RunsSeen (outcome (map string_bytes words.now))
+        (LeavesFiles (named_log (map string_bytes words.now)) (D.files store.old) (D.files store.new))
         S.left input.old input.new (K.written out.old) (K.written out.new)
         (D.files store.old) (D.files store.new) (spec.status_by result) }
     ensures cause { HasRunCause
@@ -550,7 +564,10 @@ fn answer_words<S: Source, K: Sink, D: Store>(
 ///
 /// A run ends at its first fault. If the text for status 0, 2, 3, 7 or 8 can't be written, the status is 5, or 1 if the
 /// sink runs out of memory. With status 1, 4, 5 or 6, the printed bytes are a prefix of the output of a run without the
-/// fault.
+/// fault, and some lines of a script are done. The file `LOG` has then its whole lines and the lines of the entries that
+/// these added, and maybe a part of one entry more; or it is as before, and no line is done. An entry whose answer is
+/// printed, or begun, stands whole in it. No other file changed. `scripts_are_sent_again` says what the same lines make
+/// of such a file.
 ///
 /// Cost: a run keeps in memory the log, the image of each 256th epoch, the metadata at the last epoch and that of each
 /// follower, the file while it is loaded, and of the current line at most 16,385 bytes, with its answer. A query of an
@@ -568,7 +585,8 @@ pub fn run<S: Source, K: Sink, D: Store>(
     // are all of these bytes, and the files are those of the outcome. Quorums in the printed lines meet if they answer
     // the same question, at the same epoch or at a movement epoch and the epoch before it. Each follower of a script
     // shows the longest prefix of the log without a gap that it took. A replay of files of one log refuses no line, and
-    // its follower, which is reported, shows this prefix, too.
+    // its follower, which is reported, shows this prefix, too. A fault leaves in the log file what the lines added that
+    // were done, and at most a part of one entry more.
     ensures outcome { IsRun (map string_bytes words.now) S.left input.old input.new
         (K.written out.old) (K.written out.new) (D.files store.old) (D.files store.new) result.0 }
 

@@ -47,8 +47,10 @@ fn read_piece<S: Source, K: Sink, D: Store>(
         (S.left input.old) (S.left input.new)
         (standing session.old begun.old.items (K.written out.old) (D.files store.old))
         (standing session.new begun.new.items (K.written out.new) (D.files store.new))) }
-    ensures err { IfErr result (λ e. StopsAt e (length buffer.old) (S.left input.old) (S.left input.new)
-        (standing session.old begun.old.items (K.written out.old) (D.files store.old)) (K.written out.new)) }
+    ensures err { IfErr result (λ e. StopsAt (option_copied log.entry) e (length buffer.old)
+        (S.left input.old) (S.left input.new)
+        (standing session.old begun.old.items (K.written out.old) (D.files store.old))
+        (K.written out.new) (D.files store.new)) }
     ensures cause { HasRunCause
         (counts (S.faults input.old) (K.faults out.old) (D.faults store.old))
         (counts (S.faults input.new) (K.faults out.new) (D.faults store.new)) result }
@@ -82,8 +84,8 @@ fn read_past<S: Source>(input: &mut S) -> Result<ReadEnd, RunFault>
 }
 
 /// Reads a script to its end or up to the limit. Answers each line that a line feed ends before it reads on, and keeps
-/// the rest in `begun`. At a fault, a prefix of the answers is written; at a fault of the source, all answers to the
-/// lines that end among the bytes read.
+/// the rest in `begun`. At a fault, some of the lines that end among the bytes read are done; at a fault of the source, all
+/// of them.
 pub fn read_script<S: Source, K: Sink, D: Store>(
     alloc: Global,
     session: &mut Session,
@@ -98,8 +100,10 @@ pub fn read_script<S: Source, K: Sink, D: Store>(
         (S.left input.old) (S.left input.new)
         (standing session.old begun.old.items (K.written out.old) (D.files store.old))
         (standing session.new begun.new.items (K.written out.new) (D.files store.new))) }
-    ensures err { IfErr result (λ e. StopsAt e input_limit (S.left input.old) (S.left input.new)
-        (standing session.old begun.old.items (K.written out.old) (D.files store.old)) (K.written out.new)) }
+    ensures err { IfErr result (λ e. StopsAt (option_copied log.entry) e input_limit
+        (S.left input.old) (S.left input.new)
+        (standing session.old begun.old.items (K.written out.old) (D.files store.old))
+        (K.written out.new) (D.files store.new)) }
     ensures cause { HasRunCause
         (counts (S.faults input.old) (K.faults out.old) (D.faults store.old))
         (counts (S.faults input.new) (K.faults out.new) (D.faults store.new)) result }

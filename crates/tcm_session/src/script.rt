@@ -1,14 +1,15 @@
 //! Answers the lines of a script, and writes the answers.
 
-ghost use Rattle.std.specs.Prelude.{◌≡◌, ◌++◌, OnOk};
+ghost use Rattle.std.specs.Prelude.{◌≡◌, ◌++◌, [], OnErr, OnOk};
 ghost use Rattle.std.specs.Option.{option_copied};
-ghost use Rattle.tcm_edges.specs.Owed.{WritesPrefix};
 ghost use Rattle.tcm_session.specs.Counts.{counts};
 ghost use Rattle.tcm_session.specs.Faults.{HasRunCause};
+ghost use Rattle.tcm_session.specs.Left.{StopsIn, StopsNext};
 ghost use Rattle.tcm_session.specs.Lines.{whole_lines};
 ghost use Rattle.tcm_session.specs.LogFiles.{Gains, entry_lines};
-ghost use Rattle.tcm_session.specs.Machine.{answers, reply, session_next};
+ghost use Rattle.tcm_session.specs.Machine.{reply, session_next};
 ghost use Rattle.tcm_session.specs.Runs.{IsBegun, LeavesStore, Takes, Writes, standing};
+ghost use Rattle.tcm_session.specs.Stops.{Stopped};
 
 use crate::fault::RunFault;
 use crate::lines::{cut_line, keep_begun};
@@ -17,7 +18,8 @@ use cluster_terms::ByteText;
 use std::alloc::Global;
 use tcm_edges::{Sink, Store, write_all};
 
-/// Answers a line, and writes the answer to `out` at once. At a fault, a prefix of the answer is written.
+/// Answers a line, and writes the answer to `out` at once. At a fault, a front of the answer may be written, and a front of
+/// the line of its entry may be in the file: all of this line, if any of the answer is written.
 pub fn answer_line<K: Sink, D: Store>(
     alloc: Global,
     session: &mut Session,
@@ -33,6 +35,9 @@ pub fn answer_line<K: Sink, D: Store>(
     ensures file { OnOk result (Gains
         (option_copied log.entry) (entry_lines (reply session.old line.now).added)
         (D.files store.old) (D.files store.new)) }
+    ensures stopped { OnErr result (Stopped
+        (StopsNext (reply session.old line.now).text (entry_lines (reply session.old line.now).added))
+        (option_copied log.entry) (K.written out.old) (K.written out.new) (D.files store.old) (D.files store.new)) }
     ensures unnamed { LeavesStore (option_copied log.entry) store.old store.new result }
 {
     let mut text = ByteText::empty(alloc);
@@ -42,7 +47,7 @@ pub fn answer_line<K: Sink, D: Store>(
 }
 
 /// Takes the next piece of a script: answers each line that ends in it, and keeps the rest in `begun`, as the start of
-/// the next line. At a fault, a prefix of the answers is written.
+/// the next line. At a fault, some of the lines are done, and the next one stopped as in `answer_line`.
 pub fn feed<K: Sink, D: Store>(
     alloc: Global,
     session: &mut Session,
@@ -56,8 +61,9 @@ pub fn feed<K: Sink, D: Store>(
     ensures ok { OnOk result (Takes (option_copied log.entry) piece.now
         (standing session.old begun.old.items (K.written out.old) (D.files store.old))
         (standing session.new begun.new.items (K.written out.new) (D.files store.new))) }
-    ensures part { WritesPrefix (K.written out.old) (K.written out.new)
-        (answers session.old (whole_lines (begun.old.items ++ piece.now))) }
+    ensures stopped { OnErr result (Stopped
+        (StopsIn session.old (whole_lines (begun.old.items ++ piece.now)) [])
+        (option_copied log.entry) (K.written out.old) (K.written out.new) (D.files store.old) (D.files store.new)) }
     ensures cause { HasRunCause (counts 0 (K.faults out.old) (D.faults store.old))
         (counts 0 (K.faults out.new) (D.faults store.new)) result }
     ensures unnamed { LeavesStore (option_copied log.entry) store.old store.new result }

@@ -1,6 +1,6 @@
 //! Facts about the definitions: the lines of an input, the quorums in answers, and what followers show.
 
-ghost use Rattle.std.specs.Prelude.{◌≡◌, ℕ, ◌++◌, [], List, None, Some, Ok, flat_map};
+ghost use Rattle.std.specs.Prelude.{◌≡◌, ℕ, ◌++◌, [], List, Option, None, Some, Ok, flat_map};
 ghost use Rattle.std.specs.List.{AllByRecursion};
 ghost use Rattle.script_lang.specs.Grammar.{line_of};
 ghost use Rattle.script_lang.specs.Texts.{line};
@@ -12,9 +12,12 @@ ghost use Rattle.tcm_session.specs.Lines.{HasNoFeed, open_line, whole_lines};
 ghost use Rattle.tcm_session.specs.LogFiles.{lines_part, log_of};
 ghost use Rattle.tcm_session.specs.Machine.{SessionState, answers, reply, session_after, session_over};
 ghost use Rattle.tcm_session.specs.Taken.{AnswerAsLog, FollowersShow, TellsEpoch};
-ghost use Rattle.tcm_edges.specs.Files.{Files};
+ghost use Rattle.tcm_edges.specs.Files.{Files, content};
+ghost use Rattle.tcm_session.specs.Left.{LeavesLog};
+ghost use Rattle.tcm_session.specs.Outcome.{Outcome};
 ghost use Rattle.tcm_session.specs.Replay.{files_replayed, nothing_replayed};
 ghost use Rattle.tcm_session.specs.ReplayPrefix.{AreFilesOf, ComesToPrefix, taken_of_files};
+ghost use Rattle.tcm_session.specs.SentAgain.{AreAccepted, ComesToSame, GoesOn, log_at};
 ghost use Rattle.tcm_session.specs.Shown.{IsOfNoQuorum, LinesAreShown, Shown, ShownMeet, shown, shown_by, shown_text};
 
 /// Cutting an input into lines loses nothing: its whole lines, each with a line feed after it, and then its open line
@@ -65,6 +68,21 @@ pub fn followers_show_prefixes()
         → TellsEpoch (hand_entry follower entry) × TellsEpoch (hand_image follower image) }
     ensures queries { (file : List ℕ) (log : List Entry) (lines : List (List ℕ)) → log_of file ≡ Ok log
         → AnswerAsLog (session_after (session_over log) lines) }
+{}
+
+/// A script that is sent again. Take the lines of a script, answered from a log, with `OK` and an epoch to each commit,
+/// and the log as it is after any number of these lines. All the lines, answered from there, come to the same: each commit
+/// is answered with the same text, and the log is the same afterwards.
+///
+/// What a fault leaves of the log's file reads as the log after some of the lines, and the same lines make of it the file
+/// that one run without a fault makes. So a run that a fault ended may be repeated. A commit that was refused is decided
+/// anew.
+pub fn scripts_are_sent_again()
+    ensures log { (log : List Entry) (lines : List (List ℕ)) (n : ℕ) → AreAccepted (session_over log) lines
+        → ComesToSame log (log_at log lines n) lines }
+    ensures file { (o : Outcome) (printed : List ℕ) (status : ℕ) (file file' : Option (List ℕ))
+        → log_of (content file) ≡ Ok o.log → LeavesLog o printed status file file'
+        → GoesOn o.log o.lines (content file) (content file') }
 {}
 
 /// A replay of files whose whole lines are entries of one log or images of its states, in any order, some lost and some

@@ -1,19 +1,26 @@
 use Rattle.std.proofs.Common.{None, Some, refl, ap, ◌∙◌}
 use Rattle.std.specs.Option.{option_copied}
+use Rattle.std.specs.Prelude.{map, string_bytes}
+use Rattle.tcm_session.proofs.LeftLemmas.{named_files}
 use Rattle.tcm_session.proofs.ReplayRuns.{runs_others}
-use Rattle.tcm_session.proofs.RunLemmas.{runs_commit, runs_unloaded}
+use Rattle.tcm_session.proofs.RunLemmas.{named_file, runs_commit, runs_unloaded}
 use Rattle.tcm_session.proofs.program.answer_words.Goals as goal
 
 pub returns-in-Some-None-clause-runs : goal.returns-in-Some-None-clause-runs
 returns-in-Some-None-clause-runs g c =
+    let words = map string_bytes c.args.words.now in
     let said = c.in-Some-None.ensures in
-    runs_commit _ _ _ _ _ _ None _ _ _ said.0 (said.1 ∙ ap option_copied c.in-Some-None.field-0-is)
-    (runs_unloaded _ _ _ _ _ _ _ _ _ c.commit.ensures.runs)
+    let file = said.1 ∙ ap option_copied c.in-Some-None.field-0-is in
+    runs_commit _ _ _ _ _ _ _ words None _ _ _ said.0 file (λ o printed ended left. named_files words None _ _ (named_file words None said.0 file) o printed ended left.adds)
+    (runs_unloaded _ _ _ _ _ _ _ _ _ _ c.commit.ensures.runs)
 
 pub returns-in-Some-Some-clause-runs : goal.returns-in-Some-Some-clause-runs
 returns-in-Some-Some-clause-runs g c =
+    let words = map string_bytes c.args.words.now in
     let said = c.in-Some-Some.ensures in
-    runs_commit _ _ _ _ _ _ (Some c.in-Some-Some.name.now) _ _ _ said.0 (said.1 ∙ ap option_copied c.in-Some-Some.field-0-is) c.commit_to.ensures.runs
+    let name = Some c.in-Some-Some.name.now in
+    let file = said.1 ∙ ap option_copied c.in-Some-Some.field-0-is in
+    runs_commit _ _ _ _ _ _ _ words name _ _ _ said.0 file (named_files words name _ _ (named_file words name said.0 file)) c.commit_to.ensures.runs
 
 pub returns-in-None-clause-runs : goal.returns-in-None-clause-runs
 returns-in-None-clause-runs g c =

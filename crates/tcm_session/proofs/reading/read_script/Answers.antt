@@ -20,12 +20,12 @@ read_piece-requires-clause-begun g c = ReadsSoFar-begun _ _ _ _ _ _ c.loop-taken
 
 pub returns-in_err-buffer-clause-err : goal.returns-in_err-buffer-clause-err
 returns-in_err-buffer-clause-err g c =
-    at_fault _ c.from_residual.result _ c.from_residual.ensures.1 (StopsAt-none _ _ _ _ _ (Keeps-refl (g.S.Source.left c.args.input.now)) c.requires.begun)
+    at_fault _ c.from_residual.result _ c.from_residual.ensures.1 (StopsAt-none _ _ _ _ _ _ (Keeps-refl (g.S.Source.left c.args.input.now)) c.requires.begun)
 
 pub returns-in_err-count-clause-err : goal.returns-in_err-count-clause-err
 returns-in_err-count-clause-err g c =
     at_fault _ c.from_residual-in_err-count.result _ c.from_residual-in_err-count.ensures.1
-    (ReadsSoFar-stop _ _ _ _ _ _ c.loop-taken.invariant.reads _ _ input_limit _ _
+    (ReadsSoFar-stop _ _ _ _ _ _ c.loop-taken.invariant.reads _ _ input_limit _ _ _
     (omega (arith, length-take c.min-room.result c.deref_mut.result.now, c.min-room.ensures, c.loop-taken.invariant.limit)) c.in_err-count.ensures.err)
 
 pub returns-in_err-count-clause-cause : goal.returns-in_err-count-clause-cause
