@@ -1,4 +1,5 @@
--- The lock of a new movement: its node has no lock, no lock shares a token with it, and its plan's other ranges are wider.
+-- The lock of a new movement: its node has no lock, no lock shares a token with it, and its plan's other ranges are
+-- wider.
 use Rattle.std.proofs.Common.{◌≡◌, ℕ, Bool, true, false, true≢false, ◌&&◌, ◌||◌, ◌==◌, ℤ, List, [], ◌∷◌, ◌++◌, map, nat_eq, Some, refl, sym, ap, ◌∙◌, subst, arith, zip}
 use Rattle.std.proofs.lemmas.Bool.Decides.{Decides-eqb, nat_tests}
 use Rattle.std.specs.List.{AllByRecursion}

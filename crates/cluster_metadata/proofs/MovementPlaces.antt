@@ -92,7 +92,7 @@ beyond [] i over = refl
 beyond (x ∷ xs) zero over = absurd (omega arith)
 beyond (x ∷ xs) (suc i) over = beyond xs i (omega arith)
 
--- the item at an index, in the two ways to read it
+-- the item at a position, in the two ways to read it
 pub at_index : {X : Type 0} (xs : List X) (i : ℕ) (x : X) → i < length xs → x ≡ get_or xs i x → slice_get xs i ≡ Some x
 at_index [] i x within here = absurd (omega arith)
 at_index (y ∷ ys) zero x within here = ap (λ z. Some z) (sym here)

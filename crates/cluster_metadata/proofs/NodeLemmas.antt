@@ -95,7 +95,7 @@ none_left image n none = by (row_of image.nodes n) refl
         let some : IsSome (row_of image.nodes n) = rw e refl in
         absurd (some_place (λ (row : NodeRow). row.id == n) image.nodes some none)
 
--- what is at an index, in the other way to read it
+-- what is at a position, in the other way to read it
 read_at : (rows : List NodeRow) (i : ℕ) (row d : NodeRow) → slice_get rows i ≡ Some row → get_or rows i d ≡ row
 read_at [] i row d here = absurd (none-some row here)
 read_at (r ∷ rows) zero row d here = cc here

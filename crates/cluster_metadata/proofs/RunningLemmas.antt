@@ -56,8 +56,8 @@ running_insert rows rs at s r is same =
 pub running_remove : (rows : List SeqRow) (rs : List Running) (at : ℕ) → IsRunning rows rs → IsRunning (remove rows at) (remove rs at)
 running_remove rows rs at is = map_remove movement_row rs at ∙ ap (λ l. remove l at) is
 
--- the value of a movement is taken out, takes its next step, and is put back: its row is at the next phase, and its plan
--- stays
+-- the value of a movement is taken out, takes its next step, and is put back: its row is at the next phase, and its
+-- plan stays
 module _ (rows : List SeqRow) (rs : List Running) (at : ℕ) (row : SeqRow) (is : IsRunning rows rs) (p q : Phase) (r new : Running) (found : slice_get rows at ≡ Some (in_phase p row)) (here : r ≡ get_or rs at r)
     (kept : plan_of new ≡ plan_of r) where
   returned : insert (remove rs at) at new ≡ set rs at new

@@ -2,6 +2,7 @@
 -- the next.
 pub mod ChangeMoves
 pub mod ChangeSteps
+pub mod EditedMaps
 pub mod ExchangedMaps
 pub mod IdleMaps
 pub mod ImageMaps

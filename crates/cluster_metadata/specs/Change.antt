@@ -42,16 +42,16 @@ changed image (BroughtBack at row) = record image { epoch = image.epoch + 1; seq
 abbrev pub in_phase : Phase → SeqRow → SeqRow
 in_phase p row = record row { phase = p }
 
--- the movement at this index is at this phase
+-- the movement at this position is at this phase
 abbrev pub StandsAt : List SeqRow → ℕ → Phase → Type 0
 StandsAt rows at p = option_map (λ s. s.phase) (slice_get rows at) ≡ Some p
 
--- the movement at this index isn't half way
+-- the movement at this position isn't half way
 abbrev pub StandsBeforeMid : List SeqRow → ℕ → Type 0
 StandsBeforeMid rows at = option_map (λ s. is_mid s.phase) (slice_get rows at) ≡ Some false
 
--- a change fits the movements in flight before it. The row of a new movement's plan is inserted at its index. For a
--- step, the same row is at this index, at the phase before; for the way back, it is there at MID. A movement that is
+-- a change fits the movements in flight before it. The row of a new movement's plan is inserted at its position. For a
+-- step, the same row is at this position, at the phase before; for the way back, it is there at MID. A movement that is
 -- finished is at MID and is removed. A movement that is given up isn't at MID and is removed
 abbrev pub Follows : List SeqRow → Change → Type 0
 Follows before (Begun at plan after) = (plan.row.phase ≡ phase.Prepared) × (at ≤ length before) × (after ≡ insert before at plan.row)
@@ -62,7 +62,8 @@ Follows before (Ended at after) = StandsBeforeMid before at × (after ≡ remove
 Follows before (BroughtBack at row) = (slice_get before at ≡ Some (in_phase phase.Mid row)) × (row.phase ≡ phase.Started)
 Follows before _ = Unit {0}
 
--- a change fits the nodes before it: a node that is registered is new, and a node that is removed or leaves is registered
+-- a change fits the nodes before it: a node that is registered is new, and a node that is removed or leaves is
+-- registered
 abbrev pub FitsNodes : Image → Change → Type 0
 FitsNodes image (Registered node) = IsNew image.nodes image.next node
 FitsNodes image (Unregistered n) = IsSome (row_of image.nodes n)
@@ -79,7 +80,7 @@ BringsPlan image (Begun at plan after) =
     HasDeltas (changed image (Begun at plan after)) plan × IsLockOf (changed image (Begun at plan after)) plan.row (plan_lock plan)
 BringsPlan image _ = Unit {0}
 
--- the movement of a node stands at this index
+-- the movement of a node stands at this position
 abbrev pub StandsFor : Image → ℕ → ℕ → Type 0
 StandsFor image n at = slice_get image.sequences at ≡ movement_of image n
 

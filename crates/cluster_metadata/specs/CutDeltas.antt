@@ -1,4 +1,5 @@
--- How a command changes the reads, the writes and the cuts, and where the deltas of movements change from token to token.
+-- How a command changes the reads, the writes and the cuts, and where the deltas of movements change from token to
+-- token.
 use Rattle.std.specs.Prelude.{◌≡◌, ℤ, pos, ◌+ℤ◌}
 use Rattle.std.specs.List.{AllByRecursion}
 use Rattle.cluster_terms.specs.Arc.{IsToken}

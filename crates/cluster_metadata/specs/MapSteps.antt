@@ -27,7 +27,7 @@ no_deltas r x = no_changes
 abbrev pub deltas_of : (List ℕ → List ℕ → PlacementDelta) → Image → SeqRow → Replication → ℤ → PlacementDelta
 deltas_of delta image s r x = delta (gained_at image r s x) (lost_at image r s x)
 
--- reads and writes change by such deltas of the movement at this index; and the cuts stay as well
+-- reads and writes change by such deltas of the movement at this position; and the cuts stay as well
 abbrev pub MovesOf : Image → Image → ℕ → (SeqRow → List ℕ → List ℕ → PlacementDelta) → Type 0
 MovesOf before after at delta = (s : SeqRow) → slice_get before.sequences at ≡ Some s → MovesBy before after (deltas_of (delta s) before s)
 

@@ -3,6 +3,7 @@ use Rattle.std.specs.Prelude.{◌≡◌, ℕ, ◌+◌, ◌-◌, ◌<◌, ◌^◌
 use Rattle.cluster_terms.specs.NodeRow.{marked, row_of}
 use Rattle.cluster_terms.specs.declared.node.NodeRow.{NodeRow}
 use Rattle.node_directory.specs.Directory.{node_named, other_rows}
+use Rattle.node_directory.specs.Room.{IsRoomFor}
 use Rattle.transformations.specs.Steps.{with_left}
 use Rattle.transformations.specs.declared.image.Image.{Image}
 use Rattle.cluster_metadata.specs.declared.leaving.LeftRow.{LeftRow}
@@ -19,8 +20,7 @@ pub record IsNew (nodes : List NodeRow) (next : ℕ) (node : NewNode) : Type 0 w
   pub ids : next < 2 ^ 32 - 1
   pub free : node_named nodes node.entry.name ≡ None
   pub room : length nodes < node.nodes
-  pub name : node.directory.name ≡ node.entry.name
-  pub count : length nodes < node.directory.count
+  pub directory : IsRoomFor (length nodes) next node.entry.name node.directory
 
 -- the node that leaves with a row, and the nodes after it; without a row they stay
 abbrev pub left_node : Option LeftRow → Option ℕ
@@ -29,7 +29,7 @@ left_node left = option_map (λ l. l.row.id) left
 abbrev pub nodes_left : List NodeRow → Option LeftRow → List NodeRow
 nodes_left nodes left = with_left nodes (left_node left)
 
--- the row of a registered node, which is marked as left once this row is put at its index
+-- the row of a registered node, which is marked as left once this row is put at its position
 pub record IsLeftRow (nodes : List NodeRow) (left : LeftRow) : Type 0 where
   pub registered : IsSome (row_of nodes left.row.id)
   pub within : left.at < length nodes

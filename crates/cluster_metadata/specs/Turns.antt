@@ -7,8 +7,9 @@ use Rattle.placement_deltas.specs.Deltas.{delta_at}
 use Rattle.placement_deltas.specs.declared.book.DeltaBookRow.{DeltaBookRow}
 use Rattle.placement_deltas.specs.declared.delta_row.DeltaRow.{DeltaRow}
 use Rattle.range_placements.specs.Changing.{row_changed, rows_changed}
+use Rattle.range_placements.specs.Editing.{Edits, edited}
 use Rattle.range_placements.specs.Exchanging.{exchanged}
-use Rattle.range_placements.specs.Placements.{IsPlacementMap, map_at, reads_changed, writes_changed}
+use Rattle.range_placements.specs.Placements.{map_at, reads_changed, writes_changed}
 use Rattle.range_placements.specs.declared.placement_row.PlacementRow.{PlacementRow}
 use Rattle.range_placements.specs.declared.row_changes.RowChange.{RowChange}
 use Rattle.transformations.specs.declared.sequence.Phase.{Phase}
@@ -35,18 +36,15 @@ undoing Mid = ReadsBack
 abbrev pub row_to : RightEnd → List ℕ × List ℕ → PlacementRow
 row_to right placement = record { right = right; reads = placement.0; writes = placement.1 }
 
--- the row of a range, with the reads and the writes of its last token; and ranges whose rows are a map
+-- the row of a range, with the reads and the writes of its last token
 abbrev pub row_with : (ℤ → List ℕ × List ℕ) → TokenRange → PlacementRow
 row_with placement range = row_to range.right (placement (last_token range.right))
-
-abbrev pub AreMapRanges : List TokenRange → Type 0
-AreMapRanges ranges = IsPlacementMap (map (row_with (λ x. ([], []))) ranges)
 
 -- the rows of a map, changed by a delta; and those of other ranges, with the same changes at their last tokens
 abbrev pub turned_rows : Turn → List PlacementRow → List DeltaRow → List PlacementRow
 turned_rows turn rows delta = rows_changed (turned turn) delta rows
 
--- new sets are added for the row at an index, where the delta changes it: whatever rows stand beside it
+-- new sets are added for the row at a position, where the delta changes it: whatever rows stand beside it
 abbrev pub AddsTurned : Turn → List DeltaRow → ℕ → PlacementRow → List RowChange → List RowChange → Type 0
 AddsTurned turn delta at row before after =
     (done rest : List PlacementRow) → length done ≡ at → exchanged after (done ++ row ∷ rest) ≡ exchanged before (done ++ row_changed (turned turn) delta row ∷ rest)
@@ -56,6 +54,10 @@ turned_at turn rows delta x = turned turn (map_at rows x) (delta_at delta x)
 
 abbrev pub recut_rows : Turn → List TokenRange → List PlacementRow → List DeltaRow → List PlacementRow
 recut_rows turn ranges rows delta = map (row_with (turned_at turn rows delta)) ranges
+
+-- edits make one row more of the rows of a map
+abbrev pub AddsRow : List PlacementRow → PlacementRow → Edits → Edits → Type 0
+AddsRow rows row before after = edited after rows ≡ edited before rows ++ row ∷ []
 
 -- a book with each map changed by the delta beside it
 abbrev pub each_map : (List PlacementRow → List DeltaRow → List PlacementRow) → List MapRow → List DeltaBookRow → List MapRow

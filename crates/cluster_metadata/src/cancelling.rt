@@ -21,7 +21,7 @@ fn is_mid(phase: Phase) -> bool
 }
 
 /// The change that cancels the movement of a node: from `Mid` it goes back to `Started`, from another phase it ends.
-/// `Err` means that memory ran out.
+/// Fails only if memory runs out.
 pub fn cancel(image: &Image, node: NodeId) -> Result<Change, Memory>
     requires movements { IsStrictlySortedBy by_node image.now.sequences }
     requires accepted { early_refusal_of image.now (command.Cancel node) ≡ None }

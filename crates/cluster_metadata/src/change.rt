@@ -5,7 +5,7 @@ use placement_deltas::Plan;
 use transformations::{KeyspaceRows, SeqRow, SeqRows};
 
 /// The change that a command makes in an image, beside the epoch. It has the new version of each list that changes, or
-/// of the row of one node or one movement. `at` is the index of this movement among the movements.
+/// of the row of one node or one movement. `at` is the position of this movement among the movements.
 #[derive(Drop)]
 pub enum Change {
     /// A node is registered.

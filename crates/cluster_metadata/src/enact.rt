@@ -9,7 +9,7 @@ ghost use Rattle.transformations.specs.declared.sequence.Phase.TheVariants as ph
 ghost use Rattle.cluster_metadata.specs.Change.{FitsNodes, Follows, StandsAt, StandsBeforeMid, changed, directory_of, grown_to, plans_after};
 ghost use Rattle.cluster_metadata.specs.Locking.{HoldsLock, IsFree, MayLock, locks_after};
 ghost use Rattle.cluster_metadata.specs.Change.{plan_lock};
-ghost use Rattle.cluster_metadata.specs.MapChanges.{maps_after};
+ghost use Rattle.cluster_metadata.specs.MapChanges.{HoldMaps, maps_after};
 ghost use Rattle.cluster_metadata.specs.Running.{IsRunning, plan_of};
 ghost use Rattle.cluster_metadata.specs.declared.change.Change.TheVariants as change;
 
@@ -155,12 +155,14 @@ fn bring_back(sequences: &mut SeqRows, running: &mut Vec<Running>, at: usize, ro
 
 /// Changes the placement maps.
 pub fn exchange(maps: &mut MapBook, change: MapChange)
+    requires { HoldMaps (maps_after change maps.old) }
     ensures { maps.new ≡ maps_after change maps.old }
 {
     match change {
         MapChange::Keep => {}
         MapChange::Anew(next) => *maps = next,
         MapChange::Sets(changes) => maps.exchange(changes),
+        MapChange::Rows(edits) => maps.edit(edits),
     }
 }
 

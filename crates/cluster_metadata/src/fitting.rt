@@ -19,7 +19,7 @@ fn has_among(book: &[MapRow], first: usize, replication: &Replication) -> bool
         .any(|row| row.replication.same(replication))
 }
 
-/// Whether the map at an index is that of a replication.
+/// Whether the map at a position is that of a replication.
 fn is_at(book: &[MapRow], at: usize, replication: &Replication) -> bool
     ensures { IsTrue result → option_map (λ row. row.replication) (slice_get book.now at) ≡ Some replication.now }
 {

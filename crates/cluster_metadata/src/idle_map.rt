@@ -17,7 +17,7 @@ use std::sync::ledger::Ledger;
 use token_ring::Ring;
 use transformations::{Image, cuts};
 
-/// A range with the nodes that are placed at its last token, which are read and written. One walk.
+/// A range with the nodes that are placed at its last token, which are read and written. Makes one walk.
 fn row_once<L: Ledger>(
     alloc: Global,
     placer: &Placer,
@@ -34,7 +34,7 @@ fn row_once<L: Ledger>(
     })
 }
 
-/// The ranges with the nodes that are placed at their last tokens. One walk for each range.
+/// The ranges with the nodes that are placed at their last tokens. Makes one walk for each range.
 fn rows_once<L: Ledger>(
     alloc: Global,
     placer: &Placer,
@@ -51,7 +51,7 @@ fn rows_once<L: Ledger>(
 }
 
 /// The placement map of a replication in an image without movements. The directory must hold the nodes of the image.
-/// `Err` means that memory ran out. Cost: the ring is copied and sorted, and one walk for each row between cuts.
+/// Fails only if memory runs out. Cost: a copy of the ring, its cuts, and one walk for each row between cuts.
 #[tactic(auto, using(crate::proofs::ImageRings::low_tokens))]
 pub fn idle_map<L: Ledger>(
     alloc: Global,

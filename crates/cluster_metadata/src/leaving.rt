@@ -8,7 +8,7 @@ ghost use Rattle.cluster_metadata.specs.Nodes as spec;
 use cluster_terms::{Memory, NodeId, NodeRow, Pair, TryCopy};
 use transformations::{Image, Kind, SeqRow};
 
-/// The row of a node that leaves, marked as left, and its index among the nodes.
+/// The row of a node that leaves, marked as left, and its position among the nodes.
 #[derive(Drop)]
 pub struct LeftRow {
     pub at: usize,
@@ -37,14 +37,15 @@ pub fn leaver(row: &SeqRow) -> Option<NodeId>
     }
 }
 
-/// The index of a node's row. Returns `None` if and only if the node is not registered.
+/// The position of a node's row. Returns `None` if and only if the node is not registered.
 fn found_at(nodes: &[NodeRow], node: NodeId) -> Option<usize>
     ensures { result ≡ position (λ row. row.id == node) nodes.now }
 {
     nodes.iter().position(|row| row.id == node)
 }
 
-/// The row of the leaver, marked as left. Returns `None` if no row changes: there is no leaver, or it is not registered.
+/// The row of the leaver, marked as left. Returns `None` if no row changes: there is no leaver, or it is not
+/// registered.
 pub fn left_row(image: &Image, leaver: Option<NodeId>) -> Result<Option<LeftRow>, Memory>
     requires { IsSound image.now }
     ensures nodes { IfOk result (λ left. spec.nodes_left image.now.nodes left ≡ with_left image.now.nodes leaver) }

@@ -1,10 +1,13 @@
-ghost use Rattle.std.specs.Prelude.{◌≡◌, [], ◌∷◌, ◌++◌, OnOk};
+ghost use Rattle.std.specs.Prelude.{◌≡◌, ◌<◌, [], ◌∷◌, ◌++◌, length, get_or, OnOk};
+ghost use Rattle.range_placements.specs.Editing.{edited};
+ghost use Rattle.range_placements.specs.Placements.{IsPlacementMap};
+ghost use Rattle.cluster_metadata.specs.declared.map_row.MapRow.{MapRow as AnyRow};
 ghost use Rattle.cluster_metadata.specs.MapChanges as spec;
 
-use crate::map_change::BookChanges;
+use crate::map_change::{BookChanges, BookEdits};
 use crate::map_row::MapRow;
 use cluster_terms::Memory;
-use range_placements::RowChanges;
+use range_placements::{RowChanges, RowEdits};
 use std::alloc::Global;
 use std::marker::Model;
 
@@ -24,12 +27,23 @@ impl Model for MapBook {
     ghost view = { λ book. book.rows.items };
 }
 
-/// Exchanges sets in the map at an index. An index past the last map changes nothing.
+/// Exchanges sets in the map at a position. A position past the last map changes nothing.
 fn exchange_at(rows: &mut Vec<MapRow>, at: usize, changes: RowChanges)
     ensures { rows.new.items ≡ spec.exchanged_at at changes rows.old.items }
 {
     if at < rows.len() {
         rows[at].map.exchange(changes);
+    }
+}
+
+/// Keeps some rows of the map at an index, and puts in new ones. An index past the last map changes nothing.
+fn edit_at(rows: &mut Vec<MapRow>, at: usize, edits: RowEdits)
+    requires { (row : AnyRow) → at < length rows.old.items → row ≡ get_or rows.old.items at row
+        → IsPlacementMap (edited edits row.map) }
+    ensures { rows.new.items ≡ spec.edited_at at edits rows.old.items }
+{
+    if at < rows.len() {
+        rows[at].map.edit(edits);
     }
 }
 
@@ -43,7 +57,7 @@ impl MapBook {
         }
     }
 
-    /// Adds the map of a replication. `Err` means that memory ran out.
+    /// Adds the map of a replication. Fails only if memory runs out.
     pub fn push(&mut self, row: MapRow) -> Result<(), Memory>
         ensures { OnOk result (self.new ≡ self.old ++ row ∷ []) }
     {
@@ -64,6 +78,16 @@ impl MapBook {
     {
         while let Some(last) = changes.pop() {
             exchange_at(&mut self.rows, changes.len(), last);
+        }
+    }
+
+    /// Keeps some rows of each map, and puts in new ones. Takes no memory: each row that stays is moved.
+    pub fn edit(&mut self, mut edits: BookEdits)
+        requires { spec.HoldMaps (spec.each_edited edits.items self.old) }
+        ensures { self.new ≡ spec.each_edited edits.items self.old }
+    {
+        while let Some(last) = edits.pop() {
+            edit_at(&mut self.rows, edits.len(), last);
         }
     }
 }

@@ -1,8 +1,11 @@
 use crate::map_book::MapBook;
-use range_placements::RowChanges;
+use range_placements::{RowChanges, RowEdits};
 
 /// New sets for rows of each map of a book, in the order of the maps.
 pub type BookChanges = Vec<RowChanges>;
+
+/// Which rows each map of a book keeps, and which new rows it gets, in the order of the maps.
+pub type BookEdits = Vec<RowEdits>;
 
 /// How a change changes the placement maps. It holds all memory for that.
 #[derive(Drop)]
@@ -13,4 +16,6 @@ pub enum MapChange {
     Anew(MapBook),
     /// The maps get new sets in some rows.
     Sets(BookChanges),
+    /// The maps keep some rows, which move, and get new ones.
+    Rows(BookEdits),
 }

@@ -1,6 +1,6 @@
-//! What a change does to the placement maps.
+//! How a change of an image changes its placement maps.
 
-ghost use Rattle.std.specs.Prelude.{◌≡◌, ◌-◌, ◌<◌, ◌^◌, IfOk, OnOk};
+ghost use Rattle.std.specs.Prelude.{◌≡◌, ◌-◌, ◌<◌, ◌^◌, length, IfOk, OnOk};
 ghost use Rattle.std.specs.List.{AllByRecursion};
 ghost use Rattle.cluster_terms.specs.Arc.{IsToken};
 ghost use Rattle.cluster_terms.specs.Row.{rows_between};
@@ -8,7 +8,7 @@ ghost use Rattle.transformations.specs.Rings.{cuts_among};
 ghost use Rattle.transformations.specs.Valid.{IsValid};
 ghost use Rattle.cluster_metadata.specs.Change as spec;
 ghost use Rattle.cluster_metadata.specs.MapSteps.{MapSteps};
-ghost use Rattle.cluster_metadata.specs.MapChanges.{BringsMaps};
+ghost use Rattle.cluster_metadata.specs.MapChanges.{BringsMaps, each_edited};
 ghost use Rattle.cluster_metadata.specs.Maps.{AreMaps};
 ghost use Rattle.cluster_metadata.specs.Running.{HaveDeltas, IsRunning};
 ghost use Rattle.cluster_metadata.specs.Turns.{each_map, recut_rows};
@@ -17,7 +17,7 @@ ghost use Rattle.cluster_metadata.specs.declared.change.Change.TheVariants as sp
 use crate::change::Change;
 use crate::fitting::fits;
 use crate::map_book::MapBook;
-use crate::map_change::MapChange;
+use crate::map_change::{BookEdits, MapChange};
 use crate::maps::maps_of;
 use crate::running::Running;
 use crate::turn::Turn;
@@ -39,7 +39,7 @@ fn with_tokens(image: &Image, tokens: &PairList) -> Result<Image, Memory>
     Ok(next)
 }
 
-/// What new tokens do to the placement maps: all are placed anew. Without a keyspace there is none.
+/// The change of the placement maps for new tokens: all maps are placed anew. Without keyspaces there is no map.
 fn maps_on(
     alloc: Global,
     image: &Image,
@@ -62,8 +62,8 @@ fn maps_on(
     Ok(MapChange::Anew(maps))
 }
 
-/// What a change of the keyspaces does to the placement maps. They stay if the keyspaces have the same replications.
-/// Otherwise those that are there are copied, and the others placed.
+/// The change of the placement maps for other keyspaces. The maps stay if the keyspaces have the same replications.
+/// Otherwise the maps of replications that stay are copied, and the others are placed.
 fn maps_under(
     alloc: Global,
     image: &Image,
@@ -86,8 +86,8 @@ fn maps_under(
     Ok(MapChange::Anew(maps))
 }
 
-/// The maps of the ranges between the cuts of a ring and these movements, with the sets that other maps have at their last
-/// tokens, changed by the deltas of a movement.
+/// The edits that make maps those of the ranges between the cuts of a ring and these movements, with the sets that the maps
+/// have at the last tokens of the ranges, changed by the deltas of a movement.
 fn recut_among(
     alloc: Global,
     tokens: &PairList,
@@ -95,8 +95,8 @@ fn recut_among(
     maps: &MapBook,
     turn: Turn,
     deltas: &DeltaBook,
-) -> Result<MapBook, Memory>
-    ensures maps { IfOk result (λ next. next
+) -> Result<BookEdits, Memory>
+    ensures maps { IfOk result (λ edits. length maps.now ≡ length deltas.now → each_edited edits.items maps.now
         ≡ each_map (recut_rows turn (rows_between (cuts_among tokens.now sequences.now))) maps.now deltas.now) }
     ensures tokens { OnOk result (AllByRecursion IsToken (cuts_among tokens.now sequences.now)) }
 {
@@ -105,14 +105,14 @@ fn recut_among(
     recut_book(alloc, turn, maps, deltas, ranges.as_slice())
 }
 
-/// How a change changes the placement maps. The directory must hold the nodes of the image. `Err` means that memory ran
+/// How a change changes the placement maps. The directory must hold the nodes of the image. Fails only if memory runs
 /// out.
 ///
 /// A change of nodes keeps the maps, and so does one of keyspaces that leaves their replications. New tokens place them
-/// anew, and new keyspaces those under new replications; the others are copied. If a
-/// movement begins or ends, the maps are copied, and the sets of each row are changed by the deltas of the movement.
-/// This needs the cuts of the next image, and so a sort of its tokens. All other changes give new sets to the rows that
-/// the deltas change.
+/// anew, and new keyspaces those under new replications; the others are copied. If a movement begins or ends, the maps
+/// keep their rows, apart from those whose sets the deltas of the movement change and those that end or begin at a cut
+/// that is new or goes. This needs the cuts of the next image, and so a pass over its tokens. All other changes give new
+/// sets to the rows that the deltas change.
 pub fn maps_for(
     alloc: Global,
     image: &Image,
@@ -151,7 +151,7 @@ pub fn maps_for(
                 Turn::Keep,
                 &plan.gain,
             )?;
-            Ok(MapChange::Anew(next))
+            Ok(MapChange::Rows(next))
         }
         Change::Started { at, .. } => {
             let gain = &running[*at].plan().gain;
@@ -169,13 +169,13 @@ pub fn maps_for(
         } => {
             let lose = &running[*at].plan().lose;
             let next = recut_among(alloc, tokens, sequences, maps, Turn::Writes, lose)?;
-            Ok(MapChange::Anew(next))
+            Ok(MapChange::Rows(next))
         }
         Change::Ended { at, sequences } => {
             let movement = &running[*at];
             let (turn, gain) = (movement.undoing(), &movement.plan().gain);
             let next = recut_among(alloc, &image.tokens, sequences, maps, turn, gain)?;
-            Ok(MapChange::Anew(next))
+            Ok(MapChange::Rows(next))
         }
         Change::BroughtBack { at, .. } => {
             let swap = &running[*at].plan().swap;

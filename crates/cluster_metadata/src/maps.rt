@@ -102,7 +102,7 @@ fn placed<L: Ledger>(
 }
 
 /// The placement maps of keyspaces in an image, whose own keyspaces don't matter. The directory must hold the nodes of
-/// the image. `known` may have maps of the image already. `Err` means that memory ran out.
+/// the image. `known` may have maps of the image already. Fails only if memory runs out.
 ///
 /// Cost: a copy of each map that is known. Under each other replication, three rings, as `Rings::of_image` makes them,
 /// and three walks for each row between cuts; without movements, one ring and one walk. The walks aren't counted.

@@ -47,9 +47,9 @@ use transformations::{Command, Image, KeyspaceRow};
 /// Under each keyspace, a token is in the ranges of at most one movement. The ranges are CEP-21's locked ranges, by a
 /// rule of this project: the tokens whose replicas the movement may change, whatever happens to the other movements.
 ///
-/// The ranges of each movement in flight are held by a lock in a table, from the prepare until the movement is finished or
-/// cancelled. The movement holds the key to its lock. The table has the locks of the nodes of the movements, and no other:
-/// without movements it has none.
+/// The ranges of each movement in flight are held by a lock in a table, from the prepare until the movement is finished
+/// or cancelled. The movement holds the key to its lock. The table has the locks of the nodes of the movements, and no
+/// other: without movements it has none.
 ///
 /// The value must be consumed, by `close`.
 pub struct Metadata {
@@ -76,7 +76,7 @@ impl Metadata {
     ghost use Rattle.transformations.specs.Ranges.{AreApart, AreOutcomes, ArePlacedByOutcomes, KeepsRanges, PlacedByRanges};
     ghost use Rattle.cluster_metadata.specs.Permission.{AdmitsUnless};
 
-    /// The metadata before the first command: epoch 0, no node and no keyspace. `Err` means that memory ran out.
+    /// The metadata before the first command: epoch 0, no node and no keyspace. Fails only if memory runs out.
     pub fn empty(alloc: Global) -> Result<Metadata, Memory>
         ensures { IfOk result (λ metadata. metadata ≡ empty_image) }
     {
@@ -102,15 +102,15 @@ impl Metadata {
     /// The metadata of an image.
     ///
     /// Fails, and returns the image, with `Bad` if the image breaks a rule of valid images, and with `Memory` if memory
-    /// runs out. `Bad` has the first rule that the image breaks, with its value: `transformations::bad_image` lists rules 1
-    /// to 17. Rule 18 is that no movement overlaps the movement of a lesser node, and its value is the node of the first
-    /// movement that does.
+    /// runs out. `Bad` has the first rule that the image breaks, with its value: `transformations::bad_image` lists
+    /// rules 1 to 17. Rule 18 is that no movement overlaps the movement of a lesser node, and its value is the node of
+    /// the first movement that does.
     ///
     /// Cost: that of `transformations::bad_image`, a copy of the nodes, and a plan for each movement in flight, as
-    /// `sequence_plans::plan` makes it. For m movements and r replications, this is m copies of the image and m·m·r calls of
-    /// `ring_reach::reached`. Each plan also walks rings: under each replication, two walks for each row between cuts that
-    /// is in its movement's ranges. Under each replication, the placement maps take three rings of all pairs, and three
-    /// walks for each row between cuts; without movements, one ring and one walk.
+    /// `sequence_plans::plan_in` makes it. For m movements and r replications, this is m copies of the image and m·m·r
+    /// calls of `ring_reach::reached`. Each plan also walks rings: under each replication, two walks for each row
+    /// between cuts that is in its movement's ranges. Under each replication, the placement maps take three rings of
+    /// all pairs, and three walks for each row between cuts; without movements, one ring and one walk.
     pub fn from_image(alloc: Global, image: Image) -> Result<Metadata, (Image, ImageFault)>
         ensures ok { IfOk result (λ metadata. metadata ≡ image) }
         ensures handed_back { IfErr result (λ e. e.0 ≡ image) }
@@ -145,7 +145,7 @@ impl Metadata {
         &self.image
     }
 
-    /// A copy of the image, with all its lists. `Err` means that memory ran out. The image is valid, and the
+    /// A copy of the image, with all its lists. Fails only if memory runs out. The image is valid, and the
     /// replication of each keyspace names each of its datacenters once.
     pub fn image(&self) -> Result<Image, Memory>
         ensures image { IfOk result (λ image. image ≡ self.now) }
@@ -163,20 +163,21 @@ impl Metadata {
     ///
     /// Cost: a copy of each list that the command changes, or of the row of the movement that takes a step. The nodes
     /// aren't copied: a register, an unregister and a finish change one row of the image and of the directory. A
-    /// register takes memory for twice the nodes, which stays unused if they have memory to spare. A command that
-    /// prepares no movement counts no walk.
+    /// register takes memory for the nodes once more, and for the directory at each 64th id alone; it stays unused if
+    /// they have memory to spare. A command that prepares no movement counts no walk.
     ///
     /// If the command prepares a movement, its plan is made: the image is copied, and the ranges of all movements are
     /// found anew. For m movements with the new one and r replications, `ring_reach::reached` is called m·r times.
     /// Under each replication, two walks are counted for each row between cuts that is in the ranges of the new
-    /// movement. See `sequence_plans::plan`. `Locked` is the only refusal that comes after walks.
+    /// movement. See `sequence_plans::plan_in`. `Locked` is the only refusal that comes after walks.
     ///
     /// The placement maps stay if a node is registered or unregistered. A start, the step half way and a cancel half way
     /// make new sets for the rows that the deltas of the movement change, and search the delta for each row. If a
-    /// movement begins or ends, the maps and the image are copied and the tokens sorted, for the cuts of the next image,
-    /// and each row takes two binary searches. An unsafe join places the maps anew: under each replication, one walk for
-    /// each row between the cuts of the next image, which `walks` doesn't count. A command on keyspaces places that of a
-    /// new replication, and copies the others, or keeps all if the replications stay.
+    /// movement begins or ends, the image is copied, and one pass over the tokens makes the next image's cuts. Under each
+    /// replication one pass over the rows between these makes the rows that are new or change, and takes memory for all
+    /// rows. An unsafe join places the maps anew: under each replication, one walk for each row between the cuts of the
+    /// next image, which `walks` doesn't count. A command on keyspaces places that of a new replication, and copies the
+    /// others, or keeps all if the replications stay.
     ///
     /// Under each keyspace, a token is in the ranges of at most one movement. Whichever movements are done or given up,
     /// the placement at a token depends only on the movements that have it in their ranges. Reads and writes are
@@ -227,7 +228,8 @@ impl Metadata {
     ///
     /// Cost: a register adds one row to the nodes and to the directory, and moves the others only if there is no memory
     /// to spare. An unregister moves the rows after the removed one. A finish changes one row in place. If a movement
-    /// ends, one pass over the locks unlocks its ranges.
+    /// ends, one pass over the locks unlocks its ranges. If a movement begins or ends, each row of the placement maps that
+    /// stays is moved.
     pub fn enact(&mut self, permit: Permit) -> u64
         requires { permit.image ≡ self.old }
         ensures image { self.new ≡ next_image self.old permit.command }
@@ -345,8 +347,8 @@ impl Metadata {
         &self.directory
     }
 
-    /// The locks of the movements in flight, in the order of nodes. For each movement the table has its node and the tokens
-    /// of its ranges, under each replication of the keyspaces. Without movements it has no lock.
+    /// The locks of the movements in flight, in the order of nodes. For each movement the table has its node and the
+    /// tokens of its ranges, under each replication of the keyspaces. Without movements it has no lock.
     pub fn locks(&self) -> &LockTable
         ensures nodes { map (λ row. row.node) result.now ≡ map (λ s. s.node) self.now.sequences }
         ensures locks { AreLocksOf self.now self.now.sequences result.now }

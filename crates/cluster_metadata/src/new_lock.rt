@@ -6,8 +6,8 @@ use cluster_terms::{Memory, Room, SmallList, TryCopy};
 use std::alloc::Global;
 use token_ring::{LockRow, RangeBook};
 
-/// What a permit holds for the lock of a movement that begins: a copy of its ranges, and memory for the table of locks with
-/// one more row. For another change it holds none.
+/// The lock of a movement that begins, as a permit holds it: a copy of the movement's ranges, and memory for the table
+/// of locks with one more row. For any other change it is empty.
 #[derive(Drop)]
 pub struct NewLock {
     pub ranges: RangeBook,
@@ -15,7 +15,7 @@ pub struct NewLock {
 }
 
 impl NewLock {
-    /// What a change needs for the lock of its movement. `Err` means that memory ran out.
+    /// The lock of the movement that a change begins, or an empty one. Fails only if memory runs out.
     pub fn of_change(alloc: Global, change: &Change) -> Result<NewLock, Memory>
         ensures { IfOk result (HoldsLock change.now) }
     {

@@ -43,8 +43,9 @@ fn room_beside(count: usize) -> usize
 }
 
 impl NewNode {
-    /// The new node of a row, with memory for all nodes of the image and 64 to 128 more. The memory is used only if the
-    /// image or the directory has none to spare. `Err` means that memory ran out.
+    /// The new node of a row, with memory for all nodes of the image and 64 to 128 more, and with a room for the
+    /// directory. The memory is used only if the image or the directory has none to spare. Fails only if memory runs
+    /// out.
     pub fn of_row(alloc: Global, image: &Image, row: NodeRow) -> Result<NewNode, Memory>
         requires next { image.now.next < 2 ^ 32 - 1 }
         requires row { row ≡ spec.new_row image.now.next row.name row.dc row.rack }
@@ -52,9 +53,9 @@ impl NewNode {
         ensures new { IfOk result (spec.IsNew image.now.nodes image.now.next) }
         ensures row { IfOk result (λ node. node.row ≡ row) }
     {
-        let count = room_beside(image.nodes.as_slice().len());
-        let nodes = Room::for_items(alloc, count)?;
-        let directory = DirectoryRoom::for_node(alloc, &row.name, count)?;
+        let registered = image.nodes.as_slice().len();
+        let nodes = Room::for_items(alloc, room_beside(registered))?;
+        let directory = DirectoryRoom::for_node(alloc, &row.name, image.next, registered)?;
         Ok(NewNode {
             entry: row.copy()?,
             row,

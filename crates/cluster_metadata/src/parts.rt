@@ -1,4 +1,4 @@
-//! What the metadata of an image has beside the image.
+//! The parts of metadata beside its image.
 
 ghost use Rattle.std.specs.Prelude.{◌≡◌, None, IfOk, MatchResult};
 ghost use Rattle.std.specs.List.{AllByRecursion};
@@ -31,7 +31,8 @@ fn check_lists(alloc: Global, image: &Image) -> Result<(), ImageFault>
     }
 }
 
-/// Shows that each keyspace has a replication, as each value of the type `Replication` does.
+/// Shows that each keyspace has a replication, as each value of the type `Replication` does. For the proof alone. The
+/// cost is a pass over the keyspaces.
 fn have_replications(keyspaces: &[KeyspaceRow])
     ensures { AllByRecursion (λ k. IsReplication k.replication) keyspaces.now }
 {
@@ -40,7 +41,7 @@ fn have_replications(keyspaces: &[KeyspaceRow])
     }
 }
 
-/// The directory of a sound image. `Err` means that memory ran out.
+/// The directory of a sound image. Fails only if memory runs out.
 fn directory_for(alloc: Global, image: &Image) -> Result<Directory, Memory>
     requires { IsSound image.now }
     ensures { IfOk result (λ directory. directory ≡ directory_of image.now) }
@@ -48,7 +49,7 @@ fn directory_for(alloc: Global, image: &Image) -> Result<Directory, Memory>
     Directory::from_valid(alloc, image.nodes.as_slice(), image.next)
 }
 
-/// The placement maps of a valid image. `Err` means that memory ran out.
+/// The placement maps of a valid image. Fails only if memory runs out.
 fn maps_in(alloc: Global, image: &Image, directory: &Directory) -> Result<MapBook, Memory>
     requires valid { IsValid image.now }
     requires nodes { directory.now.rows ≡ image.now.nodes }
@@ -59,8 +60,8 @@ fn maps_in(alloc: Global, image: &Image, directory: &Directory) -> Result<MapBoo
 }
 
 /// The parts of the metadata of an image beside it: the directory, the placement maps, the values of the movements in
-/// flight, each with its plan, and the table of their locks. Fails with `Bad` if the image isn't valid, and with `Memory`
-/// if memory runs out.
+/// flight, each with its plan, and the table of their locks. Fails with `Bad` if the image isn't valid, and with
+/// `Memory` if memory runs out.
 pub fn parts_of(
     alloc: Global,
     image: &Image,

@@ -36,8 +36,8 @@ fn room_for(alloc: Global, change: &Change) -> Result<Vec<Running>, Memory>
     Ok(Vec::with_capacity(alloc, count)?)
 }
 
-/// The first refusal of a command, apart from `Locked`. The name of a new node is looked up in the directory, which must
-/// hold the nodes of the image. `Err` means that memory ran out.
+/// The first refusal of a command, apart from `Locked`. The name of a new node is looked up in the directory, which
+/// must hold the nodes of the image. Fails only if memory runs out.
 fn first_refusal(
     alloc: Global,
     image: &Image,
@@ -55,8 +55,8 @@ fn first_refusal(
 }
 
 /// The permission to enact a command in an image that accepts it. Contracts see it as this image and this command. It
-/// holds the memory that the command needs. For a prepare this includes the ranges that the movement locks, and room for
-/// them in the table of locks.
+/// holds the memory that the command needs. For a prepare this includes the ranges that the movement locks, and room
+/// for them in the table of locks.
 ///
 /// The value must be consumed once: `Metadata::enact` carries out the command, and `decline` gives the permit up.
 pub struct Permit {

@@ -18,7 +18,7 @@ pub struct Placers<'a> {
 }
 
 impl<'a> Placers<'a> {
-    /// The placers of a replication on these rings. `Err` means that memory ran out.
+    /// The placers of a replication on these rings. Fails only if memory runs out.
     pub fn new(
         alloc: Global,
         rings: &'a Rings,
@@ -34,7 +34,7 @@ impl<'a> Placers<'a> {
         })
     }
 
-    /// A range with its reads and its writes, placed at its last token. Three walks.
+    /// A range with its reads and its writes, placed at its last token. Makes three walks.
     fn row<L: Ledger>(
         &self,
         alloc: Global,
@@ -53,7 +53,7 @@ impl<'a> Placers<'a> {
         })
     }
 
-    /// The ranges with their reads and their writes. `Err` means that memory ran out. Three walks for each range.
+    /// The ranges with their reads and their writes. Fails only if memory runs out. Makes three walks for each range.
     pub fn rows<L: Ledger>(
         &self,
         alloc: Global,

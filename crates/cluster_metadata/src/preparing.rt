@@ -28,7 +28,7 @@ use std::alloc::Global;
 use std::sync::ledger::Ledger;
 use transformations::{Command, Image, Refusal, SeqRow};
 
-/// The index at which the movement of a node that has none is put among the movements, in the order of nodes.
+/// The position at which the movement of a node that has none is put among the movements, in the order of nodes.
 fn place_for(sequences: &[SeqRow], node: NodeId) -> usize
     requires { AllByRecursion (λ s. (s.node == node) ≡ false) sequences.now }
     ensures bound { result ≤ length sequences.now }
@@ -63,7 +63,7 @@ fn begun(image: &Image, plan: Plan) -> Result<Change, Memory>
 }
 
 /// The row of the movement that a command prepares. The command has no early refusal. Returns `None` if and only if the
-/// command prepares no movement. `Err` means that memory ran out.
+/// command prepares no movement. Fails only if memory runs out.
 pub fn row_prepared(alloc: Global, image: &Image, cmd: &Command) -> Result<Option<SeqRow>, Memory>
     requires sound { IsSound image.now }
     requires formed { is_command cmd.now ≡ true }

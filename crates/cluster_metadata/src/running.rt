@@ -29,8 +29,8 @@ use std::marker::Brand;
 use std::sync::ledger::{Blank, Ledger};
 use transformations::{BadImage, Image, Phase, SeqRow};
 
-/// A movement in flight, as a value of its phase. It holds the plan with which the movement was prepared, and the key to
-/// the lock of its ranges.
+/// A movement in flight, as a value of its phase. It holds the plan with which the movement was prepared, and the key
+/// to the lock of its ranges.
 pub enum Running {
     Prepared(Seq<Prepared>),
     Started(Seq<Started>),
@@ -185,9 +185,9 @@ fn overlapping(node: NodeId) -> ImageFault
     })
 }
 
-/// The value of a movement of an image, with the plan that it has there, and locks its ranges. Fails with `Bad` if they
-/// share a token with a row of the table, which has the movements of lesser nodes, and with `Memory` if memory runs out.
-/// Then the table is unchanged.
+/// Locks the ranges of a movement of an image, and returns its value, with the plan that it has there. The table has
+/// the locks of the movements of lesser nodes. Fails with `Bad` if the ranges share a token with a row of the table,
+/// and with `Memory` if memory runs out. After an error the table is unchanged.
 fn resumed<L: Ledger>(
     alloc: Global,
     image: &Image,
@@ -243,7 +243,8 @@ fn push(running: &mut Vec<Running>, locks: &mut LockTable, movement: Running) ->
     }
 }
 
-/// Adds the value of a movement of an image, and its lock. Fails as `resumed` does, and then both lists are unchanged.
+/// Adds the value of a movement of an image, and its lock. Fails as `resumed` does. After an error both lists are
+/// unchanged.
 fn add<L: Ledger>(
     alloc: Global,
     image: &Image,
@@ -269,8 +270,9 @@ fn add<L: Ledger>(
     Ok(())
 }
 
-/// Adds the values of the movements of an image, in their order, and their locks. Fails with `Bad` for the first movement
-/// that overlaps the movement of a lesser node, and with `Memory` if memory runs out. Then some of them may be added.
+/// Adds the values of the movements of an image, in their order, and their locks. Fails with `Bad` for the first
+/// movement that overlaps the movement of a lesser node, and with `Memory` if memory runs out. After an error some of
+/// the values and locks may be added.
 fn push_all<L: Ledger>(
     alloc: Global,
     image: &Image,
@@ -300,9 +302,12 @@ fn push_all<L: Ledger>(
     Ok(())
 }
 
-/// The values of the movements of an image, in their order, and the table of their locks. Walks are counted on a counter
-/// of its own. The directory has the nodes of the image. Fails with `Bad` for the first movement that overlaps the movement of a lesser node, and with `Memory` if
-/// memory runs out.
+/// The values of the movements of an image, in their order, and the table of their locks. The directory has the nodes
+/// of the image. Fails with `Bad` for the first movement that overlaps the movement of a lesser node, and with `Memory`
+/// if memory runs out.
+///
+/// Cost: a plan for each movement, as `sequence_plans::plan_in` makes it, and a comparison of its ranges with the locks
+/// before it. The walks are counted on a counter of their own.
 pub fn resume_all(
     alloc: Global,
     image: &Image,

@@ -64,14 +64,14 @@ fn remove_movement(rows: &mut SeqRows, node: NodeId)
     rows.retain(|row| row.node != node);
 }
 
-/// The index of a node's movement. Returns `None` if and only if the node has no movement.
+/// The position of a node's movement. Returns `None` if and only if the node has no movement.
 fn found_at(sequences: &[SeqRow], node: NodeId) -> Option<usize>
     ensures { result ≡ position (λ s. s.node == node) sequences.now }
 {
     sequences.iter().position(|row| row.node == node)
 }
 
-/// The index of the movement of a node that has one.
+/// The position of the movement of a node that has one.
 #[tactic(auto, using(crate::proofs::MovementPlaces::found_at, crate::proofs::MovementPlaces::found_within, crate::proofs::MovementPlaces::some_place))]
 pub fn position_of(sequences: &[SeqRow], node: NodeId) -> usize
     requires { IsSome (find (λ s. s.node == node) sequences.now) }
@@ -84,7 +84,7 @@ pub fn position_of(sequences: &[SeqRow], node: NodeId) -> usize
     }
 }
 
-/// The change by which the movement of a node takes a step. `Err` means that memory ran out.
+/// The change by which the movement of a node takes a step. Fails only if memory runs out.
 #[tactic(auto, using(crate::proofs::StepLemmas::some_movement))]
 pub fn step(
     alloc: Global,

@@ -1,18 +1,19 @@
 //! Changes placement maps by the deltas of a movement.
 
-ghost use Rattle.std.specs.Prelude.{◌≡◌, length, IfOk, OnOk};
+ghost use Rattle.std.specs.Prelude.{◌≡◌, ◌<◌, ◌≤◌, ◌-◌, ◌^◌, ℕ, List, length, IfOk, IsTrue, OnOk};
+ghost use Rattle.placement_deltas.specs.Deltas.{delta_at};
+ghost use Rattle.range_placements.specs.Editing.{edited, passed};
 ghost use Rattle.range_placements.specs.Exchanging.{exchanged};
-ghost use Rattle.cluster_metadata.specs.MapChanges.{each_exchanged};
+ghost use Rattle.cluster_metadata.specs.MapChanges.{each_edited, each_exchanged};
 ghost use Rattle.cluster_metadata.specs.Turns as spec;
 
 use crate::map_book::MapBook;
-use crate::map_change::BookChanges;
-use crate::map_row::MapRow;
+use crate::map_change::{BookChanges, BookEdits};
 use crate::turn::Turn;
-use cluster_terms::{Memory, RightEnd, TokenRange, TryCopy};
+use cluster_terms::{Memory, RightEnd, Token, TokenRange, TryCopy};
 use node_sets::NodeSet;
 use placement_deltas::{Delta, DeltaBook};
-use range_placements::{PlacementMap, PlacementRow, RowChange, RowChanges, with_change};
+use range_placements::{PlacementMap, PlacementRow, RowChange, RowChanges, RowEdits, with_change};
 use std::alloc::Global;
 
 /// A row with this right end and these reads and writes, changed by the nodes gained and the nodes lost.
@@ -103,44 +104,73 @@ struct Places {
     delta: usize,
 }
 
-/// The row of a range, with the sets of its last token in a map, changed by what the delta shows there.
+/// Whether a turn by a delta leaves the sets of a token as they are. `near` is where the delta is looked at.
+fn leaves_sets(turn: Turn, delta: &Delta, t: Token, near: &mut usize) -> bool
+    ensures { IsTrue result → (reads writes : List ℕ)
+        → spec.turned turn (reads, writes) (delta_at delta.now t) ≡ (reads, writes) }
+{
+    if matches!(turn, Turn::Keep) {
+        return true;
+    }
+    let (gained, lost) = delta.at_near(t, near);
+    gained.is_empty() && lost.is_empty()
+}
+
+/// Whether a map has a row at an index, which no edit is past.
+fn is_ahead(edits: &RowEdits, map: &PlacementMap, at: usize) -> bool
+    ensures place { IsTrue result → passed edits.now ≤ at }
+    ensures bound { IsTrue result → at < 2 ^ 64 - 1 }
+{
+    edits.passed() <= at && at < map.rows().len()
+}
+
+/// Adds the row of a range, with the sets of its last token in a map, changed by what the delta shows there. If this is the
+/// token's row in the map and no edit is past it, the row is kept. `places` is where the map and the delta are looked at.
 fn recut_row(
+    edits: &mut RowEdits,
     turn: Turn,
     map: &PlacementMap,
     delta: &Delta,
     range: &TokenRange,
     places: &mut Places,
-) -> Result<PlacementRow, Memory>
-    ensures { IfOk result (λ row. row ≡ spec.row_with (spec.turned_at turn map.now delta.now) range.now) }
+) -> Result<(), Memory>
+    ensures { OnOk result (spec.AddsRow map.now (spec.row_with (spec.turned_at turn map.now delta.now) range.now)
+        edits.old edits.new) }
 {
     let last = range.last_token();
-    let (reads, writes) = map.at_near(last, &mut places.map);
+    let row = map.row_near(last, &mut places.map);
+    if row.right == range.right
+        && is_ahead(edits, map, places.map)
+        && leaves_sets(turn, delta, last, &mut places.delta)
+    {
+        return edits.keep(places.map);
+    }
     let (gained, lost) = delta.at_near(last, &mut places.delta);
-    turned_sets(turn, range.right, reads, writes, gained, lost)
+    edits.put(turned_sets(turn, range.right, &row.reads, &row.writes, gained, lost)?)
 }
 
-/// A map of these ranges, with the sets of their last tokens in another map, changed by what the delta shows there.
+/// The edits that make a map one of these ranges, with the sets of their last tokens in the map, changed by what the delta
+/// shows there.
 fn recut_map(
     alloc: Global,
     turn: Turn,
     map: &PlacementMap,
     delta: &Delta,
     ranges: &[TokenRange],
-) -> Result<PlacementMap, Memory>
-    requires { spec.AreMapRanges ranges.now }
-    ensures { IfOk result (λ next. next ≡ spec.recut_rows turn ranges.now map.now delta.now) }
+) -> Result<RowEdits, Memory>
+    ensures { IfOk result (λ edits. edited edits map.now ≡ spec.recut_rows turn ranges.now map.now delta.now) }
 {
-    let mut next = Vec::with_capacity(alloc, ranges.len())?;
+    let mut edits = RowEdits::with_room(alloc, ranges.len())?;
     let mut places = Places { map: 0, delta: 0 };
     for range in ranges {
-        next.push(recut_row(turn, map, delta, range, &mut places)?)?;
+        recut_row(&mut edits, turn, map, delta, range, &mut places)?;
     }
-    Ok(PlacementMap::from_rows(next))
+    Ok(edits)
 }
 
 /// The new sets of the rows of a book's maps that the deltas of a movement change. The deltas are under the same
-/// replications in the same order. `Err` means that memory ran out. Cost: under each replication one pass over the map and
-/// the delta, and a pass over the sets for each row that changes.
+/// replications in the same order. Fails only if memory runs out. Cost: under each replication one pass over the map
+/// and the delta, and a pass over the sets for each row that changes.
 pub fn turned_book(
     alloc: Global,
     turn: Turn,
@@ -157,25 +187,23 @@ pub fn turned_book(
     Ok(changes)
 }
 
-/// The maps of these ranges, with the sets of their last tokens in the maps of a book, changed by the deltas of a
-/// movement. The deltas are under the same replications in the same order. `Err` means that memory ran out. Cost: under
-/// each replication one pass over the map, the delta and the ranges, and a copy of the sets for each range.
+/// The edits that make the maps of a book those of these ranges, with the sets of their last tokens in the maps of the
+/// book, changed by the deltas of a movement. The deltas are under the same replications in the same order. Fails only if
+/// memory runs out. Cost: under each replication one pass over the map, the delta and the ranges, and a copy of the sets
+/// for each row that is new or changes.
 pub fn recut_book(
     alloc: Global,
     turn: Turn,
     book: &MapBook,
     deltas: &DeltaBook,
     ranges: &[TokenRange],
-) -> Result<MapBook, Memory>
-    requires { spec.AreMapRanges ranges.now }
-    ensures { IfOk result (λ next. next ≡ spec.each_map (spec.recut_rows turn ranges.now) book.now deltas.now) }
+) -> Result<BookEdits, Memory>
+    ensures { IfOk result (λ edits. length book.now ≡ length deltas.now
+        → each_edited edits.items book.now ≡ spec.each_map (spec.recut_rows turn ranges.now) book.now deltas.now) }
 {
-    let mut next = MapBook::empty(alloc);
+    let mut edits = Vec::new(alloc);
     for (row, deltas) in book.as_slice().iter().zip(deltas.as_slice()) {
-        next.push(MapRow {
-            replication: row.replication.copy()?,
-            map: recut_map(alloc, turn, &row.map, &deltas.delta, ranges)?,
-        })?;
+        edits.push(recut_map(alloc, turn, &row.map, &deltas.delta, ranges)?)?;
     }
-    Ok(next)
+    Ok(edits)
 }

@@ -39,7 +39,8 @@ module _ (g : Group) where
   rack_count-within xs ys within =
       distinct_count-within nat_list_eq_equiv (filter_map g.rack_of xs) (filter_map g.rack_of ys) (has_rack-of_within xs ys within)
 
-  -- as many or more replicas are to be found where more nodes are, and as many or fewer of them may stand in a rack that has one
+  -- as many or more replicas are to be found where more nodes are, and as many or fewer of them may stand in a rack
+  -- that has one
   pub wanted-within : (xs ys : List ℕ) → IsWithin g xs ys → wanted g xs ≤ wanted g ys
   wanted-within xs ys within = (let more = node_count-within xs ys within in omega arith)
 

@@ -32,7 +32,8 @@ ahead-carried g x y ps qs carried =
     ahead-within g ps qs x y y (λ q of arc there. (carried q of (λ z. arc-through x q.token y z arc) there, arc))
 
 module _ (g : Group) (x : ℤ) (one other : List Pair) where
-  -- a replica of one ring is a replica of the other where they have the same shape, and the same pairs of the group up to its first pair
+  -- a replica of one ring is a replica of the other where they have the same shape, and the same pairs of the group up
+  -- to its first pair
   replica-carried : (v : ℕ) (r : IsReplicaAt g x one v) → wanted g (nodes_of one) ≡ wanted g (nodes_of other) → spare g (nodes_of one) ≡ spare g (nodes_of other)
       → AreCarried g x r.pair.token one other → AreCarried g x r.pair.token other one → IsReplicaAt g x other v
   replica-carried v r wanted_same spare_same forth back = record {

@@ -99,7 +99,8 @@ module _ (mine fixed widest fixed' widest' : List Pair) (narrowed : IsNarrowed m
           let sw = level (spare g (nodes_of widest)) (spare g (nodes_of widest')) (spare-within g (nodes_of widest') (nodes_of widest) high) (spare-within g (nodes_of widest) (nodes_of widest') (kept-out e)) in
           λ i. (wf i == ww i) && (sf i == sw i)
 
-      -- and where they agree and y is open, the narrow pairs have no more nodes of the group ahead of it than the wide ones
+      -- and where they agree and y is open, the narrow pairs have no more nodes of the group ahead of it than the wide
+      -- ones
       ahead-kept : is_open g fixed x y ≡ true → IsWithin g (nodes_of (ahead_of x y fixed')) (nodes_of (ahead_of x y fixed))
       ahead-kept wide =
           ahead-within g fixed' fixed x y y

@@ -32,7 +32,8 @@ one_ahead x y z less = grind (arith, ints)
 
 -- ---- replicas by their places
 
--- how many replicas are found ahead of a node, by how many nodes and racks are ahead of it: at each replica there are more
+-- how many replicas are found ahead of a node, by how many nodes and racks are ahead of it: at each replica there are
+-- more
 more_found : (w s d p d' p' : ℕ) (there : Bool) → is_chosen_by w s d p there ≡ true → p ≤ p' → d < d' → (there ≡ false → p < p') → min (p + s) d < min (p' + s) d'
 more_found w s d p d' p' true chosen racks nodes new =
     let last : nat_lt (d - p) s ≡ true = (and_parts (nat_lt (min (p + s) d) w) (nat_lt (d - p) s) chosen).1 in

@@ -59,7 +59,7 @@ impl<T> SmallList<T> {
         }
     }
 
-    /// The list of a vector's items.
+    /// The list of a vector's items. Takes no memory and copies nothing.
     pub fn from_vec(items: Vec<T>) -> Self
         ensures { result ≡ items.items }
     {
@@ -133,7 +133,7 @@ impl<T: Drop> SmallList<T> {
         self.items[at] = item;
     }
 
-    /// Keeps the items that a test accepts, in their order.
+    /// Keeps the items that a test accepts, in their order. Takes no memory. The cost is one pass over the items.
     pub fn retain<F: FnMut(&T) -> bool>(&mut self, keep: F)
         requires { F.IsAlwaysCallable keep }
         ensures { IsFiltered (CalledAt F.FnMut) keep self.old self.new }
@@ -143,7 +143,8 @@ impl<T: Drop> SmallList<T> {
 }
 
 impl<T: Copy> SmallList<T> {
-    /// Adds copies of these items at the end. If memory runs out, leaves the list unchanged.
+    /// Adds copies of these items at the end. If memory runs out, leaves the list unchanged. The cost is one pass over
+    /// the new items, and a move of the others if the list has no memory to spare.
     pub fn extend(&mut self, items: &[T]) -> Result<(), Memory>
         ensures { MatchResult result (λ _. self.new ≡ self.old ++ items.now) (λ _. self.new ≡ self.old) }
     {
@@ -153,7 +154,7 @@ impl<T: Copy> SmallList<T> {
 }
 
 impl<T: TryCopy + Drop> SmallList<T> {
-    /// An equal list, or `Memory` if memory runs out.
+    /// An equal list, or `Memory` if memory runs out. The cost is a copy of each item.
     pub fn copy(&self) -> Result<Self, Memory>
         ensures { IfOk result (λ copied. copied ≡ self.now) }
     {

@@ -13,7 +13,9 @@ use crate::rf::Rf;
 /// (NetworkTopologyStrategy).
 #[derive(Debug, Drop)]
 pub enum Replication {
+    /// SimpleStrategy, with its factor.
     Simple(Rf),
+    /// NetworkTopologyStrategy, with the factor of each datacenter that it names.
     Topology(Factors),
 }
 

@@ -54,7 +54,8 @@ fn is_last(left: &Option<Token>) -> bool
     }
 }
 
-/// The ranges between ascending cuts: one up to each cut, and one for the tokens after the last cut, if any.
+/// The ranges between ascending cuts: one up to each cut, and one for the tokens after the last cut, if any. The cost
+/// is one pass over the cuts.
 pub fn rows_between(alloc: Global, cuts: &[Token]) -> Result<Rows, Memory>
     ensures rows { IfOk result (λ rows. rows ≡ spec.rows_between cuts.now) }
     ensures tokens { OnOk result (AllByRecursion IsToken cuts.now) }

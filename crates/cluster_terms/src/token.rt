@@ -61,6 +61,8 @@ impl TryCopy for Pair {
 /// The right end of a range: a token, or the place past the greatest token.
 #[derive(Clone, Copy, Debug, PartialEq, Eq)]
 pub enum RightEnd {
+    /// This token, which is in the range.
     At(Token),
+    /// Past the greatest token, which is in the range.
     Max,
 }

@@ -73,8 +73,8 @@ impl Log {
         self.entries.get(&id)
     }
 
-    /// The entry at this epoch. Returns `None` if and only if the epoch is 0 or above the last epoch. The cost is a read
-    /// by position.
+    /// The entry at this epoch. Returns `None` if and only if the epoch is 0 or above the last epoch. The cost is a
+    /// read by position.
     pub fn entry(&self, epoch: u64) -> Option<&Entry>
         ensures entry { option_copied result ≡ entry_at self.now epoch }
         ensures entries { AreEntries self.now }

@@ -178,7 +178,8 @@ cut_low image (entry ∷ waiting) epoch after cut = by (cut_low (next_image imag
     by later true next None is =
         here (advanced (next_image image entry.cmd) waiting) (λ e. omega (arith, later e, next-epoch image entry.cmd)) (subst (λ (h : Handed). h.cut epoch ≡ Some after) (advanced_on image entry waiting next is) cut)
 
--- a call that comes to an advance from an image is cut no further back than there, and neither is one that changes nothing
+-- a call that comes to an advance from an image is cut no further back than there, and neither is one that changes
+-- nothing
 pub cut_from_advance : (epoch : ℕ) (image : Image) (waiting : List Entry) (before after : FollowerState) (result : Result Took FollowerFault) → epoch ≤ image.epoch → Performs before (advanced image waiting) result after → IsCutFrom epoch result
 cut_from_advance epoch image waiting before after (Err (MemoryAt e)) up cut = omega (arith, up, cut_low image waiting e after cut)
 cut_from_advance epoch image waiting before after (Ok t) up comes = tt

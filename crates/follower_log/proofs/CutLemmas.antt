@@ -1,4 +1,4 @@
--- Where want of memory cuts a step: between where the follower was and where the step leads it.
+-- Where memory that runs out cuts a step: between where the follower was and where the step leads it.
 use Rattle.std.proofs.Common.{nat_le, ◌≡◌, ℕ, ◌<◌, ◌≤◌, Bool, true, false, ◌==◌, if◌then◌else◌, List, [], ◌∷◌, filter, nat_lt, Option, Some, None, Result, Ok, Err, refl, sym, subst, arith}
 use Rattle.std.proofs.lemmas.Bool.Decides.{nat_tests}
 use Rattle.std.proofs.lemmas.Option.{none-some}

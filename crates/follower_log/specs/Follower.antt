@@ -29,8 +29,8 @@ by_epoch one other = nat_cmp one.epoch other.epoch
 abbrev pub empty_follower : FollowerState
 empty_follower = record { image = empty_image; waiting = [] }
 
--- what a step comes to: the follower after it, its answer, and the follower where want of memory cuts the step at an
--- epoch, at which the next entry waits
+-- what a step comes to: the follower after it, its answer, and for an epoch at which the next entry waits, the follower
+-- there, if memory that runs out can cut the step at this epoch
 pub record Handed : Type 0 where
   pub after : FollowerState
   pub answer : Result Took FollowerFault
@@ -111,21 +111,22 @@ unless_bad (Some bad) follower taken = stays follower (Err (BadImage bad))
 abbrev pub hand_image : FollowerState → Image → Handed
 hand_image follower image = unless_bad (bad_of image) follower (hand_valid follower image)
 
--- a call comes to a step: to its answer and its follower, or after want of memory to the follower where it is cut, or to
--- nothing
+-- a call comes to a step: to its answer and its follower. If memory runs out, it comes to the follower where the step
+-- is cut, or changes nothing
 abbrev pub Performs : FollowerState → Handed → Result Took FollowerFault → FollowerState → Type 0
 Performs before step (Err Memory) after = after ≡ before
 Performs before step (Err (MemoryAt epoch)) after = step.cut epoch ≡ Some after
 Performs before step result after = (result ≡ step.answer) × (after ≡ step.after)
 
--- the answers of an advance from an epoch: it comes no further back, and isn't without effect for want of memory
+-- the answers of an advance from an epoch: it comes no further back. If memory runs out, it tells where the advance is
+-- cut
 abbrev pub IsAdvance : ℕ → Result Took FollowerFault → Type 0
 IsAdvance epoch (Ok (At reached)) = epoch ≤ reached
 IsAdvance epoch (Err (Refused next refusal)) = epoch < next
 IsAdvance epoch (Err (MemoryAt reached)) = epoch ≤ reached
 IsAdvance epoch result = ⊥
 
--- want of memory in the middle comes no further back than this epoch; or past it only
+-- if memory runs out on the way, the follower is at this epoch or a later one; or at a later one
 abbrev pub IsCutFrom : ℕ → Result Took FollowerFault → Type 0
 IsCutFrom epoch (Err (MemoryAt cut)) = epoch ≤ cut
 IsCutFrom epoch result = Unit {0}

@@ -55,8 +55,8 @@ fn compared(held: &Entry, came: &Entry, epoch: u64) -> Result<Took, FollowerFaul
 }
 
 impl Follower {
-    /// The follower before it is handed anything: at epoch 0, and nothing waits. It stands for every log. `Err` means
-    /// that memory ran out.
+    /// The follower before it is handed anything: at epoch 0, and nothing waits. It stands for every log. Fails only if
+    /// memory runs out.
     pub fn empty(alloc: Global) -> Result<Follower, Memory>
         ensures empty { IfOk result (λ follower. follower ≡ empty_follower) }
         ensures stands { (log : List LogEntry) → StandsFor log nothing_taken empty_follower }
@@ -171,10 +171,10 @@ impl Follower {
     /// Hands over an image. An image above the follower's epoch replaces the follower's. The waiting entries that it
     /// contains are dropped, and then those that come to be the next are applied.
     ///
-    /// `Old` changes nothing. Errors: `BadImage` if the image isn't valid, as `Metadata::from_image` finds, which is looked
-    /// at first and changes nothing; `Refused`, `Memory` and `MemoryAt`, as for `deliver`. Handed entries of one log and
-    /// images of its states, the follower shows the state of the longest prefix without a gap after each `At`, and
-    /// `BadImage` and `Refused` don't come.
+    /// `Old` changes nothing. Errors: `BadImage` if the image isn't valid, as `Metadata::from_image` finds; this is
+    /// checked first, and changes nothing; `Refused`, `Memory` and `MemoryAt`, as for `deliver`. Handed entries of one
+    /// log and images of its states, the follower shows the state of the longest prefix without a gap after each `At`,
+    /// and `BadImage` and `Refused` don't come.
     ///
     /// Cost: that of `Metadata::from_image`, and that of `Metadata::apply` for each entry that is applied.
     pub fn snapshot(&mut self, image: Image) -> Result<Took, FollowerFault>
@@ -213,8 +213,8 @@ impl Follower {
         self.apply_waiting()
     }
 
-    /// Applies the waiting entries, one after another, as long as the first of them is the next one. After want of
-    /// memory, this goes on from where the follower is.
+    /// Applies the waiting entries, one after another, as long as the first of them is the next one. After memory ran
+    /// out, this goes on from where the follower is.
     ///
     /// Errors: `Refused` and `MemoryAt`, as for `deliver`. Cost: that of `Metadata::apply` for each entry.
     pub fn advance(&mut self) -> Result<Took, FollowerFault>

@@ -1,4 +1,4 @@
-/// What became of an entry or an image that was handed to a follower. The number is the follower's epoch after it.
+/// The result of handing an entry or an image to a follower. The number is the follower's epoch after the call.
 #[derive(Clone, Copy, Debug, PartialEq, Eq)]
 pub enum Took {
     /// It was taken. No entry of the next epoch waits.

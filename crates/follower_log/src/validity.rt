@@ -7,7 +7,7 @@ ghost use Rattle.follower_log.specs.Follower.{FollowerState, waiting_at};
 ghost use Rattle.follower_log.specs.Prefix.{IsPrefix, StandsFor, Taken};
 
 /// A follower that stands for a log shows the longest prefix without a gap if and only if no entry of the next epoch
-/// waits. Only want of memory leaves one waiting.
+/// waits. One waits only if memory ran out.
 pub fn prefix_ends_where_none_waits()
     ensures { (log : List Entry) (taken : Taken) (f : FollowerState)
         → IsLog log → StandsFor log taken f

@@ -178,7 +178,8 @@ apart_done (our ∷ ours) [] done = λ t token. refl
 apart_done (our ∷ ours) (their ∷ theirs) (inl done) = absurd (omega arith)
 apart_done (our ∷ ours) (their ∷ theirs) (inr done) = absurd (omega arith)
 
--- one turn: none is found so far and the rest is apart, exactly where none is found after the turn and what is left is apart
+-- one turn: none is found so far and the rest is apart, exactly where none is found after the turn and what is left is
+-- apart
 pub apart_turn : (first end : Option RightEnd) (our their : RangeRow) (ours theirs : List RangeRow)
     → (IsNone end ↔ ((t : ℤ) → IsToken t → (have_token our.ranges t && have_token their.ranges t) ≡ false))
     → (IsNone (first_end first end) × ShareNoToken ours theirs) ↔ (IsNone first × ShareNoToken (our ∷ ours) (their ∷ theirs))

@@ -10,7 +10,11 @@ use crate::first_end::first_shared;
 use cluster_terms::{NodeId, RightEnd, Token};
 use token_ring::{LockRow, RangeRow};
 
-/// The first movement of `wide` that shares a row with `ours`, and the right end of the first such row.
+/// The first movement of `wide` that shares a row between ascending cuts with `ours`, under one replication, and the
+/// right end of the first such row. The bounds of all ranges are cuts. Returns `None` if and only if no token is in
+/// `ours` and in a row of `wide`.
+///
+/// The cost is that of `first_shared` for each row of `wide`, up to the one that is found. Takes no memory.
 pub fn first_conflict(
     ours: &[RangeRow],
     wide: &[LockRow],

@@ -39,7 +39,8 @@ fn first_end(one: Option<RightEnd>, end: Option<RightEnd>) -> Option<RightEnd>
 /// The right end of the first row between ascending cuts that is in the ranges of both movements under one replication.
 /// The bounds of all ranges are cuts. Returns `None` if and only if no token is in both under one replication.
 ///
-/// For r replications and c cuts, the cost is at most 2·r·(c + 1) binary searches.
+/// The cost is one pass over the ranges of both under each replication. If they share a token, then for r replications
+/// and c cuts, the cost is also at most 2·r·(c + 1) binary searches.
 pub fn first_shared(ours: &[RangeRow], theirs: &[RangeRow], cuts: &[Token]) -> Option<RightEnd>
     requires ascending { IsStrictlySortedBy int_cmp cuts.now }
     requires ours { AllByRecursion (λ r. AreCutOut cuts.now r.ranges) ours.now }

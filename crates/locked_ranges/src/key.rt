@@ -5,8 +5,9 @@ use std::marker::Model;
 
 /// The key to a node's lock. Contracts see it as the node.
 ///
-/// The key must be spent, by `LockTable::unlock`. Code doesn't compile if it drops a key or uses a key twice. CEP-21 locks
-/// the ranges of a movement until it ends. The key, by a rule of this project, is what a movement holds meanwhile.
+/// The key must be spent, by `LockTable::unlock`. Code doesn't compile if it drops a key or uses a key twice. CEP-21
+/// locks the ranges of a movement until it ends. The key, by a rule of this project, is what a movement holds
+/// meanwhile.
 pub struct LockKey {
     node: NodeId,
 }

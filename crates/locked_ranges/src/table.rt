@@ -37,7 +37,7 @@ impl Model for LockTable {
 }
 
 impl LockTable {
-    /// The table of no movement. Allocates nothing.
+    /// The table of no movement. Takes no memory.
     pub fn empty(alloc: Global) -> LockTable
         ensures { result ≡ [] }
     {
@@ -63,13 +63,15 @@ impl LockTable {
     }
 
     /// The first movement of `wide`, in the order of its rows, that shares a row between cuts with `ranges` under one
-    /// replication, and the right end of the first such row. Returns `None` if and only if `ranges` shares no token with
-    /// any movement of `wide`. Then it shares none with this table, so `lock` may follow.
+    /// replication, and the right end of the first such row. Returns `None` if and only if `ranges` shares no token
+    /// with any movement of `wide`. Then it shares none with this table, so `lock` may follow.
     ///
-    /// `wide` has the ranges of the same movements in the image with the new movement. It has a row for each node of this
-    /// table, and the row's ranges contain those of the table. The cuts ascend. The bounds of `ranges` and `wide` are cuts.
+    /// `wide` has the ranges of the same movements in the image with the new movement. It has a row for each node of
+    /// this table, and the row's ranges contain those of the table. The cuts ascend. The bounds of `ranges` and `wide`
+    /// are cuts.
     ///
-    /// For k movements, r replications and c cuts, the cost is at most 2·k·r·(c + 1) binary searches. Allocates nothing.
+    /// The cost is one pass over the ranges of both for each movement and replication and, for r replications and c
+    /// cuts, at most 2·r·(c + 1) binary searches for the movement found. Takes no memory.
     pub fn conflict(
         &self,
         ranges: &RangeBook,
@@ -91,7 +93,8 @@ impl LockTable {
 
     /// Whether no token is both in `ranges` and in a row of the table, under one replication. Then `lock` may follow.
     ///
-    /// The cuts ascend. The bounds of `ranges` and of the rows are cuts. The cost is that of `conflict`. Allocates nothing.
+    /// The cuts ascend. The bounds of `ranges` and of the rows are cuts. The cost is that of `conflict`. Allocates
+    /// nothing.
     pub fn is_free(&self, ranges: &RangeBook, cuts: &[Token]) -> bool
         requires ascending { IsStrictlySortedBy int_cmp cuts.now }
         requires own_cut { AllByRecursion (λ r. AreCutOut cuts.now r.ranges) ranges.now }
@@ -122,9 +125,9 @@ impl LockTable {
         }
     }
 
-    /// Locks the ranges of a movement as `lock` does, and puts the new row at position `at`, which is at most the length. If
-    /// the table has no memory to spare, its rows move into the room, which has room for one row more than the table has.
-    /// Takes no memory.
+    /// Locks the ranges of a movement as `lock` does, and puts the new row at position `at`, which is at most the
+    /// length. If the table has no memory to spare, its rows move into the room, which has room for one row more than
+    /// the table has. Takes no memory.
     pub fn lock_in(
         &mut self,
         at: usize,
@@ -143,8 +146,8 @@ impl LockTable {
         LockKey::of(node)
     }
 
-    /// Spends a key and unlocks the ranges of its movement, which has a row. Always succeeds, and takes no memory. The cost
-    /// is one pass over the rows.
+    /// Spends a key and unlocks the ranges of its movement, which has a row. Always succeeds, and takes no memory. The
+    /// cost is one pass over the rows.
     pub fn unlock(&mut self, key: LockKey)
         requires { has_row self.old key ≡ true }
         ensures { self.new ≡ other_locks self.old key }

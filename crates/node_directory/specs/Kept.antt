@@ -1,4 +1,5 @@
 -- How a directory stores its rows: under their names, in order of id.
+-- Of the code: no promise rests on these.
 use Rattle.std.specs.Prelude.{◌≡◌, ℕ, ◌<◌, List, length, map, HoldsAt, Option, None, MatchOption, string_bytes, slice_get, IsTrue}
 use Rattle.std.specs.Map.{keys_of, values_of}
 use Rattle.std.specs.declared.string.String.{String}

@@ -1,5 +1,4 @@
--- The group that members stand for.
--- Of the code: no promise rests on these.
+-- The group that members stand for, which the contracts of `Members`, `Tally` and `shape_of` cite.
 use Rattle.cluster_terms.specs.Group.{Group}
 use Rattle.cluster_terms.specs.Replication.{whole_group, datacenter_group}
 use Rattle.node_directory.specs.declared.members.Members.{Members}

@@ -1,5 +1,4 @@
--- The shape of a group in a ring.
--- Of the code: no promise rests on these.
+-- The shape of a group in a ring, which the contract of `shape_of` cites.
 use Rattle.std.specs.Prelude.{ℕ, List}
 use Rattle.cluster_terms.specs.Group.{Group, wanted, spare}
 use Rattle.node_directory.specs.declared.shape.Shape.{Shape}

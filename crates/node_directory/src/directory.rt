@@ -4,9 +4,10 @@ ghost use Rattle.cluster_terms.specs.NodeRow.{row_of};
 ghost use Rattle.cluster_terms.specs.Replication.{rack_within};
 ghost use Rattle.node_directory.specs.Directory.{is_directory, node_named, place_in, registered, other_rows, marked_left};
 ghost use Rattle.node_directory.specs.Kept.{IsPlace, IsPlaceOf};
+ghost use Rattle.node_directory.specs.Room.{IsRoomFor};
 
 use crate::kept::{by_name, ids_ascend, push_copy};
-use crate::room::DirectoryRoom;
+use crate::room::{DirectoryRoom, reserve_at};
 use cluster_terms::{Memory, Name, NodeId, NodeRow, TryCopy};
 use indexmap::IndexMap;
 use std::alloc::Global;
@@ -16,6 +17,9 @@ use std::marker::Model;
 ///
 /// No two nodes have the same name, including nodes that left. The next id is above all ids and never decreases, so no
 /// id is used again.
+///
+/// A directory always has memory for one more node, and for the nodes after it up to the next id that is a multiple of
+/// 64.
 #[derive(Debug, Drop)]
 pub struct Directory {
     /// The rows by name, in order of id.
@@ -24,20 +28,24 @@ pub struct Directory {
 }
 
 impl Model for Directory {
+    ghost use Rattle.std.specs.Prelude.{◌≤◌};
     ghost use Rattle.std.specs.Map.{values_of};
+    ghost use Rattle.indexmap.specs.IndexMap.{spare};
     ghost use Rattle.node_directory.specs.Directory.{Registry};
     ghost use Rattle.node_directory.specs.Kept.{IsKept};
+    ghost use Rattle.node_directory.specs.Room.{reserve_at};
 
     ghost Value = { Registry };
 
     ghost view = { λ d. record { rows = values_of d.nodes.entries; next = d.next } };
 
-    ghost invariant = { λ d. IsKept d.nodes.entries d.next };
+    ghost invariant = { λ d. IsKept d.nodes.entries d.next × (reserve_at d.next ≤ spare d.nodes) };
 }
 
 impl Directory {
     /// The directory with these rows, where `next` is the id of the next node. Returns `None` unless the ids ascend,
-    /// begin at 1 or more and are below `next`, and no name comes twice. Without rows, `next` may be any number.
+    /// begin at 1 or more and are below `next`, and no name comes twice. Without rows, `next` may be any number. The
+    /// cost is a copy and an insertion by hash for each row.
     pub fn from_rows(
         alloc: Global,
         rows: &[NodeRow],
@@ -50,14 +58,14 @@ impl Directory {
         if !ids_ascend(rows, next) {
             return Ok(None);
         }
-        match by_name(alloc, rows)? {
+        match by_name(alloc, rows, reserve_at(next))? {
             Some(nodes) => Ok(Some(Directory { nodes, next })),
             None => Ok(None),
         }
     }
 
     /// The directory with these rows, where `next` is the id of the next node. The ids ascend, begin at 1 or more and
-    /// are below `next`, and no name comes twice.
+    /// are below `next`, and no name comes twice. The cost is that of `from_rows`.
     pub fn from_valid(alloc: Global, rows: &[NodeRow], next: u32) -> Result<Directory, Memory>
         requires { IsTrue (is_directory 1 rows.now next) }
         ensures { IfOk result (λ d. d ≡ record { rows = rows.now; next = next }) }
@@ -84,48 +92,25 @@ impl Directory {
         ensures unchanged { OnErr result (self.new ≡ self.old) }
         ensures handed_back { IfErr result (λ e. (e.0 ≡ name) × (e.1 ≡ dc) × (e.2 ≡ rack)) }
     {
-        let key = match String::from_str(*self.nodes.allocator(), name.as_str()) {
-            Ok(key) => key,
+        let (alloc, count) = (*self.nodes.allocator(), self.nodes.len());
+        let room = match DirectoryRoom::for_node(alloc, &name, self.next, count) {
+            Ok(room) => room,
             Err(_) => return Err((name, dc, rack, Memory)),
         };
-        let id = NodeId(self.next);
-        let row = NodeRow {
-            id,
-            name,
-            dc,
-            rack,
-            left: false,
-        };
-        match self.nodes.insert(key, row) {
-            Ok(_) => {
-                self.next += 1;
-                Ok(id)
-            }
-            Err(failed) => {
-                let (_key, row) = failed.value;
-                let NodeRow {
-                    id: _,
-                    name,
-                    dc,
-                    rack,
-                    left: _,
-                } = row;
-                Err((name, dc, rack, Memory))
-            }
-        }
+        Ok(self.register_in(name, dc, rack, room))
     }
 
-    /// Registers a node as `register` does, with the memory of a room for this name and for more nodes than are
-    /// registered. Takes no memory. If the directory has no memory to spare, its rows move into the room.
+    /// Registers a node as `register` does, with the memory of a room for this directory and this name. Takes no
+    /// memory. If the directory has too little memory to spare, its rows move into the room. The cost is an insertion
+    /// by hash, and that move.
     pub fn register_in(&mut self, name: Name, dc: Name, rack: Name, room: DirectoryRoom) -> NodeId
         requires free { node_named self.old.rows name ≡ None }
         requires ids { self.old.next < u32.MAX }
-        requires name { room.name ≡ name }
-        requires room { length self.old.rows < room.count }
+        requires room { IsRoomFor (length self.old.rows) self.old.next name room }
         ensures id { result ≡ self.old.next }
         ensures registry { self.new ≡ registered self.old name dc rack }
     {
-        let key = room.give(&mut self.nodes);
+        let key = room.give(&mut self.nodes, reserve_at(self.next + 1));
         let id = NodeId(self.next);
         let row = NodeRow {
             id,
@@ -215,7 +200,8 @@ impl Directory {
         self.nodes.is_empty()
     }
 
-    /// The row at a position in order of registration. Returns `None` if and only if the position is past the end.
+    /// The row at a position, from 0, in order of registration. Returns `None` if and only if the position is past the
+    /// end. The cost is a read by position.
     pub fn row(&self, at: usize) -> Option<&NodeRow>
         ensures { option_copied result ≡ slice_get self.now.rows at }
     {
@@ -258,7 +244,8 @@ impl Directory {
 
 impl TryCopy for Directory {
     fn copy(&self) -> Result<Directory, Memory> {
-        let mut nodes = IndexMap::with_capacity(*self.nodes.allocator(), self.nodes.len())?;
+        let count = self.nodes.len() + reserve_at(self.next);
+        let mut nodes = IndexMap::with_capacity(*self.nodes.allocator(), count)?;
         for row in self.nodes.values() {
             push_copy(&mut nodes, row)?;
         }

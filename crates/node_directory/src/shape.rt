@@ -45,9 +45,9 @@ fn tally_of<'a>(alloc: Global, members: &Members<'a>, pairs: &[Pair]) -> Result<
 
 /// The shape of a group in a ring of these pairs.
 ///
-/// Costs one pass over the pairs. The pass ends once it has met as many nodes and, in a datacenter, as many racks of the
-/// group as there are to be replicas. A pair costs a look at no more nodes and racks than that, and in a datacenter a
-/// look-up in the directory.
+/// Costs one pass over the pairs. The pass ends once it has met as many nodes and, in a datacenter, as many racks of
+/// the group as there are to be replicas. A pair costs a look at no more nodes and racks than that, and in a datacenter
+/// a look-up in the directory.
 pub fn shape_of(alloc: Global, members: &Members, pairs: &[Pair]) -> Result<Shape, Memory>
     ensures { IfOk result (λ counted. counted ≡ spec.shape_of (nodes_of pairs.now) (group_of members.now)) }
 {

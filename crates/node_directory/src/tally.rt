@@ -1,4 +1,4 @@
-ghost use Rattle.std.specs.Prelude.{◌≡◌, length, nat_eq, IfOk, OnOk};
+ghost use Rattle.std.specs.Prelude.{◌≡◌, length, nat_eq, IfOk, MatchResult};
 ghost use Rattle.std.specs.List.{list_any};
 ghost use Rattle.std.specs.Set.{is_member};
 ghost use Rattle.std.specs.Str.{bytes_eq};
@@ -53,9 +53,10 @@ pub fn has_rack(racks: &[&[u8]], rack: &[u8]) -> bool
     is_one_of(rack, racks)
 }
 
-/// Adds a node if it is new and the list has fewer than `most` nodes.
+/// Adds a node if it is new and the list has fewer than `most` nodes. If memory runs out, the list is unchanged.
 fn add_node(nodes: &mut Vec<NodeId>, most: usize, node: NodeId) -> Result<(), Memory>
-    ensures { OnOk result (nodes.new.items ≡ spec.with_new nat_eq most node nodes.old.items) }
+    ensures { MatchResult result (λ _. nodes.new.items ≡ spec.with_new nat_eq most node nodes.old.items)
+        (λ _. nodes.new.items ≡ nodes.old.items) }
 {
     if nodes.len() < most && !has_node(nodes, node) {
         nodes.push(node)?;
@@ -63,10 +64,11 @@ fn add_node(nodes: &mut Vec<NodeId>, most: usize, node: NodeId) -> Result<(), Me
     Ok(())
 }
 
-/// Adds a rack if it is new and the list has fewer than `most` racks.
+/// Adds a rack if it is new and the list has fewer than `most` racks. If memory runs out, the list is unchanged.
 fn add_rack<'a>(racks: &mut Vec<&'a [u8]>, most: usize, rack: &'a [u8]) -> Result<(), Memory>
-    ensures { OnOk result (spec.racks_in racks.new.items
-        ≡ spec.with_new bytes_eq most rack.now (spec.racks_in racks.old.items)) }
+    ensures { MatchResult result
+        (λ _. spec.racks_in racks.new.items ≡ spec.with_new bytes_eq most rack.now (spec.racks_in racks.old.items))
+        (λ _. racks.new.items ≡ racks.old.items) }
 {
     if racks.len() < most && !has_rack(racks, rack) {
         racks.push(rack)?;
@@ -124,13 +126,18 @@ impl<'a> Tally<'a> {
     }
 
     /// Meets a node. If the node is in the group, adds the node and its rack, each if it is new and still asked for. If
-    /// memory runs out, the tally may have changed.
+    /// memory runs out, the tally is unchanged.
     pub fn meet(&mut self, members: &Members<'a>, node: NodeId) -> Result<(), Memory>
-        ensures { OnOk result (self.new ≡ spec.met (group_of members.now) node self.old) }
+        ensures { MatchResult result (λ _. self.new ≡ spec.met (group_of members.now) node self.old)
+            (λ _. self.new ≡ self.old) }
     {
         if let Some(rack) = members.rack_of(node) {
+            let before = self.nodes.len();
             add_node(&mut self.nodes, self.most_nodes, node)?;
-            add_rack(&mut self.racks, self.most_racks, rack)?;
+            if let Err(memory) = add_rack(&mut self.racks, self.most_racks, rack) {
+                self.nodes.truncate(before);
+                return Err(memory);
+            }
         }
         Ok(())
     }

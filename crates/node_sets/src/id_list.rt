@@ -56,7 +56,7 @@ impl IdList {
         })
     }
 
-    /// What the list takes memory from.
+    /// The allocator of the list.
     pub(crate) fn allocator(&self) -> Global {
         self.alloc
     }

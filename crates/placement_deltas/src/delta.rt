@@ -41,7 +41,7 @@ fn count_before(rows: &[DeltaRow], t: Token) -> usize
     rows.partition_point(|row| row.last_token().value() < number)
 }
 
-/// Whether the row at an index is the first one that ends at or after a token.
+/// Whether the row at a position is the first one that ends at or after a token.
 fn is_row_of(rows: &[DeltaRow], at: usize, t: Token) -> bool
     requires { IsDelta rows.now }
     ensures bound { IsTrue result → at < length rows.now }
@@ -90,7 +90,7 @@ fn exchanged(row: &DeltaRow) -> Result<DeltaRow, Memory>
 
 impl Delta {
     /// The nodes gained and lost at each token between two lists of node sets. Each list has a set for each row between
-    /// the cuts. `Err` means that memory ran out. The cost is one pass over the rows and the sets.
+    /// the cuts. Fails only if memory runs out. The cost is one pass over the rows and the sets.
     pub fn between(
         alloc: Global,
         cuts: &[Token],
@@ -127,9 +127,9 @@ impl Delta {
 
     /// The nodes gained and the nodes lost at a token, as `at` gives them. Takes no memory.
     ///
-    /// `near` may be any index, and becomes that of the token's row. If it was this index or the one before, only these
-    /// rows are looked at, so for ascending tokens that miss no row a look-up costs a few comparisons. Otherwise the
-    /// cost is a binary search.
+    /// `near` may be any position, and becomes that of the token's row. If it was this position or the one before, only
+    /// these rows are looked at, so for ascending tokens that miss no row a look-up costs a few comparisons. Otherwise
+    /// the cost is a binary search.
     pub fn at_near(&self, t: Token, near: &mut usize) -> (&NodeSet, &NodeSet)
         ensures { (result.0.now, result.1.now) ≡ delta_at self.now t }
     {
@@ -140,7 +140,8 @@ impl Delta {
         (&row.gained, &row.lost)
     }
 
-    /// The delta with the nodes gained and the nodes lost exchanged. `Err` means that memory ran out.
+    /// The delta with the nodes gained and the nodes lost exchanged. Fails only if memory runs out. The cost is a
+    /// copy of the rows.
     pub fn inverse(&self) -> Result<Delta, Memory>
         ensures { IfOk result (λ delta. delta ≡ inverse_of self.now) }
     {

@@ -34,7 +34,7 @@ fn count_pending(reads: &NodeSet, writes: &NodeSet) -> usize
 ///
 /// If each node that is read is written, there are enough nodes to write if and only if there are enough to read.
 ///
-/// Allocates no memory. Cost: a binary search for each node that is written.
+/// Takes no memory. Cost: a binary search for each node that is written.
 #[tactic(auto, using(crate::proofs::PendingLemmas::few_pending))]
 pub fn quorum(reads: &NodeSet, writes: &NodeSet, replication: &Replication) -> Quorum
     requires { length writes.now ≤ 1024 }
@@ -98,7 +98,7 @@ fn factor_of(factors: &Factors, dc: &Name) -> Rf
 ///
 /// If each of its nodes that is read is written, it has enough nodes to write if and only if it has enough to read.
 ///
-/// Allocates no memory. Cost: a look-up of the row and a binary search for each node that is written.
+/// Takes no memory. Cost: a look-up of the row and a binary search for each node that is written.
 #[tactic(auto, using(crate::proofs::PendingLemmas::few_kept))]
 pub fn local_quorum(
     reads: &NodeSet,

@@ -32,7 +32,7 @@ fn ids_within(
     Ok(nodes)
 }
 
-/// The nodes of a set that are registered in a datacenter. `Err` means that memory ran out.
+/// The nodes of a set that are registered in a datacenter. Fails only if memory runs out.
 ///
 /// Cost: a look-up of the row of each node of the set, and about n log n for the n nodes that are found.
 pub fn within(alloc: Global, dir: &Directory, dc: &Name, nodes: &NodeSet) -> Result<NodeSet, Memory>

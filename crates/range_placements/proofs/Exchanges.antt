@@ -25,20 +25,20 @@ pub exchanged_last : (changes : List RowChange) (c : RowChange) (rows : List Pla
 exchanged_last [] c rows = refl
 exchanged_last (d ∷ changes) c rows = ap (with_sets d.at (d.reads, d.writes)) (exchanged_last changes c rows)
 
--- the row at an index
+-- the row at a position
 pub sets_at : (p : List ℕ × List ℕ) (done : List PlacementRow) (row : PlacementRow) (rest : List PlacementRow)
     → with_sets (length done) p (done ++ row ∷ rest) ≡ done ++ (record { right = row.right; reads = p.0; writes = p.1 }) ∷ rest
 sets_at p [] row rest = refl
 sets_at p (first ∷ done) row rest = ap (λ l. first ∷ l) (sets_at p done row rest)
 
--- the row that is stored at an index
+-- the row that is stored at a position
 pub sets_stored : (p : List ℕ × List ℕ) (rows : List PlacementRow) (n : ℕ) (row : PlacementRow) → n < length rows → row ≡ get_or rows n row
     → slice_set rows n (record { right = row.right; reads = p.0; writes = p.1 }) ≡ with_sets n p rows
 sets_stored p [] n row within is = absurd (omega arith)
 sets_stored p (first ∷ rows) zero row within is = ap (λ (r : PlacementRow). record { right = r.right; reads = p.0; writes = p.1 } ∷ rows) is
 sets_stored p (first ∷ rows) (suc n) row within is = ap (λ l. first ∷ l) (sets_stored p rows n row (omega arith) is)
 
--- an index past the last row
+-- a position past the last row
 pub sets_past : (p : List ℕ × List ℕ) (rows : List PlacementRow) (n : ℕ) → length rows ≤ n → with_sets n p rows ≡ rows
 sets_past p [] n past = refl
 sets_past p (row ∷ rows) zero past = absurd (omega arith)

@@ -1,3 +1,4 @@
+pub mod EditedRows
 pub mod Exchanges
 mod Halving
 pub mod MapChanges

@@ -1,10 +1,10 @@
 -- The rows of a map after an exchange of sets.
--- Of the code: no promise rests on these.
+-- The contract of `PlacementMap::exchange` cites `exchanged`.
 use Rattle.std.specs.Prelude.{ℕ, zero, suc, List, [], ◌∷◌}
 use Rattle.range_placements.specs.declared.placement_row.PlacementRow.{PlacementRow}
 use Rattle.range_placements.specs.declared.row_changes.RowChange.{RowChange}
 
--- the rows with these reads and writes at an index
+-- the rows with these reads and writes at a position
 abbrev pub with_sets : ℕ → List ℕ × List ℕ → List PlacementRow → List PlacementRow
 with_sets n placement [] = []
 with_sets zero placement (row ∷ rows) = record { right = row.right; reads = placement.0; writes = placement.1 } ∷ rows

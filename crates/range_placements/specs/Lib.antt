@@ -1,3 +1,4 @@
 pub mod Changing
+pub mod Editing
 pub mod Exchanging
 pub mod Placements

@@ -4,8 +4,10 @@
 pub mod placement_map;
 pub mod placement_row;
 pub mod row_changes;
+pub mod row_edits;
 pub mod validity;
 
 pub use placement_map::PlacementMap;
 pub use placement_row::{PlacementRow, PlacementRows, with_change};
 pub use row_changes::{RowChange, RowChanges};
+pub use row_edits::{RowEdit, RowEdits};

@@ -1,15 +1,18 @@
-ghost use Rattle.std.specs.Prelude.{◌≡◌, ℤ, ◌≤ℤ◌, int_lt, true, false, not, ◌+◌, ◌*◌, ◌-◌, ◌^◌, ◌<◌, ◌≤◌, length, filter, IfOk, IsTrue, MatchResult};
+ghost use Rattle.std.specs.Prelude.{◌≡◌, ℤ, ◌≤ℤ◌, int_lt, true, false, not, ◌+◌, ◌*◌, ◌-◌, ◌^◌, ◌<◌, ◌≤◌, length, get_or, filter, IfOk, IsTrue, MatchResult};
 ghost use Rattle.std.specs.List.Sorted.{IsPartitionPoint};
 ghost use Rattle.std.specs.Ordering.{int_cmp, int_eq};
 ghost use Rattle.cluster_terms.specs.Arc.{IsToken, greatest_token};
 ghost use Rattle.cluster_terms.specs.Ascending.{put};
 ghost use Rattle.cluster_terms.specs.Row.{last_token};
 ghost use Rattle.placement_deltas.specs.Deltas.{EndAtCuts, delta_at};
+ghost use Rattle.range_placements.specs.Editing.{edited};
 ghost use Rattle.range_placements.specs.Exchanging.{exchanged};
 ghost use Rattle.range_placements.specs.Placements.{HasSameSides, IsPlacementMap, cuts_of, is_cut_of, merged_rows, map_at, reads_changed, right_ends, split_rows, writes_changed};
+ghost use Rattle.range_placements.specs.declared.placement_row.PlacementRow.{PlacementRow as AnyRow};
 
 use crate::placement_row::{PlacementRow, PlacementRows};
 use crate::row_changes::RowChanges;
+use crate::row_edits::RowEdits;
 use cluster_terms::{Memory, RightEnd, Steps, Token, TryCopy};
 use node_sets::NodeSet;
 use placement_deltas::Delta;
@@ -79,7 +82,7 @@ fn find<L: Ledger>(rows: &[PlacementRow], t: Token, steps: &mut Steps<L>) -> usi
     low
 }
 
-/// Whether the row at an index is the first one that ends at or after a token.
+/// Whether the row at a position is the first one that ends at or after a token.
 fn is_row_of(rows: &[PlacementRow], at: usize, t: Token) -> bool
     requires { IsPlacementMap rows.now }
     ensures bound { IsTrue result → at < length rows.now }
@@ -175,18 +178,27 @@ impl PlacementMap {
         (&row.reads, &row.writes)
     }
 
-    /// The reads and the writes at a token, as `at` gives them. Takes no memory.
+    /// The first row that ends at or after a token. Takes no memory.
     ///
-    /// `near` may be any index, and becomes that of the token's row. If it was this index or the one before, only these
-    /// rows are looked at, so for ascending tokens that miss no row a look-up costs a few comparisons. Otherwise the
-    /// cost is a binary search.
-    pub fn at_near(&self, t: Token, near: &mut usize) -> (&NodeSet, &NodeSet)
-        ensures { (result.0.now, result.1.now) ≡ map_at self.now t }
+    /// `near` may be any position, and becomes that of the token's row. If it was this position or the one before, only
+    /// these rows are looked at, so for ascending tokens that miss no row a look-up costs a few comparisons. Otherwise
+    /// the cost is a binary search.
+    pub fn row_near(&self, t: Token, near: &mut usize) -> &PlacementRow
+        ensures bound { near.new < length self.now }
+        ensures row { (d : AnyRow) → result.now ≡ get_or self.now near.new d }
+        ensures placement { (result.now.reads, result.now.writes) ≡ map_at self.now t }
     {
         let rows = self.rows();
         let found = count_near(rows, *near, t);
         *near = found;
-        let row = &rows[found];
+        &rows[found]
+    }
+
+    /// The reads and the writes at a token, as `at` gives them. Takes no memory. The cost is that of `row_near`.
+    pub fn at_near(&self, t: Token, near: &mut usize) -> (&NodeSet, &NodeSet)
+        ensures { (result.0.now, result.1.now) ≡ map_at self.now t }
+    {
+        let row = self.row_near(t, near);
         (&row.reads, &row.writes)
     }
 
@@ -218,7 +230,7 @@ impl PlacementMap {
     /// The map with the nodes that a delta gains added to the reads, and the nodes that it loses removed from them.
     /// Each cut of the delta is a cut of the map.
     ///
-    /// `Err` means that memory ran out. The cost is a binary search in the delta and a pass over the sets for each row.
+    /// Fails only if memory runs out. The cost is a binary search in the delta and a pass over the sets for each row.
     pub fn with_reads(&self, delta: &Delta) -> Result<PlacementMap, Memory>
         requires cuts { EndAtCuts (cuts_of self.now) delta.now }
         ensures placement { IfOk result (λ map. (x : ℤ) → IsToken x
@@ -235,7 +247,7 @@ impl PlacementMap {
     /// The map with the nodes that a delta gains added to the writes, and the nodes that it loses removed from them.
     /// Each cut of the delta is a cut of the map.
     ///
-    /// `Err` means that memory ran out. The cost is a binary search in the delta and a pass over the sets for each row.
+    /// Fails only if memory runs out. The cost is a binary search in the delta and a pass over the sets for each row.
     pub fn with_writes(&self, delta: &Delta) -> Result<PlacementMap, Memory>
         requires cuts { EndAtCuts (cuts_of self.now) delta.now }
         ensures placement { IfOk result (λ map. (x : ℤ) → IsToken x
@@ -249,7 +261,15 @@ impl PlacementMap {
         Ok(PlacementMap { rows })
     }
 
-    /// Exchanges the sets of some rows for new ones. Their ranges stay. An index past the last row changes nothing.
+    /// Keeps some rows, removes others and puts in new ones. Takes no memory: each row that stays is moved.
+    pub fn edit(&mut self, edits: RowEdits)
+        requires { IsPlacementMap (edited edits self.old) }
+        ensures { self.new ≡ edited edits self.old }
+    {
+        edits.make(&mut self.rows);
+    }
+
+    /// Exchanges the sets of some rows for new ones. Their ranges stay. A position past the last row changes nothing.
     /// Takes no memory. The cost is a move of each new set.
     pub fn exchange(&mut self, changes: RowChanges)
         ensures { self.new ≡ exchanged changes self.old }

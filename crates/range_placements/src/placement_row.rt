@@ -20,7 +20,7 @@ pub struct PlacementRow {
 /// The rows of a placement map.
 pub type PlacementRows = Vec<PlacementRow>;
 
-/// A set of nodes without the nodes that it loses, and with those that it gains. `Err` means that memory ran out.
+/// A set of nodes without the nodes that it loses, and with those that it gains. Fails only if memory runs out.
 pub fn with_change(set: &NodeSet, gained: &NodeSet, lost: &NodeSet) -> Result<NodeSet, Memory>
     ensures { IfOk result (λ other. other ≡ with_change set.now gained.now lost.now) }
 {

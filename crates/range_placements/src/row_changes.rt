@@ -1,4 +1,4 @@
-ghost use Rattle.std.specs.Prelude.{◌≡◌, [], ◌∷◌, ◌++◌, IfOk, OnOk};
+ghost use Rattle.std.specs.Prelude.{◌≡◌, [], ◌∷◌, ◌++◌, IfOk, MatchResult};
 ghost use Rattle.range_placements.specs.Exchanging as spec;
 
 use crate::placement_row::{PlacementRow, PlacementRows};
@@ -10,7 +10,7 @@ use std::marker::Model;
 /// New sets for one row of a placement map.
 #[derive(Debug, Drop)]
 pub struct RowChange {
-    /// The index of the row.
+    /// The position of the row.
     pub at: usize,
     pub reads: NodeSet,
     pub writes: NodeSet,
@@ -31,7 +31,7 @@ impl Model for RowChanges {
     ghost view = { λ changes. changes.changes.items };
 }
 
-/// Exchanges the sets of one row. An index past the last row changes nothing.
+/// Exchanges the sets of one row. A position past the last row changes nothing.
 fn exchange(rows: &mut PlacementRows, change: RowChange)
     ensures { rows.new.items ≡ spec.with_sets change.at (change.reads, change.writes) rows.old.items }
 {
@@ -55,9 +55,10 @@ impl RowChanges {
         }
     }
 
-    /// Adds a change at the end. `Err` means that memory ran out.
+    /// Adds a change at the end. Fails only if memory runs out; then the list is unchanged, and the change is
+    /// dropped.
     pub fn push(&mut self, change: RowChange) -> Result<(), Memory>
-        ensures { OnOk result (self.new ≡ self.old ++ change ∷ []) }
+        ensures { MatchResult result (λ _. self.new ≡ self.old ++ change ∷ []) (λ _. self.new ≡ self.old) }
     {
         self.changes.push(change)?;
         Ok(())

@@ -35,7 +35,10 @@ fn tokens_of(alloc: Global, members: &Members, pairs: &[Pair]) -> Result<TokenSe
 }
 
 impl<'a> Change<'a> {
-    /// The windows of the tokens that the change reaches in a group.
+    /// The windows of the tokens that the change reaches in a group. Their bounds are tokens of fixed or moved pairs.
+    ///
+    /// The cost is a look-up for each moved pair. If a moved pair has a node of the group, the cost is also that of
+    /// `common_shape` and of `Walk::windows`.
     pub fn windows(&self, alloc: Global, members: &Members<'a>) -> Result<Windows, Memory>
         ensures reach { IfOk result (λ windows. (x : ℤ)
             → have windows x ≡ reaches_in self.now (group_of members.now) x) }

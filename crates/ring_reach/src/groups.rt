@@ -31,7 +31,8 @@ fn windows_in_datacenters<'a>(
     Ok(groups)
 }
 
-/// The windows of the tokens that a change reaches in each group of a replication.
+/// The windows of the tokens that a change reaches in each group of a replication. The cost is that of
+/// `Change::windows` for each group.
 pub fn windows_in_groups<'a>(
     alloc: Global,
     change: &Change<'a>,

@@ -7,7 +7,7 @@ use node_directory::{Members, Shape, shape_of};
 use std::alloc::Global;
 
 /// The shape of a group, if it is the same in a ring of the fixed pairs and in the widest set of pairs. Returns `None`
-/// if and only if the two shapes differ.
+/// if and only if the two shapes differ. The cost is that of `node_directory::shape_of`, twice.
 pub fn common_shape(
     alloc: Global,
     members: &Members,

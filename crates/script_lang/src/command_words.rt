@@ -23,7 +23,7 @@ pub fn command_of(alloc: Global, words: &[&[u8]]) -> Result<Option<Command>, Mem
     }
 }
 
-// The command with this first word and these further words.
+/// The command with this first word and these further words.
 #[tactic(auto, unfolding(crate::specs::Grammar::command_named))]
 fn command_named(alloc: Global, word: &[u8], words: &[&[u8]]) -> Result<Option<Command>, Memory>
     ensures { IfOk result (λ found. found ≡ spec.command_named word.now (map (λ word. word.now) words.now)) }
@@ -40,7 +40,7 @@ fn command_named(alloc: Global, word: &[u8], words: &[&[u8]]) -> Result<Option<C
     }
 }
 
-// NAME DC RACK
+/// The command `register` of the words `NAME DC RACK`. Returns `None` for other words.
 #[tactic(auto, unfolding(crate::specs::Grammar::register_command))]
 fn register_command(alloc: Global, words: &[&[u8]]) -> Result<Option<Command>, Memory>
     ensures { IfOk result (λ found. found ≡ spec.register_command (map (λ word. word.now) words.now)) }
@@ -60,7 +60,7 @@ fn register_command(alloc: Global, words: &[&[u8]]) -> Result<Option<Command>, M
     Ok(Some(Command::Register { name, dc, rack }))
 }
 
-// NODE TOKEN ..
+/// The node and the tokens of the words `NODE TOKEN ..`. Returns `None` for other words.
 #[tactic(auto, unfolding(crate::specs::Grammar::node_and_tokens))]
 fn node_and_tokens(alloc: Global, words: &[&[u8]]) -> Result<Option<(NodeId, TokenList)>, Memory>
     ensures { IfOk result (λ found. found ≡ spec.node_and_tokens (map (λ word. word.now) words.now)) }
@@ -75,6 +75,7 @@ fn node_and_tokens(alloc: Global, words: &[&[u8]]) -> Result<Option<(NodeId, Tok
     Ok(tokens.map(|tokens| (node, tokens)))
 }
 
+/// The command `unsafe-join` of the words `NODE TOKEN ..`. Returns `None` for other words.
 #[tactic(auto, unfolding(crate::specs::Grammar::unsafe_join_command))]
 fn unsafe_join_command(alloc: Global, words: &[&[u8]]) -> Result<Option<Command>, Memory>
     ensures { IfOk result (λ found. found ≡ spec.unsafe_join_command (map (λ word. word.now) words.now)) }
@@ -83,6 +84,7 @@ fn unsafe_join_command(alloc: Global, words: &[&[u8]]) -> Result<Option<Command>
     Ok(found.map(|(node, tokens)| Command::UnsafeJoin { node, tokens }))
 }
 
+/// The command `prepare-join` of the words `NODE TOKEN ..`. Returns `None` for other words.
 #[tactic(auto, unfolding(crate::specs::Grammar::prepare_join_command))]
 fn prepare_join_command(alloc: Global, words: &[&[u8]]) -> Result<Option<Command>, Memory>
     ensures { IfOk result (λ found. found ≡ spec.prepare_join_command (map (λ word. word.now) words.now)) }
@@ -91,7 +93,7 @@ fn prepare_join_command(alloc: Global, words: &[&[u8]]) -> Result<Option<Command
     Ok(found.map(|(node, tokens)| Command::PrepareJoin { node, tokens }))
 }
 
-// NODE TOKEN
+/// The command `prepare-move` of the words `NODE TOKEN`. Returns `None` for other words.
 #[tactic(auto, unfolding(crate::specs::Grammar::prepare_move_command))]
 fn prepare_move_command(words: &[&[u8]]) -> Option<Command>
     ensures { result ≡ spec.prepare_move_command (map (λ word. word.now) words.now) }
@@ -104,7 +106,7 @@ fn prepare_move_command(words: &[&[u8]]) -> Option<Command>
     Some(Command::PrepareMove { node, token })
 }
 
-// NODE GONE
+/// The command `prepare-replace` of the words `NODE GONE`. Returns `None` for other words.
 #[tactic(auto, unfolding(crate::specs::Grammar::prepare_replace_command))]
 fn prepare_replace_command(words: &[&[u8]]) -> Option<Command>
     ensures { result ≡ spec.prepare_replace_command (map (λ word. word.now) words.now) }
@@ -117,7 +119,7 @@ fn prepare_replace_command(words: &[&[u8]]) -> Option<Command>
     Some(Command::PrepareReplace { node, gone })
 }
 
-// NAME REPLICATION
+/// The command `keyspace` of the words `NAME REPLICATION`. Returns `None` for other words.
 #[tactic(auto, unfolding(crate::specs::Grammar::keyspace_command))]
 fn keyspace_command(alloc: Global, words: &[&[u8]]) -> Result<Option<Command>, Memory>
     ensures { IfOk result (λ found. found ≡ spec.keyspace_command (map (λ word. word.now) words.now)) }
@@ -134,7 +136,7 @@ fn keyspace_command(alloc: Global, words: &[&[u8]]) -> Result<Option<Command>, M
     Ok(Some(Command::Keyspace { name, replication }))
 }
 
-// NAME
+/// The command `drop-keyspace` of the word `NAME`. Returns `None` for other words.
 #[tactic(auto, unfolding(crate::specs::Grammar::drop_keyspace_command))]
 fn drop_keyspace_command(alloc: Global, words: &[&[u8]]) -> Result<Option<Command>, Memory>
     ensures { IfOk result (λ found. found ≡ spec.drop_keyspace_command (map (λ word. word.now) words.now)) }
@@ -148,14 +150,14 @@ fn drop_keyspace_command(alloc: Global, words: &[&[u8]]) -> Result<Option<Comman
     Ok(Some(Command::DropKeyspace { name }))
 }
 
-// A step of the movement of a node.
+/// A step of the movement of a node.
 fn step(goal: Goal, kind: Kind, node: NodeId) -> Option<Command>
     ensures { result ≡ Some (Step goal kind node) }
 {
     Some(Command::Step { goal, kind, node })
 }
 
-// The command with this word and this node, if its only argument is a node.
+/// The command with this word and this node, if its only argument is a node.
 fn command_on(word: &[u8], node: NodeId) -> Option<Command>
     ensures { result ≡ spec.command_on word.now node }
 {
@@ -179,7 +181,8 @@ fn command_on(word: &[u8], node: NodeId) -> Option<Command>
     }
 }
 
-// NODE, after the word of a command whose only argument is a node
+/// The command with this first word and the word `NODE`, if its only argument is a node. Returns `None` for other
+/// words.
 #[tactic(auto, unfolding(crate::specs::Grammar::node_only_command))]
 fn node_only_command(word: &[u8], words: &[&[u8]]) -> Option<Command>
     ensures { result ≡ spec.node_only_command word.now (map (λ word. word.now) words.now) }

@@ -17,7 +17,8 @@ const LINE_LIMIT: usize = 16_384;
 /// Reads a line of a script; `bytes` is the line without its line feed. Returns `None` if and only if the line isn't in
 /// the grammar or has more than 16,384 bytes. A command that lists tokens has 1 to 256 of them, in ascending order.
 ///
-/// Fails only if memory runs out. A line that is too long takes no memory.
+/// Fails only if memory runs out. A line that is too long takes no memory. The cost is a few passes over the bytes, and
+/// a sort of the tokens of a command.
 #[tactic(auto, unfolding(crate::specs::Grammar::line_of))]
 pub fn parse_line(alloc: Global, bytes: &[u8]) -> Result<Option<ScriptLine>, Memory>
     ensures meaning { IfOk result (λ found. found ≡ spec.line_of bytes.now) }
@@ -31,6 +32,7 @@ pub fn parse_line(alloc: Global, bytes: &[u8]) -> Result<Option<ScriptLine>, Mem
     line_of_words(alloc, words.as_slice())
 }
 
+/// The line of these words, whose first word tells its kind. Returns `None` if and only if the words are in no form.
 #[tactic(auto, unfolding(crate::specs::Grammar::line_of_words))]
 fn line_of_words(alloc: Global, words: &[&[u8]]) -> Result<Option<ScriptLine>, Memory>
     ensures { IfOk result (λ found. found ≡ spec.line_of_words (map (λ word. word.now) words.now)) }
@@ -48,7 +50,7 @@ fn line_of_words(alloc: Global, words: &[&[u8]]) -> Result<Option<ScriptLine>, M
     }
 }
 
-// ID COMMAND
+/// The line `commit ID COMMAND`, from the words after the first. Returns `None` for other words.
 #[tactic(auto, unfolding(crate::specs::Grammar::commit_line))]
 fn commit_line(alloc: Global, words: &[&[u8]]) -> Result<Option<ScriptLine>, Memory>
     ensures { IfOk result (λ found. found ≡ spec.commit_line (map (λ word. word.now) words.now)) }
@@ -63,7 +65,7 @@ fn commit_line(alloc: Global, words: &[&[u8]]) -> Result<Option<ScriptLine>, Mem
     Ok(command.map(|command| ScriptLine::Commit(id, command)))
 }
 
-// F
+/// The line `follower F`, from the words after the first. Returns `None` for other words.
 #[tactic(auto, unfolding(crate::specs::Grammar::follower_line))]
 fn follower_line(alloc: Global, words: &[&[u8]]) -> Result<Option<ScriptLine>, Memory>
     ensures { IfOk result (λ found. found ≡ spec.follower_line (map (λ word. word.now) words.now)) }
@@ -77,7 +79,7 @@ fn follower_line(alloc: Global, words: &[&[u8]]) -> Result<Option<ScriptLine>, M
     Ok(Some(ScriptLine::Follower(name)))
 }
 
-// F E
+/// The line `deliver F E`, from the words after the first. Returns `None` for other words.
 #[tactic(auto, unfolding(crate::specs::Grammar::deliver_line))]
 fn deliver_line(alloc: Global, words: &[&[u8]]) -> Result<Option<ScriptLine>, Memory>
     ensures { IfOk result (λ found. found ≡ spec.deliver_line (map (λ word. word.now) words.now)) }
@@ -92,7 +94,7 @@ fn deliver_line(alloc: Global, words: &[&[u8]]) -> Result<Option<ScriptLine>, Me
     Ok(name.map(|name| ScriptLine::Deliver(name, epoch)))
 }
 
-// F E
+/// The line `snapshot F E`, from the words after the first. Returns `None` for other words.
 #[tactic(auto, unfolding(crate::specs::Grammar::snapshot_line))]
 fn snapshot_line(alloc: Global, words: &[&[u8]]) -> Result<Option<ScriptLine>, Memory>
     ensures { IfOk result (λ found. found ≡ spec.snapshot_line (map (λ word. word.now) words.now)) }
@@ -107,7 +109,7 @@ fn snapshot_line(alloc: Global, words: &[&[u8]]) -> Result<Option<ScriptLine>, M
     Ok(name.map(|name| ScriptLine::Snapshot(name, epoch)))
 }
 
-// TARGET KS
+/// The line `place TARGET KS`, from the words after the first. Returns `None` for other words.
 #[tactic(auto, unfolding(crate::specs::Grammar::place_line))]
 fn place_line(alloc: Global, words: &[&[u8]]) -> Result<Option<ScriptLine>, Memory>
     ensures { IfOk result (λ found. found ≡ spec.place_line (map (λ word. word.now) words.now)) }
@@ -122,7 +124,7 @@ fn place_line(alloc: Global, words: &[&[u8]]) -> Result<Option<ScriptLine>, Memo
     Ok(keyspace.map(|keyspace| ScriptLine::Place(target, keyspace)))
 }
 
-// TARGET
+/// The line `nodes TARGET`, from the words after the first. Returns `None` for other words.
 #[tactic(auto, unfolding(crate::specs::Grammar::nodes_line))]
 fn nodes_line(alloc: Global, words: &[&[u8]]) -> Result<Option<ScriptLine>, Memory>
     ensures { IfOk result (λ found. found ≡ spec.nodes_line (map (λ word. word.now) words.now)) }
@@ -134,7 +136,7 @@ fn nodes_line(alloc: Global, words: &[&[u8]]) -> Result<Option<ScriptLine>, Memo
     Ok(target.map(ScriptLine::Nodes))
 }
 
-// TARGET KS TOKEN
+/// The line `quorum TARGET KS TOKEN`, from the words after the first. Returns `None` for other words.
 #[tactic(auto, unfolding(crate::specs::Grammar::quorum_line))]
 fn quorum_line(alloc: Global, words: &[&[u8]]) -> Result<Option<ScriptLine>, Memory>
     ensures { IfOk result (λ found. found ≡ spec.quorum_line (map (λ word. word.now) words.now)) }
@@ -152,7 +154,7 @@ fn quorum_line(alloc: Global, words: &[&[u8]]) -> Result<Option<ScriptLine>, Mem
     Ok(keyspace.map(|keyspace| ScriptLine::Quorum(target, keyspace, token)))
 }
 
-// TARGET KS DC TOKEN
+/// The line `local TARGET KS DC TOKEN`, from the words after the first. Returns `None` for other words.
 #[tactic(auto, unfolding(crate::specs::Grammar::local_line))]
 fn local_line(alloc: Global, words: &[&[u8]]) -> Result<Option<ScriptLine>, Memory>
     ensures { IfOk result (λ found. found ≡ spec.local_line (map (λ word. word.now) words.now)) }
@@ -173,7 +175,7 @@ fn local_line(alloc: Global, words: &[&[u8]]) -> Result<Option<ScriptLine>, Memo
     Ok(dc.map(|dc| ScriptLine::Local(target, keyspace, dc, token)))
 }
 
-// `@` and an epoch, or the name of a follower
+/// The target of a query: `@` and an epoch, or the name of a follower. Returns `None` for any other word.
 #[tactic(auto, unfolding(crate::specs::Grammar::target_of))]
 fn target_of(alloc: Global, text: &[u8]) -> Result<Option<Target>, Memory>
     ensures { IfOk result (λ found. found ≡ spec.target_of text.now) }

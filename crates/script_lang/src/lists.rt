@@ -22,7 +22,7 @@ pub fn list_text<T: Shown>(items: &[T], out: &mut ByteText) -> Result<(), Memory
     }
 }
 
-// Adds the texts of the items, each after a comma.
+/// Adds the texts of the items, each after a comma.
 fn add_others<T: Shown>(items: &[T], out: &mut ByteText) -> Result<(), Memory>
     ensures added { OnOk result (out.new ≡ out.old ++ flat_map (λ item. codes "," ++ T.text item) items.now) }
     ensures kept { take (length out.old) out.new ≡ out.old }

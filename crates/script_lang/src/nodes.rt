@@ -12,7 +12,7 @@ use std::alloc::Global;
 use transformations::{Image, SeqRow, state_of};
 
 /// Adds the nodes of a cluster, each with its state and its tokens, and the movements in flight. If memory runs out,
-/// `out` still begins with its old content.
+/// `out` still begins with its old content. The cost is a pass over the movements and the ring for each node.
 #[tactic(auto, unfolding(crate::specs::Texts::nodes_text))]
 pub fn nodes_text(alloc: Global, image: &Image, out: &mut ByteText) -> Result<(), Memory>
     ensures added { OnOk result (out.new ≡ out.old ++ spec.nodes_text image.now) }
@@ -23,7 +23,7 @@ pub fn nodes_text(alloc: Global, image: &Image, out: &mut ByteText) -> Result<()
     add_sequence_lines(image.sequences.as_slice(), out)
 }
 
-// Adds the head, with the number of nodes and the number of movements.
+/// Adds the head, with the number of nodes and the number of movements.
 fn add_head(image: &Image, out: &mut ByteText) -> Result<(), Memory>
     ensures added { OnOk result (out.new ≡ out.old ++ spec.nodes_head image.now) }
     ensures kept { take (length out.old) out.new ≡ out.old }
@@ -36,7 +36,7 @@ fn add_head(image: &Image, out: &mut ByteText) -> Result<(), Memory>
     out.extend(b"\n")
 }
 
-// Adds a line for each node.
+/// Adds a line for each node.
 fn add_node_lines(alloc: Global, image: &Image, out: &mut ByteText) -> Result<(), Memory>
     ensures added { OnOk result (out.new ≡ out.old ++ flat_map (spec.node_text image.now) image.now.nodes) }
     ensures kept { take (length out.old) out.new ≡ out.old }
@@ -47,6 +47,7 @@ fn add_node_lines(alloc: Global, image: &Image, out: &mut ByteText) -> Result<()
     Ok(())
 }
 
+/// Adds the line of a node: its id, name, datacenter, rack, state and tokens.
 #[tactic(auto, unfolding(crate::specs::Texts::node_text))]
 fn add_node_line(
     alloc: Global,
@@ -62,7 +63,7 @@ fn add_node_line(
     add_tokens(alloc, image, row.id, out)
 }
 
-// Adds the id of a node, its name, its datacenter and its rack.
+/// Adds the id of a node, its name, its datacenter and its rack.
 fn add_named(row: &NodeRow, out: &mut ByteText) -> Result<(), Memory>
     ensures added { OnOk result (out.new ≡ out.old ++ spec.named_text row.now) }
     ensures kept { take (length out.old) out.new ≡ out.old }
@@ -73,7 +74,7 @@ fn add_named(row: &NodeRow, out: &mut ByteText) -> Result<(), Memory>
     labelled(b" ", &row.rack, out)
 }
 
-// Adds the tokens of a node, and ends its line.
+/// Adds the tokens of a node, and ends its line.
 fn add_tokens(alloc: Global, image: &Image, node: NodeId, out: &mut ByteText) -> Result<(), Memory>
     ensures added { OnOk result (out.new ≡ out.old
         ++ spec.line (codes " " ++ spec.tokens_text (states.node_tokens image.now node))) }
@@ -85,7 +86,7 @@ fn add_tokens(alloc: Global, image: &Image, node: NodeId, out: &mut ByteText) ->
     out.extend(b"\n")
 }
 
-// The tokens of a node in the ring.
+/// The tokens of a node in the ring.
 fn node_tokens(alloc: Global, image: &Image, node: NodeId) -> Result<Vec<Token>, Memory>
     ensures { IfOk result (λ tokens. tokens.items ≡ states.node_tokens image.now node) }
 {
@@ -99,7 +100,7 @@ fn node_tokens(alloc: Global, image: &Image, node: NodeId) -> Result<Vec<Token>,
     Ok(tokens)
 }
 
-// Adds a line for each movement.
+/// Adds a line for each movement.
 fn add_sequence_lines(sequences: &[SeqRow], out: &mut ByteText) -> Result<(), Memory>
     ensures added { OnOk result (out.new ≡ out.old ++ flat_map spec.sequence_text sequences.now) }
     ensures kept { take (length out.old) out.new ≡ out.old }
@@ -110,6 +111,7 @@ fn add_sequence_lines(sequences: &[SeqRow], out: &mut ByteText) -> Result<(), Me
     Ok(())
 }
 
+/// Adds the line of a movement: its node, kind, phase and pairs.
 #[tactic(auto, unfolding(crate::specs::Texts::sequence_text))]
 fn add_sequence_line(sequence: &SeqRow, out: &mut ByteText) -> Result<(), Memory>
     ensures added { OnOk result (out.new ≡ out.old ++ spec.sequence_text sequence.now) }
@@ -121,7 +123,7 @@ fn add_sequence_line(sequence: &SeqRow, out: &mut ByteText) -> Result<(), Memory
     add_pairs(sequence, out)
 }
 
-// Adds the pairs that a movement takes out and the pairs that it puts in, and ends its line.
+/// Adds the pairs that a movement takes out and the pairs that it puts in, and ends its line.
 fn add_pairs(sequence: &SeqRow, out: &mut ByteText) -> Result<(), Memory>
     ensures added { OnOk result (out.new ≡ out.old
         ++ spec.line (codes " out " ++ spec.pairs_text sequence.now.out_pairs

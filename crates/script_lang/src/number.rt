@@ -21,7 +21,7 @@ pub fn number_of(text: &[u8]) -> Option<u64>
     digits.parse().ok()
 }
 
-// Whether a text begins with a plus sign or a leading zero, which `parse` would accept.
+/// Whether a text begins with a plus sign or a leading zero, which `parse` would accept.
 fn has_plus_or_leading_zero(text: &[u8]) -> bool
     ensures { result ≡ (slice_index text.now 0 == 43)
         || ((slice_index text.now 0 == 48) && nat_le 2 (length text.now)) }

@@ -24,7 +24,7 @@ pub fn place_text(
     add_rows(rows, out)
 }
 
-// Adds the head, with the number of rows.
+/// Adds the head, with the number of rows.
 fn add_head(epoch: u64, keyspace: &Name, rows: u64, out: &mut ByteText) -> Result<(), Memory>
     ensures added { OnOk result (out.new ≡ out.old ++ spec.place_head epoch keyspace.now rows) }
     ensures kept { take (length out.old) out.new ≡ out.old }
@@ -35,7 +35,7 @@ fn add_head(epoch: u64, keyspace: &Name, rows: u64, out: &mut ByteText) -> Resul
     out.extend(b"\n")
 }
 
-// Adds the lines of the rows.
+/// Adds the lines of the rows.
 fn add_rows(rows: &[PlacementRow], out: &mut ByteText) -> Result<(), Memory>
     ensures added { OnOk result (out.new ≡ out.old ++ spec.map_rows_text None rows.now) }
     ensures kept { take (length out.old) out.new ≡ out.old }
@@ -48,7 +48,7 @@ fn add_rows(rows: &[PlacementRow], out: &mut ByteText) -> Result<(), Memory>
     Ok(())
 }
 
-// Adds the line of a row that begins after this token, or with the least token.
+/// Adds the line of a row that begins after this token, or with the least token.
 #[tactic(auto, unfolding(crate::specs::Texts::placed_text))]
 fn add_row(left: Option<Token>, row: &PlacementRow, out: &mut ByteText) -> Result<(), Memory>
     ensures added { OnOk result (out.new ≡ out.old ++ spec.map_row_text left row.now) }
@@ -58,7 +58,7 @@ fn add_row(left: Option<Token>, row: &PlacementRow, out: &mut ByteText) -> Resul
     add_nodes(row.reads.ids(), row.writes.ids(), out)
 }
 
-// Adds the ends of a row.
+/// Adds the ends of a row.
 fn add_ends(left: Option<Token>, right: RightEnd, out: &mut ByteText) -> Result<(), Memory>
     ensures added { OnOk result (out.new ≡ out.old
         ++ (codes "(" ++ spec.left_text left ++ codes "," ++ spec.right_text right)) }
@@ -70,6 +70,7 @@ fn add_ends(left: Option<Token>, right: RightEnd, out: &mut ByteText) -> Result<
     right.show(out)
 }
 
+/// Adds the left end of a row: a token, or `min`.
 fn add_left(left: Option<Token>, out: &mut ByteText) -> Result<(), Memory>
     ensures added { OnOk result (out.new ≡ out.old ++ spec.left_text left) }
     ensures kept { take (length out.old) out.new ≡ out.old }
@@ -80,7 +81,7 @@ fn add_left(left: Option<Token>, out: &mut ByteText) -> Result<(), Memory>
     }
 }
 
-// Closes the interval of a row, adds its read replicas and its write replicas, and ends the line.
+/// Closes the interval of a row, adds its read replicas and its write replicas, and ends the line.
 fn add_nodes(reads: &[NodeId], writes: &[NodeId], out: &mut ByteText) -> Result<(), Memory>
     ensures added { OnOk result (out.new ≡ out.old
         ++ spec.line (codes "] read " ++ spec.list_text reads.now

@@ -37,7 +37,7 @@ pub fn refusal_text(refusal: &Refusal, out: &mut ByteText) -> Result<(), Memory>
     }
 }
 
-// Adds `OTHER-RACK`, with the datacenter and the rack of the node to be replaced.
+/// Adds `OTHER-RACK`, with the datacenter and the rack of the node to be replaced.
 fn other_rack_text(dc: &Name, rack: &Name, out: &mut ByteText) -> Result<(), Memory>
     ensures added { OnOk result (out.new ≡ out.old
         ++ (codes "OTHER-RACK " ++ dc.now ++ codes " " ++ rack.now)) }

@@ -29,7 +29,7 @@ pub fn sets_text(
     add_writes(needs.write_need, writes, out)
 }
 
-// Adds the first word, the epoch, how many replicas a read needs, and the read replicas.
+/// Adds the first word, the epoch, how many replicas a read needs, and the read replicas.
 fn add_reads(
     word: &str,
     epoch: u64,
@@ -46,7 +46,7 @@ fn add_reads(
     add_needed(b" read ", need, reads, out)
 }
 
-// Adds how many replicas a write needs and the write replicas, and ends the line.
+/// Adds how many replicas a write needs and the write replicas, and ends the line.
 fn add_writes(need: u32, writes: &NodeSet, out: &mut ByteText) -> Result<(), Memory>
     ensures added { OnOk result (out.new ≡ out.old
         ++ spec.line (codes " write " ++ decimal need ++ codes " of " ++ spec.list_text writes.now)) }
@@ -56,7 +56,7 @@ fn add_writes(need: u32, writes: &NodeSet, out: &mut ByteText) -> Result<(), Mem
     out.extend(b"\n")
 }
 
-// Adds the first word and the epoch.
+/// Adds the first word and the epoch.
 fn add_head(word: &str, epoch: u64, out: &mut ByteText) -> Result<(), Memory>
     ensures added { OnOk result (out.new ≡ out.old ++ (word.now ++ codes " " ++ decimal epoch)) }
     ensures kept { take (length out.old) out.new ≡ out.old }
@@ -65,7 +65,7 @@ fn add_head(word: &str, epoch: u64, out: &mut ByteText) -> Result<(), Memory>
     labelled(b" ", &epoch, out)
 }
 
-// Adds a label, how many of the nodes are needed, and the nodes.
+/// Adds a label, how many of the nodes are needed, and the nodes.
 fn add_needed(label: &[u8], need: u32, nodes: &NodeSet, out: &mut ByteText) -> Result<(), Memory>
     ensures added { OnOk result (out.new ≡ out.old
         ++ (label.now ++ decimal need ++ codes " of " ++ spec.list_text nodes.now)) }

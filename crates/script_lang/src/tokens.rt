@@ -4,7 +4,7 @@ ghost use Rattle.std.specs.Prelude.{◌≡◌, ◌+◌, ◌^◌, ◌&&◌, if◌
 ghost use Rattle.script_lang.specs.Grammar as spec;
 
 use crate::number::number_of;
-use cluster_terms::{Memory, Token, TokenList};
+use cluster_terms::{Memory, Token, TokenList, put_in_order};
 use std::alloc::Global;
 
 /// The most tokens that a command may give to a node.
@@ -21,7 +21,7 @@ pub fn token_of(text: &[u8]) -> Option<Token>
     }
 }
 
-// The token n.
+/// The token n.
 fn from_zero(n: u64) -> Option<Token>
     ensures { result ≡ (if nat_lt n (2 ^ 63) then Some (pos n) else None) }
 {
@@ -29,7 +29,7 @@ fn from_zero(n: u64) -> Option<Token>
     Some(Token::new(n))
 }
 
-// The token -n, where n is not 0.
+/// The token -n, where n is not 0.
 fn below_zero(n: u64) -> Option<Token>
     ensures { result ≡ (if nat_le 1 n && nat_lt n (2 ^ 63 + 1) then Some (neg_ℤ (pos n)) else None) }
 {
@@ -48,7 +48,7 @@ pub fn tokens_in_words(alloc: Global, words: &[&[u8]]) -> Result<Option<TokenLis
     }
 }
 
-// The tokens in these words, in the order of the words, if each word is a token.
+/// The tokens in these words, in the order of the words, if each word is a token.
 fn each_token_in_words(alloc: Global, words: &[&[u8]]) -> Result<Option<TokenList>, Memory>
     ensures { IfOk result (λ found. found ≡ spec.each_token_in_words (map (λ word. word.now) words.now)) }
 {
@@ -62,16 +62,17 @@ fn each_token_in_words(alloc: Global, words: &[&[u8]]) -> Result<Option<TokenLis
     Ok(Some(tokens))
 }
 
-// The tokens in ascending order, if there are 1 to 256 and none comes twice.
+/// The tokens in ascending order, if there are 1 to 256 and none comes twice.
 fn kept_tokens(alloc: Global, tokens: &[Token]) -> Result<Option<TokenList>, Memory>
     ensures { IfOk result (λ found. found ≡ spec.kept_tokens tokens.now) }
 {
     if tokens.is_empty() || MOST_TOKENS < tokens.len() {
         return Ok(None);
     }
-    let ascending = TokenList::ascending(alloc, tokens)?;
-    if ascending.as_slice().len() < tokens.len() {
+    let mut ascending = Vec::from_slice(alloc, tokens)?;
+    put_in_order(&mut ascending);
+    if ascending.len() < tokens.len() {
         return Ok(None);
     }
-    Ok(Some(ascending))
+    Ok(Some(TokenList::from_vec(ascending)))
 }

@@ -112,8 +112,8 @@ impl Seq<Started> {
 }
 
 impl Seq<Mid> {
-    /// Cancels the last step: the movement goes back to `Started`, and its plan and its key stay. If one epoch ended the
-    /// movement from here, quorums of adjacent epochs might not meet.
+    /// Cancels the last step: the movement goes back to `Started`, and its plan and its key stay. If one epoch ended
+    /// the movement from here, quorums of adjacent epochs might not meet.
     pub fn cancel(self) -> Seq<Started>
         ensures { result ≡ self }
     {

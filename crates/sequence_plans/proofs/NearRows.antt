@@ -43,8 +43,8 @@ touch_near (r ∷ ranges) = (
       (λ q near t here. or_right (touches r t) (is_near ranges t) (near t here)) ranges (touch_near ranges),
 )
 
--- what is known of two tokens, the later one the last token of a row between near cuts: the ranges have both or none, and
--- if they have both, no cut lies from the one up to the other
+-- what is known of two tokens, the later one the last token of a row between near cuts: the ranges have both or none,
+-- and if they have both, no cut lies from the one up to the other
 pub record IsNearRow (cuts : List ℤ) (ranges : List TokenRange) (x w : ℤ) : Type 0 where
   pub same : have_token ranges x ≡ have_token ranges w
   pub upto : have_token ranges w ≡ true → IsUpTo cuts x w

@@ -1,4 +1,4 @@
--- The replicas that a strategy places on a ring (of the code: no promise rests on these).
+-- The replicas that a strategy places on a ring, which the contract of `Placer` cites.
 use Rattle.std.specs.Prelude.{◌≡◌, ℕ, ℤ, List, [], ◌∷◌}
 use Rattle.cluster_terms.specs.Group.{place}
 use Rattle.cluster_terms.specs.Replication.{groups_of, whole_group}

@@ -31,8 +31,8 @@ AreLocks image [] (row ∷ rows) = ⊥
 AreLocks image (s ∷ sequences) [] = ⊥
 AreLocks image (s ∷ sequences) (row ∷ rows) = IsLockRow image s row × AreLocks image sequences rows
 
--- the plan of a movement, in the image that has it: its row, the cuts, its ranges, those of the other movements, and its
--- deltas
+-- the plan of a movement, in the image that has it: its row, the cuts, its ranges, those of the other movements, and
+-- its deltas
 pub record IsPlan (image : Image) (s : SeqRow) (plan : Plan) : Type 0 where
   pub row : plan.row ≡ s
   pub cuts : plan.cuts ≡ cuts image

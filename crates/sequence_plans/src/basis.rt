@@ -41,7 +41,7 @@ fn moved_by(row: &SeqRow) -> Result<PairList, Memory>
 }
 
 impl<'a> Basis<'a> {
-    /// The basis of an image's ranges. The directory must hold the nodes of the image. `Err` means that memory ran out.
+    /// The basis of an image's ranges. The directory must hold the nodes of the image. Fails only if memory runs out.
     pub fn of_image(
         alloc: Global,
         image: &'a Image,
@@ -82,7 +82,7 @@ impl<'a> Basis<'a> {
         )
     }
 
-    /// The ranges of a movement under each replication of the keyspaces. `Err` means that memory ran out.
+    /// The ranges of a movement under each replication of the keyspaces. Fails only if memory runs out.
     pub fn book_of(&self, row: &SeqRow) -> Result<RangeBook, Memory>
         requires basis { IsBasis self.now }
         requires within { MovesWithin self.now.image.now row.now }
@@ -98,8 +98,8 @@ impl<'a> Basis<'a> {
         Ok(book)
     }
 
-    /// The deltas of a movement, under the replication of each row of its ranges. `Err` means that memory ran out. Two
-    /// walks for each row between cuts that is in its ranges, under each replication.
+    /// The deltas of a movement, under the replication of each row of its ranges. Fails only if memory runs out.
+    /// Makes two walks for each row between cuts that is in its ranges, under each replication.
     pub fn deltas_of<L: Ledger>(
         &self,
         row: &SeqRow,
@@ -126,7 +126,7 @@ impl<'a> Basis<'a> {
         )
     }
 
-    /// The ranges of all movements, except the movement of a node. `Err` means that memory ran out.
+    /// The ranges of all movements, except the movement of a node. Fails only if memory runs out.
     pub fn locks_beside(&self, node: NodeId) -> Result<LockRows, Memory>
         requires basis { IsBasis self.now }
         requires sound { IsSound self.now.image.now }

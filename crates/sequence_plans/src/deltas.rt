@@ -36,8 +36,8 @@ pub struct DeltaBooks {
     pub lose: DeltaBook,
 }
 
-/// The deltas of a movement under one replication. Two walks for each row between cuts that is in its ranges. The rest
-/// costs two binary searches in the cuts for each range, and about k log m for m ranges with k cuts near them.
+/// The deltas of a movement under one replication. Makes two walks for each row between cuts that is in its ranges. The
+/// rest costs two binary searches in the cuts for each range, and about k log m for m ranges with k cuts near them.
 fn deltas_under<L: Ledger>(
     alloc: Global,
     image: &Image,
@@ -103,8 +103,8 @@ impl DeltaBooks {
     }
 
     /// The deltas of a movement of an image, under the replication of each row of its ranges. The directory must hold
-    /// the nodes of the image. `Err` means that memory ran out. Two walks for each row between cuts that is in its
-    /// ranges, under each replication.
+    /// the nodes of the image. Fails only if memory runs out. Makes two walks for each row between cuts that is in
+    /// its ranges, under each replication.
     pub fn of_movement<L: Ledger>(
         alloc: Global,
         image: &Image,

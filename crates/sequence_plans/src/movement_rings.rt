@@ -25,8 +25,8 @@ pub struct MovementPlacers<'a> {
 }
 
 impl MovementRings {
-    /// The rings of a movement of an image. `Err` means that memory ran out. For n pairs of the ring, of which the
-    /// movement takes out k, the cost is about n log n and at most n·k comparisons.
+    /// The rings of a movement of an image. Fails only if memory runs out. For n pairs of the ring, the cost is about
+    /// n log n: a search for each pair among those that the movement takes out, and a sort of the second ring.
     pub fn new(alloc: Global, image: &Image, row: &SeqRow) -> Result<MovementRings, Memory>
         requires sound { IsSound image.now }
         requires moves { Contains image.now.sequences row.now }
@@ -39,8 +39,8 @@ impl MovementRings {
         })
     }
 
-    /// The placers of a replication on these rings. The directory must hold the nodes of the image. `Err` means that
-    /// memory ran out.
+    /// The placers of a replication on these rings. The directory must hold the nodes of the image. Fails only if
+    /// memory runs out.
     pub fn placers<'a>(
         &'a self,
         alloc: Global,

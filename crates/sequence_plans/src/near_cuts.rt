@@ -40,7 +40,7 @@ fn cuts_near<'a>(cuts: &'a [Token], range: &TokenRange) -> &'a [Token]
     cuts_up_to(cuts_from(cuts, &range.left), range.last_token())
 }
 
-/// Of ascending cuts, those that a range contains and those at which a range begins. `Err` means that memory ran out.
+/// Of ascending cuts, those that a range contains and those at which a range begins. Fails only if memory runs out.
 /// Each range costs two binary searches and a copy of its cuts.
 pub fn near_cuts(alloc: Global, cuts: &[Token], ranges: &[TokenRange]) -> Result<Vec<Token>, Memory>
     requires ascending { IsStrictlySortedBy int_cmp cuts.now }

@@ -19,7 +19,7 @@ pub enum Placer<'a> {
 }
 
 impl<'a> Placer<'a> {
-    /// The placer of a replication on a ring. `Err` means that memory ran out.
+    /// The placer of a replication on a ring. Fails only if memory runs out.
     ///
     /// Cost: for NetworkTopologyStrategy, one pass over the ring for each datacenter that the replication names.
     pub fn new(
@@ -39,7 +39,7 @@ impl<'a> Placer<'a> {
         }
     }
 
-    /// The replicas at a token. `Err` means that memory ran out. Counts one step of `walks`, even on an error.
+    /// The replicas at a token. Fails only if memory runs out. Counts one step of `walks`, even on an error.
     pub fn place<L: Ledger>(
         &self,
         alloc: Global,

@@ -80,11 +80,10 @@ pub fn plan<L: Ledger>(
 
 /// The plan that `plan` makes, for a caller that has a directory with the nodes of the image.
 ///
-/// Cost: copies the image, and makes its fixed ring, its widest set of pairs and the two rings of the movement once. For
-/// n tokens of the ring and of all movements, the cuts cost about n log n. For m movements with the new one and r
-/// replications, `reached` is called m·r times. Under each replication two walks are counted for each row between cuts
-/// that is in the movement's ranges, and none elsewhere. Outside the ranges the deltas cost two binary searches in the
-/// cuts for each range.
+/// Cost: copies the image, and makes its fixed ring, its widest set of pairs and the two rings of the movement once.
+/// The cuts cost what `cuts_among` says. For m movements with the new one and r replications, `reached` is called m·r
+/// times. Under each replication two walks are counted for each row between cuts that is in the movement's ranges, and
+/// none elsewhere. Outside the ranges the deltas cost two binary searches in the cuts for each range.
 pub fn plan_in<L: Ledger>(
     alloc: Global,
     image: &Image,

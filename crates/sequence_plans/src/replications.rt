@@ -17,7 +17,7 @@ fn has(replications: &[Replication], replication: &Replication) -> bool
     replications.iter().any(|other| other.same(replication))
 }
 
-/// The replications of these keyspaces, each once, in the order in which they first appear. `Err` means that memory ran
+/// The replications of these keyspaces, each once, in the order in which they first appear. Fails only if memory runs
 /// out.
 pub fn replications_of(alloc: Global, keyspaces: &[KeyspaceRow]) -> Result<Replications, Memory>
     ensures { IfOk result (λ list. list ≡ replications_of keyspaces.now) }

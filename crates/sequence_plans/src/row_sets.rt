@@ -1,4 +1,4 @@
-//! What a movement changes in each row between cuts, under one replication.
+//! The nodes that a movement gains and loses in each row between cuts, under one replication.
 
 ghost use Rattle.std.specs.Prelude.{[], IfOk, OnOk};
 ghost use Rattle.sequence_plans.specs.Placers.{placed_by};
@@ -59,7 +59,7 @@ impl RowSets {
         Ok(())
     }
 
-    /// Adds the sets of a row. Two walks if the ranges contain its last token, and none otherwise.
+    /// Adds the sets of a row. Makes two walks if the ranges contain its last token, and none otherwise.
     fn push_row<L: Ledger>(
         &mut self,
         alloc: Global,
@@ -83,8 +83,8 @@ impl RowSets {
         }
     }
 
-    /// The sets of these rows. Two walks for each row in the ranges, and none elsewhere. `Err` means that memory ran
-    /// out.
+    /// The sets of these rows. Makes two walks for each row in the ranges, and none elsewhere. Fails only if memory
+    /// runs out.
     pub fn of_rows<L: Ledger>(
         alloc: Global,
         placers: &MovementPlacers,

@@ -24,7 +24,7 @@ fn join_with(alloc: Global, node: NodeId, tokens: &[Token]) -> Result<SeqRow, Me
 }
 
 /// The row of a prepared join: it takes no pair out, and puts in the node's tokens. The image has no early refusal of
-/// the join, so it stays sound with this row. `Err` means that memory ran out for the pairs, one for each token.
+/// the join, so it stays sound with this row. Fails only if memory runs out for the pairs, one for each token.
 pub fn join_row(
     alloc: Global,
     image: &Image,

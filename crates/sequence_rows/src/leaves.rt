@@ -25,7 +25,7 @@ fn leave_with(alloc: Global, ring: &[Pair], node: NodeId) -> Result<SeqRow, Memo
 }
 
 /// The row of a prepared leave: it takes the node's pairs out, and puts none in. The image has no early refusal of the
-/// leave, so it stays sound with this row. `Err` means that memory ran out for the pairs, one for each token of the
+/// leave, so it stays sound with this row. Fails only if memory runs out for the pairs, one for each token of the
 /// node. Cost: one pass over the ring.
 pub fn leave_row(alloc: Global, image: &Image, node: NodeId) -> Result<SeqRow, Memory>
     requires sound { IsSound image.now }

@@ -25,7 +25,7 @@ fn move_with(alloc: Global, ring: &[Pair], node: NodeId, token: Token) -> Result
 }
 
 /// The row of a prepared move: it takes the node's only pair out, and puts in its new token. The image has no early
-/// refusal of the move, so it stays sound with this row. `Err` means that memory ran out for the two pairs. Cost: one
+/// refusal of the move, so it stays sound with this row. Fails only if memory runs out for the two pairs. Cost: one
 /// pass over the ring.
 pub fn move_row(alloc: Global, image: &Image, node: NodeId, token: Token) -> Result<SeqRow, Memory>
     requires sound { IsSound image.now }

@@ -25,7 +25,7 @@ fn replace_with(alloc: Global, ring: &[Pair], node: NodeId, gone: NodeId) -> Res
 }
 
 /// The row of a prepared replace: it takes out the pairs of `gone`, and puts in the same tokens with the new node. The
-/// image has no early refusal of the replace, so it stays sound with this row. `Err` means that memory ran out for the
+/// image has no early refusal of the replace, so it stays sound with this row. Fails only if memory runs out for the
 /// pairs, two for each token of `gone`. Cost: one pass over the ring.
 pub fn replace_row(
     alloc: Global,

@@ -1,4 +1,5 @@
--- The counting rule of the one group of all nodes: a node is chosen at its first token where fewer than rf others are met before it.
+-- The counting rule of the one group of all nodes: a node is chosen at its first token where fewer than rf others are
+-- met before it.
 use Rattle.std.proofs.Common.{◌≡◌, ℕ, ◌+◌, ◌-◌, ◌<◌, ◌≤◌, min, Bool, true, false, not, ◌&&◌, ◌||◌, nat_eq, nat_lt, List, [], ◌∷◌, filter, filter_map, is_some, refl, ap, ◌∙◌, arith}
 use Rattle.std.proofs.lemmas.Bool.{false≢true}
 use Rattle.std.proofs.lemmas.Bool.Decides.{nat_tests}

@@ -20,7 +20,7 @@ fn count_to(images: &[Image], e: u64) -> usize
     images.partition_point(|image| image.epoch <= e)
 }
 
-/// The metadata of a copy of a valid image. `Err` means that memory ran out.
+/// The metadata of a copy of a valid image. Fails only if memory runs out.
 fn metadata_of(alloc: Global, image: &Image) -> Result<Metadata, Memory>
     requires { IsValid image.now }
     ensures { IfOk result (λ metadata. metadata ≡ image.now) }
@@ -34,9 +34,9 @@ fn metadata_of(alloc: Global, image: &Image) -> Result<Metadata, Memory>
     }
 }
 
-/// The metadata of the greatest of these valid images at or below an epoch. If there is none, this is the metadata before the first
-/// command. `Err` means that memory ran out. The cost is a binary search, a copy of the image, and that of
-/// `Metadata::from_image`.
+/// The metadata of the last of these valid images whose epoch is at most `e`. If there is none, this is the metadata
+/// before the first command. Fails only if memory runs out. The cost is a binary search, a copy of the image, and
+/// that of `Metadata::from_image`.
 pub fn nearest(alloc: Global, images: &[Image], e: u64) -> Result<Metadata, Memory>
     requires ascend { Ascend images.now }
     requires valid { AllByRecursion IsValid images.now }

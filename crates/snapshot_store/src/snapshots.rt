@@ -54,8 +54,8 @@ impl Snapshots {
         }
     }
 
-    /// Keeps an image, whose epoch is above those of the images that are kept. If memory runs out, returns the image and
-    /// keeps what was kept.
+    /// Keeps an image, whose epoch is above those of the images that are kept. If memory runs out, returns the image,
+    /// and the images that are kept stay.
     pub fn keep(&mut self, image: Image) -> Result<(), (Image, Memory)>
         requires { AllByRecursion (λ kept. kept.epoch < image.epoch) self.old }
         ensures { MatchResult result (λ _. self.new ≡ self.old ++ image ∷ [])
@@ -68,7 +68,7 @@ impl Snapshots {
     }
 
     /// The metadata at an epoch of a log, of which the images are. The commands of the log are a history, and the epoch
-    /// is at most the last one. `Err` means that memory ran out.
+    /// is at most the last one. Fails only if memory runs out.
     ///
     /// Cost: a binary search for the greatest image at or below the epoch, a copy of this image, and the metadata made
     /// from it, at the cost of `Metadata::from_image`. Each command after the image, up to the epoch, is admitted and

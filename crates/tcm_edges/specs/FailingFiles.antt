@@ -19,7 +19,7 @@ after_append all name bytes = map.insert all name (content (file_of all name) ++
 abbrev pub after_failed_append : Files → List ℕ → List ℕ → Files
 after_failed_append all name kept = if length kept == 0 then all else after_append all name kept
 
--- the files after a failed replace that was to keep so many bytes: as before if that is 0, else with the new contents
+-- the files after a failed replace that was to keep this many bytes: as before if it is 0, else with the new contents
 abbrev pub after_failed_replace : Files → List ℕ → List ℕ → ℕ → Files
 after_failed_replace all name bytes keep = if keep == 0 then all else map.insert all name bytes
 

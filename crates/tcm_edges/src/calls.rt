@@ -8,8 +8,8 @@ use std::marker::Model;
 /// The numbers of the calls that are to fail, counted from 1.
 pub type CallList = SmallList<u64>;
 
-/// Which calls are to fail, each told by an `F`, how many were made, and how many failed. Both
-/// counts stop at the greatest `u64`.
+/// Which calls are to fail, each told by an `F`, how many were made, and how many failed. Both counts stop at the
+/// greatest `u64`.
 #[derive(Debug, Drop)]
 pub(crate) struct Calls<F> {
     fails: SmallList<F>,

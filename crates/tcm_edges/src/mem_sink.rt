@@ -52,6 +52,8 @@ impl Sink for MemSink {
 
     ghost faults = { λ sink. sink.plan.faults };
 
+    /// A listed write returns `Failed`, and takes no byte. Any other takes all bytes. Returns `Memory` if memory runs
+    /// out; then nothing changes, and the write isn't counted.
     fn write(&mut self, bytes: &[u8]) -> Result<usize, WriteFault>
         requires { 0 < length bytes.now }
         ensures bound { TakesSome result bytes.now }

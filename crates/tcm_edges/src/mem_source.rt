@@ -48,6 +48,7 @@ impl Source for MemSource {
 
     ghost faults = { λ source. source.plan.faults };
 
+    /// A listed read returns `Failed`, and gives no byte. Any other gives what `SureSource` gives.
     fn read(&mut self, buf: &mut [u8]) -> Result<usize, Failed>
         requires { 0 < length buf.old }
         ensures bound { ReadsAtMost result buf.new }

@@ -160,8 +160,8 @@ impl Store for MemStore {
         Err(WriteFault::Failed)
     }
 
-    /// A listed call returns `Failed`; then the file is as before if `keep` is 0, and otherwise has the new contents. If
-    /// memory runs out while these are stored, returns `Memory` and changes nothing.
+    /// A listed call returns `Failed`; then the file is as before if `keep` is 0, and otherwise has the new contents.
+    /// If memory runs out while these are stored, returns `Memory` and changes nothing.
     fn replace(&mut self, name: &str, bytes: &[u8]) -> Result<(), WriteFault>
         ensures ok { OnOk result
             (ChangesFile (IsReplaced bytes.now) (Some self.old.files) (Some self.new.files) name.now) }

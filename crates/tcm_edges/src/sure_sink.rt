@@ -40,6 +40,7 @@ impl SureSink {
         self.written.as_slice()
     }
 
+    /// Adds bytes at the end. If memory runs out, changes nothing.
     fn push_all(&mut self, bytes: &[u8]) -> Result<(), Memory>
         ensures ok { OnOk result (self.new ≡ self.old ++ bytes.now) }
         ensures err { OnErr result (self.new ≡ self.old) }
@@ -54,6 +55,7 @@ impl Sink for SureSink {
 
     ghost faults = { λ _. 0 };
 
+    /// Takes all bytes. Returns `Memory` if memory runs out; then nothing changes.
     fn write(&mut self, bytes: &[u8]) -> Result<usize, WriteFault>
         requires { 0 < length bytes.now }
         ensures bound { TakesSome result bytes.now }

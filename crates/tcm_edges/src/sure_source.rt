@@ -62,6 +62,7 @@ impl Source for SureSource {
 
     ghost faults = { λ _. 0 };
 
+    /// Gives as many of the bytes that are left as a piece may have and the buffer has room for. Never fails.
     fn read(&mut self, buf: &mut [u8]) -> Result<usize, Failed>
         requires { 0 < length buf.old }
         ensures bound { ReadsAtMost result buf.new }

@@ -98,6 +98,7 @@ impl Store for SureStore {
 
     ghost faults = { λ _. 0 };
 
+    /// Returns a copy of the bytes. The only error is `Memory`, and the files never change.
     fn load(&mut self, name: &str, limit: u64) -> Result<Loaded, LoadFault>
         ensures found { IfOk result (λ loaded. IsLoad (Some self.old) name.now limit loaded) }
         ensures kept { Some self.new ≡ Some self.old }
@@ -118,6 +119,7 @@ impl Store for SureStore {
         Ok(Loaded::Bytes(text))
     }
 
+    /// Returns `Memory` if memory runs out; then nothing changes. There is no other error.
     fn append(&mut self, name: &str, bytes: &[u8]) -> Result<(), WriteFault>
         ensures ok { OnOk result
             (ChangesFile (GainsAll bytes.now) (Some self.old) (Some self.new) name.now) }
@@ -136,6 +138,7 @@ impl Store for SureStore {
         Ok(())
     }
 
+    /// Returns `Memory` if memory runs out; then nothing changes. There is no other error.
     fn replace(&mut self, name: &str, bytes: &[u8]) -> Result<(), WriteFault>
         ensures ok { OnOk result
             (ChangesFile (IsReplaced bytes.now) (Some self.old) (Some self.new) name.now) }

@@ -10,5 +10,6 @@ mod moving;
 mod replays;
 mod running;
 mod snapshots;
+mod stops;
 mod told;
 mod words;

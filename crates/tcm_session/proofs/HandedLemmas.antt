@@ -105,7 +105,7 @@ one_log_shown log before after (Err (Fork e held came)) at shows = absurd shows
 one_log_shown log before after (Err (Refused e r)) at shows = absurd shows
 one_log_shown log before after (Err (BadImage bad)) at shows = absurd shows
 
--- where it stops for want of memory
+-- where it stops if memory runs out
 is_between : (log : List Entry) (f at : FollowerState) (step : Handed) (handed : Result Took FollowerFault) → CutsFrom f.image.epoch step → FollowsLog log at → Performs f step handed at → IsBetween log f step.after at
 is_between log f at step handed cuts follows comes = by handed comes
   where

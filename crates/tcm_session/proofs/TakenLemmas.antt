@@ -30,7 +30,7 @@ use Rattle.tcm_session.specs.Taken.{ShowsPrefix, unless_full}
 
 -- ---- a step of a follower
 
--- what its answer tells of the follower after it: want of memory doesn't come
+-- what its answer tells of the follower after it: no answer is that memory ran out
 abbrev pub Tells : FollowerState → Result Took FollowerFault → FollowerState → Type 0
 Tells f (Ok (At epoch)) g = g.image.epoch ≡ epoch
 Tells f (Ok (Old epoch)) g = g ≡ f

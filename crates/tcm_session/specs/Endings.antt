@@ -1,4 +1,5 @@
--- The words of `commit` and `replay`, the text that is written after a script was read, and the statuses (of the code: no promise rests on these).
+-- The words of `commit` and `replay`, the text that is written after a script was read, and the statuses (of the code:
+-- no promise rests on these).
 use Rattle.std.specs.Prelude.{◌≡◌, ℕ, true, false, List, [], Option, None, Some, Result, Ok, Err}
 use Rattle.tcm_session.specs.Lines.{if_any}
 use Rattle.tcm_session.specs.Machine.{SessionState, answers}

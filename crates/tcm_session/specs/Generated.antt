@@ -75,7 +75,7 @@ is_refused number _ = false
 abbrev pub count_line : List ℕ → ℕ → List ℕ
 count_line label n = line (label ++ decimal n)
 
--- the line of a refusal, if it came; and those of so many refusals, from that with this number on
+-- the line of a refusal, if it came; and the lines of `count` refusals, from the refusal with this number on
 abbrev pub if_came : ℕ → List ℕ → List ℕ
 if_came zero text = []
 if_came (suc n) text = text

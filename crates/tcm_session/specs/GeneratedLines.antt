@@ -34,14 +34,14 @@ with_token word node token = on_node word node ++ codes " " ++ signed_decimal to
 abbrev pub deliver_line : ℕ → List ℕ
 deliver_line epoch = codes "deliver f " ++ decimal epoch
 
--- it is handed so many epochs after an epoch, from the last one down to the first
+-- it is handed the entries of the `count` epochs after an epoch, from the last one down to the first
 unfoldable pub delivers : ℕ → ℕ → List (List ℕ)
 delivers epoch zero = []
 delivers epoch (suc count) = deliver_line (epoch + suc count) ∷ delivers epoch count
 
 -- ---- the opening
 
--- the lines of the numbers from `number` on, so many of them
+-- the lines of `count` numbers, from `number` on
 abbrev pub each : (ℕ → List ℕ) → ℕ → ℕ → List (List ℕ)
 each line number zero = []
 each line number (suc count) = line number ∷ each line (number + 1) count
@@ -56,7 +56,7 @@ opening_token i = pos ((i - 1) * 700000000000000000) -ℤ pos 800000000000000000
 abbrev pub join_line : ℕ → List ℕ
 join_line i = commit_line (24 + i) (with_token (codes "unsafe-join") i (opening_token i))
 
--- so many nodes are registered, and so many join
+-- the nodes 1 to `count` are registered, and join
 unfoldable pub register_lines : ℕ → List (List ℕ)
 register_lines count = each register_line 1 count
 
@@ -106,7 +106,7 @@ deliveries session lines =
 unfoldable pub round_lines : SessionState → ℕ → ℕ → List (List ℕ)
 round_lines session s j = (let commits = round_commits s j in commits ++ deliveries session commits)
 
--- so many rounds, from round j on
+-- `count` rounds, from round j on
 unfoldable pub rounds_lines : SessionState → ℕ → ℕ → ℕ → List (List ℕ)
 rounds_lines session s j zero = []
 rounds_lines session s j (suc count) =

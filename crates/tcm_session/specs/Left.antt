@@ -1,4 +1,4 @@
--- What a run leaves that a fault ended: the lines that it did, what it printed, and what it added to its log file.
+-- A run that a fault ended: the lines that it did, the bytes that it printed, and those that it added to its log file.
 use Rattle.std.specs.Prelude.{◌≡◌, ◌≢◌, ◌⊎◌, ℕ, true, List, [], ◌∷◌, ◌++◌, Option, Some, None, option_map}
 use Rattle.std.specs.Io.{StartsWith}
 use Rattle.tcm_edges.specs.Files.{ChangesFile, Files, OthersKept, content}
@@ -18,13 +18,14 @@ abbrev pub next_added : SessionState → List (List ℕ) → List ℕ
 next_added session [] = []
 next_added session (bytes ∷ lines) = entry_lines (reply session bytes).added
 
--- of what is next a front is printed, and a front is added; printing begins only once all of it is added
+-- of the next text a prefix is printed, and of the next line of the file a prefix is added; printing begins only once
+-- all of this line is added
 pub record StopsNext (text entry printed added : List ℕ) : Type 0 where
   pub of_text : StartsWith text printed
   pub of_entry : StartsWith entry added
   pub order : printed ≢ [] → added ≡ entry
 
--- some of the lines are done: their answers are printed and their entries added whole, and of what is next a front
+-- some of the lines are done: their answers are printed and their entries added whole, and of what is next a prefix
 pub record StopsIn (session : SessionState) (lines : List (List ℕ)) (last printed added : List ℕ) : Type 0 where
   pub done : List (List ℕ)
   pub rest : List (List ℕ)
@@ -41,8 +42,8 @@ pub record StopsIn (session : SessionState) (lines : List (List ℕ)) (last prin
 abbrev pub GainsThese : List ℕ → Option (List ℕ) → Option (List ℕ) → Type 0
 GainsThese bytes old new = (new ≡ Some (content old ++ bytes)) ⊎ ((new ≡ old) × (bytes ≡ []))
 
--- the file is cut to its whole lines, and has gained what the lines of the outcome added before the fault; at status 4, a
--- failed read, no part of an answer is printed, and no part of an entry added
+-- the file is cut to its whole lines, and has gained what the lines of the outcome added before the fault; at status 4,
+-- a failed read, no part of an answer is printed, and no part of an entry added
 pub record Grows (o : Outcome) (printed : List ℕ) (status : ℕ) (file file' : Option (List ℕ)) : Type 0 where
   pub added : List ℕ
   pub stops : StopsIn (session_over o.log) o.lines o.last printed added

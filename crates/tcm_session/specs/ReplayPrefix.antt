@@ -1,4 +1,4 @@
--- What a replay takes of one log, and the longest gapless prefix of it.
+-- The entries and images of one log that a replay takes, and their longest gapless prefix.
 use Rattle.std.specs.Prelude.{◌≡◌, ◌≢◌, ℕ, suc, List, [], ◌∷◌, Result, Ok, Err}
 use Rattle.std.specs.List.{AllByRecursion}
 use Rattle.tcm_edges.specs.Files.{Files, file_of, loaded_of}
@@ -81,7 +81,8 @@ AreFilesOf log [] seen = Unit {0}
 AreFilesOf log (name ∷ names) seen =
     AreLinesOf log (loaded_lines (loaded_of (file_of (seen 0) name) input_limit)) × AreFilesOf log names (λ i. seen (suc i))
 
--- a replay comes to a follower that shows the longest gapless prefix of what it took; or a file is absent or too large, and no line is refused
+-- a replay comes to a follower that shows the longest gapless prefix of what it took; or a file is absent or too large,
+-- and no line is refused
 abbrev pub ComesToPrefix : List Entry → Taken → Result Replay Ending → Type 0
 ComesToPrefix log taken (Ok replay) = ShowsPrefix log taken replay.follower
 ComesToPrefix log taken (Err ending) = ending.status ≢ 3

@@ -15,9 +15,9 @@ use Rattle.tcm_session.specs.ReplayPrefix.{AreFilesOf, ReportsPrefix, taken_of_f
 use Rattle.tcm_session.specs.Shown.{PrintsMeeting}
 use Rattle.tcm_session.specs.Taken.{FollowersShow}
 
--- the statuses: the end of the input, of a replay, of a state or of a summary, out of memory, the usage line, a line of a
--- file that is refused, a fault of the source, of the sink or of the store, a file or an epoch that is absent, an input or
--- a file that is too large
+-- the statuses: the end of the input, of a replay, of a state or of a summary, out of memory, the usage line, a line of
+-- a file that is refused, a fault of the source, of the sink or of the store, a file or an epoch that is absent, an
+-- input or a file that is too large
 abbrev pub IsStatus : ℕ → Type 0
 IsStatus status =
     IsTrue ((status == 0) || (status == 1) || (status == 2) || (status == 3) || (status == 4) || (status == 5) || (status == 6) || (status == 7) || (status == 8))
@@ -78,8 +78,8 @@ pub record ReplaysLog (words : List (List ℕ)) (seen : ℕ → Files) (log : Li
 -- a run for these words: it prints the bytes of their outcome, it reads as its outcome says, and the quorums in the
 -- printed lines meet (`ShownMeet`), unless the status is 7, as the name of an absent file may hold any line; each
 -- follower of a script, and that of a replay of files of one log, shows the longest gapless prefix of what it took
--- (`ShowsPrefix`); and what a fault leaves in the log file is what the lines added that were done, with at most a part of
--- one entry more
+-- (`ShowsPrefix`); and what a fault leaves in the log file is what the lines added that were done, with at most a part
+-- of one entry more
 pub record IsRun {S : Type 0} (words : List (List ℕ)) (left : S → Option (List ℕ)) (input input' : S) (written written' : Option (List ℕ)) (files files' : Option Files) (status : ℕ) : Type 0 where
   pub given : Given (left input) files
   pub comes : ComesTo (outcome words given.seen given.input) written written' files' status

@@ -96,8 +96,8 @@ pub record Writes {T : Type 0} (text : List ℕ) (written written' : Option (Lis
   pub part : WritesPrefix written written' text
   pub cause : HasRunCause before after result
 
--- a run that was given some input: it comes to the outcome of this input, reads as the outcome says, and leaves this if a
--- fault ends it
+-- a run that was given some input: it comes to the outcome of this input, reads as the outcome says, and leaves this if
+-- a fault ends it
 pub record RunsFor {S : Type 0} (outcome_of : List ℕ → Outcome) (Left : Outcome → List ℕ → ℕ → Type 0) (left : S → Option (List ℕ)) (input input' : S) (written written' : Option (List ℕ)) (files' : Option Files) (status : ℕ) : Type 0 where
   pub given : List ℕ
   pub told : IfSome (left input) (λ bytes. bytes ≡ given)

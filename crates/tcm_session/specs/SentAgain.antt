@@ -31,8 +31,8 @@ AreAccepted session (bytes ∷ lines) = IsAccepted session (line_of bytes) × Ar
 abbrev pub log_at : List Entry → List (List ℕ) → ℕ → List Entry
 log_at log lines n = (session_after (session_over log) (take n lines)).log
 
--- lines that are answered from one log come to the same as from another: each commit is answered with the same text, and
--- the log is the same afterwards
+-- lines that are answered from one log come to the same as from another: each commit is answered with the same text,
+-- and the log is the same afterwards
 pub record ComesToSame (log log' : List Entry) (lines : List (List ℕ)) : Type 0 where
   pub answers : commit_answers (session_over log') lines ≡ commit_answers (session_over log) lines
   pub logs : (session_after (session_over log') lines).log ≡ (session_after (session_over log) lines).log
@@ -41,8 +41,8 @@ pub record ComesToSame (log log' : List Entry) (lines : List (List ℕ)) : Type 
 abbrev pub file_after : List ℕ → List Entry → List (List ℕ) → List ℕ
 file_after file log lines = lines_part file ++ entry_lines (entries_added (session_over log) lines)
 
--- a log file that a fault left while lines were answered from a log: it reads as the log after the first n lines, and the
--- lines that are sent again make of it the file that one run without a fault makes, if each commit is accepted
+-- a log file that a fault left while lines were answered from a log: it reads as the log after the first n lines, and
+-- the lines that are sent again make of it the file that one run without a fault makes, if each commit is accepted
 pub record GoesOn (log : List Entry) (lines : List (List ℕ)) (file file' : List ℕ) : Type 0 where
   pub n : ℕ
   pub reads : log_of file' ≡ Ok (log_at log lines n)

@@ -29,7 +29,8 @@ pub record StoreFailed (name : List ℕ) (added : List Entry) (files files' : Op
   pub part : ChangesFile (GainsPart (entry_lines added)) files files' name
   pub others : OthersKept files files' name
 
--- what a fault leaves of a step that is to add these entries: if memory ran out, the files are as before; the store fails only if a log file is named
+-- what a fault leaves of a step that is to add these entries: if memory ran out, the files are as before; the store
+-- fails only if a log file is named
 abbrev pub Leaves : StepFault → Option (List ℕ) → List Entry → Option Files → Option Files → ℕ → ℕ → Type 0
 Leaves fault.Memory name added files files' before after = files' ≡ files
 Leaves fault.Store None added files files' before after = ⊥
@@ -61,7 +62,8 @@ pub record Stops (f : NamedFollower) (session : SessionState) (due : List NamedF
   pub is : session' ≡ record session { followers = with_follower session.followers f.name at }
   pub between : IfSome (follower_named due f.name) (λ g. IsBetween session.log f.follower g.follower at)
 
--- what a fault leaves of the session: all as before, but if memory ran out the follower that the line hands something to may have stopped on the way
+-- what a fault leaves of the session: all as before, but if memory ran out the follower that the line hands something
+-- to may have stopped on the way
 abbrev pub StopsAny : Option NamedFollower → SessionState → List NamedFollower → SessionState → Type 0
 StopsAny None session due session' = session' ≡ session
 StopsAny (Some f) session due session' = Stops f session due session'
@@ -81,7 +83,8 @@ pub record Steps {T : Type 0} (handed : Option NamedFollower) (reply : Reply) (n
   pub fault : IfErr result (λ e. Leaves e name reply.added files files' before after)
   pub later : before ≤ after
 
--- a step that adds no entry and uses no file, and so fails only if memory runs out (of the code: no promise rests on it)
+-- a step that adds no entry and uses no file, and so fails only if memory runs out (of the code: no promise rests on
+-- it)
 pub record Alone {T : Type 0} (handed : Option NamedFollower) (reply : Reply) (session session' : SessionState) (out out' : List ℕ) (result : Result T StepFault) : Type 0 where
   pub added : reply.added ≡ []
   pub text : OnOk result (out' ≡ out ++ reply.text)
@@ -101,8 +104,8 @@ pub record Notes {T : Type 0} (entry : Entry) (name : Option (List ℕ)) (log lo
   pub fault : IfErr result (λ e. Leaves e name (entry ∷ []) files files' before after)
   pub later : before ≤ after
 
--- what a follower was handed is of the log of its session: a fork, a refusal and a bad image don't come (of the code: no
--- promise rests on it, nor on the next)
+-- what a follower was handed is of the log of its session: a fork, a refusal and a bad image don't come (of the code:
+-- no promise rests on it, nor on the next)
 abbrev pub IsOfOneLog : Result Took FollowerFault → Type 0
 IsOfOneLog (Err (follower_fault.Fork epoch held came)) = ⊥
 IsOfOneLog (Err (follower_fault.Refused epoch refusal)) = ⊥

@@ -1,4 +1,4 @@
--- What a follower took in the lines of a script, and that it shows the longest gapless prefix of it.
+-- The entries and images that a follower took in the lines of a script, and that it shows their longest gapless prefix.
 use Rattle.std.specs.Prelude.{◌≡◌, ℕ, if◌then◌else◌, List, [], ◌∷◌, ◌++◌, Option, Some, None, Result, Ok, Err}
 use Rattle.std.specs.Str.{bytes_eq}
 use Rattle.epoch_log.specs.Epochs.{entry_at}
@@ -68,7 +68,7 @@ AllShowPrefixes log lines =
     (name : List ℕ) (f : NamedFollower) → follower_named session.followers name ≡ Some f
     → ShowsPrefix session.log (taken_in (session_over log) name lines nothing_taken) f.follower
 
--- so it is after each front of some lines
+-- so it is after each of some lines: after each prefix of them
 abbrev pub FollowersShow : List Entry → List (List ℕ) → Type 0
 FollowersShow log lines = (front rest : List (List ℕ)) → lines ≡ front ++ rest → AllShowPrefixes log front
 

@@ -24,7 +24,7 @@ pub struct NamedFollower {
     pub follower: Follower,
 }
 
-/// The place of the first follower with this name. Returns `None` if and only if there is none.
+/// The position of the first follower with this name. Returns `None` if and only if there is none.
 pub fn place_of(followers: &[NamedFollower], name: &Name) -> Option<usize>
     ensures { result ≡ position (λ f. bytes_eq f.name name.now) followers.now }
 {

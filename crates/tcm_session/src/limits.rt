@@ -1,4 +1,4 @@
-//! The limit of a file, and how often an image is kept.
+//! The limit of a file, the text for a file that is past it, and how often an image is kept.
 
 /// The most bytes of a file.
 pub const FILE_LIMIT: u64 = 536_870_912;

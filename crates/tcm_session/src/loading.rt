@@ -9,10 +9,10 @@ use crate::refused_line::RefusedLine;
 use crate::session::Session;
 use cluster_terms::Memory;
 
-/// What taking over a log file comes to.
+/// The result of taking over a log file.
 #[derive(Debug, Drop)]
 pub enum Loading {
-    /// The whole lines are a log. They have this number of bytes, which may be followed by bytes that are no line.
+    /// The whole lines are a log. They have this number of bytes. Bytes after them are no line.
     Taken(usize),
     /// This line is refused.
     Refused(RefusedLine),

@@ -45,10 +45,10 @@ const USAGE: &str = "usage: tcm commit [LOG] | replay FILE.. | snapshot LOG E | 
 /// The most files of a replay.
 const MOST_FILES: usize = 64;
 
-/// The status of a run: 0 if the input was read to its end, all files were replayed, a state was printed or the answers to
-/// a generated script were counted, 1 if memory ran out, 2 for words that name no command, 3 if a line of a file is
-/// refused, 4 if the source failed, 5 if the sink failed, 6 if the store failed, 7 if a file or an epoch is absent, 8 if
-/// the input or a file is too large. `run` explains each status.
+/// The status of a run: 0 if the input was read to its end, all files were replayed, a state was printed or the answers
+/// to a generated script were counted, 1 if memory ran out, 2 for words that name no command, 3 if a line of a file is
+/// refused, 4 if the source failed, 5 if the sink failed, 6 if the store failed, 7 if a file or an epoch is absent, 8
+/// if the input or a file is too large. `run` explains each status.
 #[derive(Clone, Copy, Debug, PartialEq, Eq)]
 pub struct Status(pub u8);
 
@@ -534,8 +534,8 @@ fn answer_words<S: Source, K: Sink, D: Store>(
 ///   file `LOG` at epoch E, as one line. No input is read, and no file changes. The whole log is checked before E is
 ///   looked at.
 /// - `gen START N`, with a START below 2^64 and an N up to 3,000, both in decimal digits without leading zeros, answers
-///   the lines of the generated script, and prints how many of its commits were accepted and refused, the last epoch and
-///   the epoch of its follower. No input is read, and the store isn't used.
+///   the lines of the generated script, and prints how many of its commits were accepted and refused, the last epoch
+///   and the epoch of its follower. No input is read, and the store isn't used.
 /// - Other words print the usage line.
 ///
 /// No name of a file is empty.
@@ -557,23 +557,23 @@ fn answer_words<S: Source, K: Sink, D: Store>(
 ///   bytes read were printed. Only `commit`, with or without a file, gives this status.
 /// - 5: the sink failed: its count of faults rose in this run.
 /// - 6: the store failed: its count of faults rose in this run. Only words that name a file give this status.
-/// - 7: a file that is to be replayed, or whose state is to be shown, is absent, and `NO FILE` and its name were printed;
-///   or E is past the last epoch of the log, and `NO EPOCH` and the last epoch were printed.
+/// - 7: a file that is to be replayed, or whose state is to be shown, is absent, and `NO FILE` and its name were
+///   printed; or E is past the last epoch of the log, and `NO EPOCH` and the last epoch were printed.
 /// - 8: byte 536,870,913 of the input was read, and the lines that end before it were answered; or a file has more than
 ///   536,870,912 bytes, and no input was read. Then `TOO-LARGE 536870912` was printed.
 ///
 /// A run ends at its first fault. If the text for status 0, 2, 3, 7 or 8 can't be written, the status is 5, or 1 if the
 /// sink runs out of memory. With status 1, 4, 5 or 6, the printed bytes are a prefix of the output of a run without the
-/// fault, and some lines of a script are done. The file `LOG` has then its whole lines and the lines of the entries that
-/// these added, and maybe a part of one entry more; or it is as before, and no line is done. An entry whose answer is
-/// printed, or begun, stands whole in it. No other file changed. `scripts_are_sent_again` says what the same lines make
-/// of such a file.
+/// fault, and some lines of a script are done. The file `LOG` has then its whole lines and the lines of the entries
+/// that these added, and maybe a part of one entry more; or it is as before, and no line is done. An entry whose answer
+/// is printed, or begun, stands whole in it. No other file changed. `scripts_are_sent_again` says what the same lines
+/// make of such a file.
 ///
 /// Cost: a run keeps in memory the log, the image of each 256th epoch, the metadata at the last epoch and that of each
 /// follower, the file while it is loaded, and of the current line at most 16,385 bytes, with its answer. A query of an
 /// earlier epoch, and its image for a follower, cost as much as metadata made from the image before it, and committing
-/// at most 255 commands again. A replay keeps its follower and one file.
-/// `gen` answers up to 60,101 lines, and one for each epoch, and keeps their session.
+/// at most 255 commands again. A replay keeps its follower and one file. `gen` answers up to 60,101 lines, and one more
+/// for each epoch that its rounds commit, and keeps their session.
 pub fn run<S: Source, K: Sink, D: Store>(
     alloc: Global,
     words: &[String],
@@ -605,7 +605,7 @@ pub fn run<S: Source, K: Sink, D: Store>(
 }
 
 /// Runs the program, as `run` does, over objects that never fail. The status, the printed bytes and the files are those
-/// of the outcome, unless the status is 1: memory ran out.
+/// of the outcome, unless the status is 1: memory ran out. Then they are as after a fault of `run`.
 pub fn run_surely(
     alloc: Global,
     words: &[String],
@@ -613,8 +613,10 @@ pub fn run_surely(
     out: &mut SureSink,
     store: &mut SureStore,
 ) -> Status
-    ensures { (result.0 ≡ 1) ⊎ ComesSurely (outcome (map string_bytes words.now) (λ _. store.old) input.old.bytes)
+    ensures surely { (result.0 ≡ 1) ⊎ ComesSurely (outcome (map string_bytes words.now) (λ _. store.old) input.old.bytes)
         out.old out.new store.new result.0 }
+    ensures outcome { IsRun (map string_bytes words.now) (λ source. Some source.bytes) input.old input.new
+        (Some out.old) (Some out.new) (Some store.old) (Some store.new) result.0 }
 {
     run(alloc, words, input, out, store)
 }

@@ -84,8 +84,8 @@ fn read_past<S: Source>(input: &mut S) -> Result<ReadEnd, RunFault>
 }
 
 /// Reads a script to its end or up to the limit. Answers each line that a line feed ends before it reads on, and keeps
-/// the rest in `begun`. At a fault, some of the lines that end among the bytes read are done; at a fault of the source, all
-/// of them.
+/// the rest in `begun`. At a fault, some of the lines that end among the bytes read are done; at a fault of the source,
+/// all of them.
 pub fn read_script<S: Source, K: Sink, D: Store>(
     alloc: Global,
     session: &mut Session,

@@ -10,8 +10,9 @@ use std::alloc::Global;
 use transformations::{BadImage, Entry, Refusal};
 use wire_json::entry_line;
 
-/// Why a line of a file is refused. For a log file, `Line`, `NotEntry`, `Epoch`, `Id` and `Command` are looked for in this
-/// order; for a file that is replayed, `Line` first, and then `Image`, `Fork` and `Command` as the follower finds them.
+/// Why a line of a file is refused. For a log file, `Line`, `NotEntry`, `Epoch`, `Id` and `Command` are looked for in
+/// this order; for a file that is replayed, `Line` first, and then `Image`, `Fork` and `Command` as the follower finds
+/// them.
 #[derive(Debug, Drop)]
 pub enum Cause {
     /// The line breaks this rule of `read_line`, and no rule with a smaller number.
@@ -38,7 +39,7 @@ pub struct RefusedLine {
     pub cause: Cause,
 }
 
-// Adds two numbers after a label, separated by a space.
+/// Adds two numbers after a label, separated by a space.
 fn numbers_text(label: &[u8], first: u64, second: u64, out: &mut ByteText) -> Result<(), Memory>
     ensures { OnOk result (out.new ≡ out.old ++ (label.now ++ decimal first ++ codes " " ++ decimal second)) }
 {
@@ -46,7 +47,7 @@ fn numbers_text(label: &[u8], first: u64, second: u64, out: &mut ByteText) -> Re
     labelled(b" ", &second, out)
 }
 
-// Adds the text of a cause.
+/// Adds the text of a cause.
 fn cause_text(cause: &Cause, out: &mut ByteText) -> Result<(), Memory>
     ensures { OnOk result (out.new ≡ out.old ++ spec.cause_text cause.now) }
 {
@@ -65,7 +66,7 @@ fn cause_text(cause: &Cause, out: &mut ByteText) -> Result<(), Memory>
     }
 }
 
-// Adds the line of an entry.
+/// Adds the line of an entry.
 fn add_entry(alloc: Global, entry: &Entry, out: &mut ByteText) -> Result<(), Memory>
     ensures { OnOk result (out.new ≡ out.old ++ wire.entry_line entry.now) }
 {
@@ -73,7 +74,7 @@ fn add_entry(alloc: Global, entry: &Entry, out: &mut ByteText) -> Result<(), Mem
     out.extend(line.as_slice())
 }
 
-// Adds the lines of the entries of a fork.
+/// Adds the lines of the entries of a fork.
 fn fork_lines(alloc: Global, cause: &Cause, out: &mut ByteText) -> Result<(), Memory>
     ensures { OnOk result (out.new ≡ out.old ++ spec.fork_lines cause.now) }
 {
@@ -86,7 +87,7 @@ fn fork_lines(alloc: Global, cause: &Cause, out: &mut ByteText) -> Result<(), Me
     }
 }
 
-// Adds the numbers of a refused line, and its cause.
+/// Adds the numbers of a refused line, and its cause.
 fn head_text(refused: &RefusedLine, out: &mut ByteText) -> Result<(), Memory>
     ensures { OnOk result (out.new ≡ out.old ++ spec.refused_head refused.now) }
 {

@@ -18,8 +18,8 @@ use cluster_terms::ByteText;
 use std::alloc::Global;
 use tcm_edges::{Sink, Store, write_all};
 
-/// Answers a line, and writes the answer to `out` at once. At a fault, a front of the answer may be written, and a front of
-/// the line of its entry may be in the file: all of this line, if any of the answer is written.
+/// Answers a line, and writes the answer to `out` at once. At a fault, a prefix of the answer may be written, and a
+/// prefix of the line of its entry may be in the file: all of this line, if any byte of the answer is written.
 pub fn answer_line<K: Sink, D: Store>(
     alloc: Global,
     session: &mut Session,

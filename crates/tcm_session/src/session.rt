@@ -156,11 +156,10 @@ impl Session {
     /// before the commit takes effect; from then on the commit can't fail. Without a name, the store isn't used.
     ///
     /// After a fault, the log is unchanged, no follower was made, and `out` still begins with its old content. Fails
-    /// with
-    /// `Memory` if memory runs out; then the files are unchanged, and so is each follower, but for the one that the
-    /// line hands something to: it follows the log, no further back than before and no further on than the line would
-    /// have moved it. Fails with `Store` only if `log` names a file, the line adds an entry, and the store failed in
-    /// this step; then the followers are unchanged, and the file may have gained the entry's line or a front of it.
+    /// with `Memory` if memory runs out; then the files are unchanged, and so is each follower, but for the one that
+    /// the line hands something to: it follows the log, no further back than before and no further on than the line
+    /// would have moved it. Fails with `Store` only if `log` names a file, the line adds an entry, and the store failed
+    /// in this step; then the followers are unchanged, and the file may have gained the entry's line or a prefix of it.
     ///
     /// Cost: a commit costs one look-up of its id, and the cost of `Metadata::admit`. The first one with a new id after
     /// each 256th epoch also copies the image. A line on a follower costs a comparison with the names of the followers,

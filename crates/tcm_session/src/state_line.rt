@@ -47,8 +47,8 @@ fn at_epoch(alloc: Global, session: &Session, epoch: u64) -> Result<Ending, Memo
     Ok(Ending { status: 0, text })
 }
 
-/// Takes over the log in a file, and returns the end at its state at an epoch, or at the first line that is refused. Fails
-/// only if memory runs out.
+/// Takes over the log in a file, and returns the end at its state at an epoch, or at the first line that is refused.
+/// Fails only if memory runs out.
 fn taken_over(
     alloc: Global,
     session: &mut Session,
@@ -85,11 +85,11 @@ fn once_loaded(alloc: Global, name: &str, epoch: u64, loaded: Loaded) -> Result<
     }
 }
 
-/// Loads the log in a file, and returns the end at its state at an epoch: its line; or the first line of the log that is
-/// refused, the file that is absent or too large, or the last epoch, if the epoch is greater. No file changes.
+/// Loads the log in a file, and returns the end at its state at an epoch: its line; or the first line of the log that
+/// is refused, the file that is absent or too large, or the last epoch, if the epoch is greater. No file changes.
 ///
-/// Cost: the whole log is taken over. The state at an epoch before the last costs as `Snapshots::state_at` says, with at
-/// most 255 commands.
+/// Cost: the whole log is taken over. The state at an epoch before the last costs as `Snapshots::state_at` says, with
+/// at most 255 commands.
 pub fn show_state<D: Store>(
     alloc: Global,
     name: &str,

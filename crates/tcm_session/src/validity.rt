@@ -52,12 +52,12 @@ pub fn shown_quorums_meet()
         (shown (session_over log) lines) }
 {}
 
-/// A follower shows the longest gapless prefix of what it took. Take the lines of a script up to any of them: after
-/// these lines each follower is at a state of the log. The epoch of this state is reached without a gap, from epoch 0
-/// or from an image that the follower took, by entries that it took; no later epoch is reached so. What is answered
-/// `FULL` isn't taken.
+/// Each follower shows the longest prefix without a gap of what it took. Take the lines of a script up to any of them:
+/// after these lines each follower is at a state of the log. The epoch of this state is reached without a gap, from
+/// epoch 0 or from an image that the follower took, by entries that it took; no later epoch is reached so. An entry
+/// that is answered `FULL` isn't taken.
 ///
-/// What is answered `AT` and an epoch leaves the follower at this epoch. A query of a follower is answered from the
+/// After the answer `AT` and an epoch, the follower is at this epoch. A query of a follower is answered from the
 /// state of the log at the follower's epoch.
 ///
 /// The first line is answered from the log in a file; a file without lines is the empty log.
@@ -71,12 +71,12 @@ pub fn followers_show_prefixes()
 {}
 
 /// A script that is sent again. Take the lines of a script, answered from a log, with `OK` and an epoch to each commit,
-/// and the log as it is after any number of these lines. All the lines, answered from there, come to the same: each commit
-/// is answered with the same text, and the log is the same afterwards.
+/// and the log as it is after any number of these lines. All the lines, answered from there, come to the same: each
+/// commit is answered with the same text, and the log is the same afterwards.
 ///
-/// What a fault leaves of the log's file reads as the log after some of the lines, and the same lines make of it the file
-/// that one run without a fault makes. So a run that a fault ended may be repeated. A commit that was refused is decided
-/// anew.
+/// The log file that a fault leaves reads as the log after some of the lines. The same lines, sent again, make of it
+/// the file that one run without a fault makes. So a run that a fault ended may be repeated. A commit that was refused
+/// is decided anew.
 pub fn scripts_are_sent_again()
     ensures log { (log : List Entry) (lines : List (List ℕ)) (n : ℕ) → AreAccepted (session_over log) lines
         → ComesToSame log (log_at log lines n) lines }

@@ -1,3 +1,4 @@
+mod ApartLemmas
 pub mod BoundLemmas
 pub mod ChosenRows
 pub mod DistinctLemmas

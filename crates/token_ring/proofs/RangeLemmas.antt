@@ -81,7 +81,7 @@ not_past (At right) (Some left) t apart upto = grind (arith, ints)
 not_past (At right) None t apart upto = absurd (false≢true apart)
 not_past Max left t apart upto = absurd (false≢true apart)
 
-none_later : (right : RightEnd) (ranges : List TokenRange) (t : ℤ) → AllByRecursion (λ s. ends_before right s.left ≡ true) ranges → int_lt (last_token right) t ≡ false → have_token ranges t ≡ false
+pub none_later : (right : RightEnd) (ranges : List TokenRange) (t : ℤ) → AllByRecursion (λ s. ends_before right s.left ≡ true) ranges → int_lt (last_token right) t ≡ false → have_token ranges t ≡ false
 none_later right [] t apart upto = refl
 none_later right (s ∷ ranges) t apart upto =
     let here : is_past s.left t ≡ false = not_past right s.left t apart.0 upto in

@@ -1,4 +1,5 @@
 -- The ranges of chosen rows.
+-- Of the code: no promise rests on these.
 use Rattle.std.specs.Prelude.{Bool, true, false, if◌then◌else◌, List, [], ◌∷◌, ◌++◌, map, Option, Some, None}
 use Rattle.std.specs.Ordering.{int_eq}
 use Rattle.cluster_terms.specs.Arc.{greatest_token}

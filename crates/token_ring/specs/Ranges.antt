@@ -1,5 +1,5 @@
 -- Ranges of tokens, which exclude the left end and include the right end.
-use Rattle.std.specs.Prelude.{◌≡◌, Bool, true, false, ◌&&◌, ◌||◌, ℤ, int_lt, List, option_map, find, Option, Some, None}
+use Rattle.std.specs.Prelude.{◌≡◌, Bool, true, false, ◌&&◌, ◌||◌, ℤ, int_le, int_lt, List, option_map, find, Option, Some, None}
 use Rattle.std.specs.List.{list_any, AllByRecursion, AllPairs, zip}
 use Rattle.std.specs.Ordering.{int_eq}
 use Rattle.std.specs.Set.{is_member}
@@ -25,6 +25,11 @@ HaveTokens test ranges = (t : ℤ) → IsToken t → have_token ranges t ≡ tes
 abbrev pub ends_before : RightEnd → Option ℤ → Bool
 ends_before (At right) (Some left) = int_lt right left
 ends_before _ _ = false
+
+-- whether a range with this right end has no token past this left end
+abbrev pub ends_by : RightEnd → Option ℤ → Bool
+ends_by (At right) (Some left) = int_le right left
+ends_by _ _ = false
 
 -- whether a right end is Max or a token below the greatest token
 abbrev pub ends_open : RightEnd → Bool

@@ -35,8 +35,8 @@ module _ (g : Group) (w s : ℕ) where
   takes ahead [] v = false
   takes ahead (n ∷ ns) v = takes_at ahead n v || takes (ahead ++ n ∷ []) ns v
 
-  -- while not all are found: the racks that were seen are those of the nodes ahead, each further node of a rack has used
-  -- a repeat, and where one was passed over no repeat is left
+  -- while not all are found: the racks that were seen are those of the nodes ahead, each further node of a rack has
+  -- used a repeat, and where one was passed over no repeat is left
   record Going (ahead : List ℕ) (found : Found) : Type 0 where
     racks : (r : List ℕ) → is_member bytes_eq found.racks r ≡ has_rack g ahead r
     repeats : found.repeats ≡ s - (node_count g ahead - rack_count g ahead)

@@ -68,8 +68,8 @@ impl<'a> CountedRing<'a> {
     /// Counts the nodes and the racks that each datacenter named by the factors has in the ring.
     ///
     /// Costs one pass over the ring for each named datacenter. The pass ends once it has met as many nodes and as many
-    /// racks of the datacenter as there are to be replicas. A token that it meets costs a look-up in the directory and, in
-    /// its own datacenter, a look at no more nodes and racks than there are to be replicas.
+    /// racks of the datacenter as there are to be replicas. A token that it meets costs a look-up in the directory and,
+    /// in its own datacenter, a look at no more nodes and racks than there are to be replicas.
     pub fn new(
         alloc: Global,
         ring: &'a Ring,

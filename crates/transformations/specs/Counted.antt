@@ -1,4 +1,5 @@
--- Groups of replicas. The nodes with tokens are counted once for all groups.
+-- Groups of replicas, if the nodes with tokens are counted once for all groups.
+-- Of the code: no promise rests on these.
 use Rattle.std.specs.Prelude.{ℕ, Bool, ◌&&◌, List, filter, length, is_some, nat_eq, nat_le, ◌≡◌}
 use Rattle.std.specs.List.{list_any}
 use Rattle.std.specs.Set.{distinct_count}

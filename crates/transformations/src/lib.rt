@@ -2,6 +2,7 @@
 #![tactic(auto)]
 
 pub mod command;
+mod cut_order;
 pub mod entry;
 mod fitting;
 pub mod image;

@@ -172,8 +172,8 @@ fn is_taken(image: &Image, token: Token) -> bool
     finds(image.tokens.as_slice(), token) || is_brought(image.sequences.as_slice(), token)
 }
 
-/// `TokenTaken` with the first of these tokens that is taken. For k tokens, the cost is k binary searches in the pairs of
-/// the ring, and k passes over the pairs that movements bring.
+/// `TokenTaken` with the first of these tokens that is taken. For k tokens, the cost is k binary searches in the pairs
+/// of the ring, and k passes over the pairs that movements bring.
 fn token_taken(image: &Image, tokens: &[Token]) -> Option<Refusal>
     requires { IsSound image.now }
     ensures { result ≡ token_taken image.now tokens.now }
@@ -287,8 +287,8 @@ fn register(image: &Image, name: &Name) -> Option<Refusal>
     name_taken(image, name).or_else(|| nodes_full(image))
 }
 
-/// The first refusal of `Register`, as `early_refusal` gives it, for a caller that has looked up its name: `owner` is the
-/// node that has this name, if there is one.
+/// The first refusal of `Register`, as `early_refusal` gives it, for a caller that has looked up its name: `owner` is
+/// the node that has this name, if there is one.
 pub fn register_refusal(image: &Image, owner: Option<NodeId>) -> Option<Refusal>
     ensures { result ≡ first_of (option_map Refusal.NameTaken owner ∷ nodes_full image.now ∷ []) }
 {
@@ -429,18 +429,18 @@ fn prepare_replace(image: &Image, node: NodeId, gone: NodeId) -> Result<Option<R
 }
 
 /// The first refusal of a command in an image, apart from `Locked`, which comes last. Returns `None` if there is no
-/// such refusal. The refusals of a command have an order, and those after the first are not looked for.
+/// such refusal. The refusals of a command have an order, and those after the first are not looked for. The image is
+/// sound, so its nodes and its tokens ascend.
 ///
-/// `Err` means that memory ran out for counting tokens or nodes or for copying the names of a refusal, or that a node
-/// that is to be moved has 2^32 tokens or more.
+/// `Err` means that memory ran out while tokens or nodes were counted, or while the names of a refusal were copied. It
+/// also stands for the move of a node with 2^32 tokens or more, but a sound image has no such node.
 ///
-/// The image is sound, so its nodes and its tokens ascend.
-///
-/// Cost: a search for a node is a binary search, and one for a keyspace a pass over the rows. For k tokens of a command,
-/// the search for a token that is taken is k binary searches in the ring, and k passes over the pairs that movements
-/// bring. `PrepareLeave` sorts the nodes with
-/// tokens once. Each of them costs one pass over the rows for each keyspace that names the datacenter of the node that
-/// is to leave.
+/// Cost: a node is found by a binary search, a name and a keyspace by a pass over the rows, and a movement by a pass
+/// over the movements. The state of a node and the number of its tokens cost a pass over the ring. `PrepareReplace`
+/// compares the places of its nodes by two passes over the rows. For k tokens of a command, the search for a token that
+/// is taken is k binary searches in the ring, and k passes over the pairs that movements bring. All tokens are sorted
+/// and counted only if there may be more than 16,384. `PrepareLeave` sorts the nodes with tokens once. Each of them
+/// costs one pass over the rows for each keyspace that names the datacenter of the node that is to leave.
 #[tactic(auto, unfolding(crate::specs::Refusals::early_refusal_of))]
 pub fn early_refusal(
     alloc: Global,

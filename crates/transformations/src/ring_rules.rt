@@ -145,8 +145,8 @@ pub(crate) fn name_falls(image: &Image) -> Option<i128>
     first_fall(image.keyspaces.as_slice()).map(|found| found.0 as i128)
 }
 
-/// The number of different tokens in the ring and among the pairs that movements put in, if there are too many. They are
-/// sorted and counted only if the pairs are too many.
+/// The number of different tokens in the ring and among the pairs that movements put in, if there are too many. They
+/// are sorted and counted only if the pairs are too many.
 #[tactic(auto, using(crate::proofs::commands::RefusalLemmas::few_tokens))]
 pub(crate) fn too_many_tokens(alloc: Global, image: &Image) -> Result<Option<i128>, Memory>
     ensures { IfOk result (λ found. found ≡ rule_17 image.now) }

@@ -6,25 +6,35 @@ use std::cmp::Ordering;
 /// The kind of a movement (CEP-21's multi-step operations).
 #[derive(Clone, Copy, Debug, PartialEq, Eq)]
 pub enum Kind {
+    /// The node gets its first tokens.
     Join,
+    /// The node exchanges its only token for another one.
     Move,
+    /// The node gives up all its tokens, and leaves the cluster.
     Leave,
+    /// The node takes over all tokens of another node, which leaves the cluster.
     Replace,
 }
 
 /// The phase of a movement: how far it has come.
 #[derive(Clone, Copy, Debug, PartialEq, Eq)]
 pub enum Phase {
+    /// Reads and writes don't see the movement yet.
     Prepared,
+    /// Writes go by the ring before the movement and by the ring after it. Reads don't see it yet.
     Started,
+    /// Reads see the movement as done. Writes still go by both rings.
     Mid,
 }
 
 /// The goal of a step: to start a movement, to bring it half way, or to finish it.
 #[derive(Clone, Copy, Debug, PartialEq, Eq)]
 pub enum Goal {
+    /// From `Prepared` to `Started`.
     Start,
+    /// From `Started` to `Mid`.
     Mid,
+    /// From `Mid` to the end of the movement.
     Finish,
 }
 

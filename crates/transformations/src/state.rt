@@ -76,7 +76,8 @@ pub(crate) fn row_of(nodes: &[NodeRow], n: NodeId) -> Option<&NodeRow>
 }
 
 /// The state of the node of a row: `Left` if the row says so; otherwise the state for its movement, if it has started;
-/// otherwise `Joined` if it has a token in the ring, and `Registered` if it has none.
+/// otherwise `Joined` if it has a token in the ring, and `Registered` if it has none. The cost is a pass over the
+/// movements, and one over the ring.
 #[tactic(auto, unfolding(crate::specs::States::state_of_row))]
 pub fn state_of(image: &Image, row: &NodeRow) -> NodeState
     ensures { result ≡ state_of_row image.now row.now }
@@ -91,7 +92,8 @@ pub fn state_of(image: &Image, row: &NodeRow) -> NodeState
     }
 }
 
-/// The state of a node. Returns `None` if and only if the node isn't registered.
+/// The state of a node. Returns `None` if and only if the node isn't registered. The cost is a pass over the nodes, and
+/// that of `state_of`.
 pub fn node_state(image: &Image, n: NodeId) -> Option<NodeState>
     ensures { result ≡ node_state image.now n }
 {

@@ -7,7 +7,8 @@ use crate::sequence::{Goal, Kind, Phase, SeqRow};
 use crate::state::has_pair;
 use cluster_terms::NodeId;
 
-/// The movement of a node. Returns `None` if and only if the node has no movement.
+/// The movement of a node. Returns `None` if and only if the node has no movement. The cost is a pass over the
+/// movements.
 pub fn movement_of(image: &Image, n: NodeId) -> Option<&SeqRow>
     ensures { option_copied result ≡ movement_of image.now n }
 {

@@ -71,9 +71,9 @@ pub fn rows_stand_for_tokens()
     ensures ranges { (image : Image) → IsSound image → RowsStandInRanges image }
 {}
 
-/// What a movement gains and loses at a token doesn't change once it is prepared. If a command is accepted in a valid
-/// image, each movement that goes on keeps its deltas, at each token and under each keyspace. The same holds of a list
-/// of accepted commands, if the movement lives through them and there are epochs left for them.
+/// The nodes that a movement gains and loses at a token don't change once it is prepared. If a command is accepted in a
+/// valid image, each movement that goes on keeps its deltas, at each token and under each keyspace. The same holds of a
+/// list of accepted commands, if the movement lives through them and there are epochs left for them.
 ///
 /// In a sound image, a movement gains and loses nothing at tokens outside its ranges. In every image, the placement
 /// without a movement and the placement with it are the same at all tokens of a row between cuts.
@@ -162,8 +162,8 @@ pub fn locked_ranges_overlap()
         → refusal_of image c ≡ Some (Locked n right) → IsLockedOf image c n right }
 {}
 
-/// An image is sound if and only if it breaks none of the rules but the last one, and valid if and only if it breaks none
-/// of the rules.
+/// An image is sound if and only if it breaks none of the rules but the last one, and valid if and only if it breaks
+/// none of the rules.
 pub fn valid_images_break_no_rule()
     ensures sound { (image : Image) → IsSound image ↔ broken_rule image ≡ None }
     ensures valid { (image : Image) → IsValid image ↔ bad_of image ≡ None }

@@ -40,7 +40,7 @@ pub fn command_value(alloc: Global, command: &Command) -> Result<Value, Memory>
     }
 }
 
-// The object of `keyspace`.
+/// The object of `keyspace`.
 fn keyspace_value(alloc: Global, name: &Name, replication: &Replication) -> Result<Value, Memory>
     ensures { IfOk result (λ value. view value ≡ spec.keyspace_data name.now replication.now) }
 {
@@ -60,7 +60,7 @@ pub fn replication_value(alloc: Global, replication: &Replication) -> Result<Val
     Ok(value)
 }
 
-// The object of a command whose only argument is a node.
+/// The object of a command whose only argument is a node.
 fn node_value(alloc: Global, word: &str, node: NodeId) -> Result<Value, Memory>
     ensures { IfOk result (λ value. view value ≡ spec.node_data word.now node) }
 {
@@ -68,7 +68,7 @@ fn node_value(alloc: Global, word: &str, node: NodeId) -> Result<Value, Memory>
     Ok(value)
 }
 
-// The object of a command with a node and tokens.
+/// The object of a command with a node and tokens.
 fn tokens_value(
     alloc: Global,
     word: &str,
@@ -82,7 +82,7 @@ fn tokens_value(
     Ok(value)
 }
 
-// The object of `prepare-replace`.
+/// The object of `prepare-replace`.
 fn replace_value(alloc: Global, node: NodeId, gone: NodeId) -> Result<Value, Memory>
     ensures { IfOk result (λ value. view value ≡ spec.replace_data node gone) }
 {
@@ -90,7 +90,7 @@ fn replace_value(alloc: Global, node: NodeId, gone: NodeId) -> Result<Value, Mem
     Ok(value)
 }
 
-// The word of a step, such as `start-join`.
+/// The word of a step, such as `start-join`.
 fn step_word(goal: Goal, kind: Kind) -> &'static str
     ensures { result.now ≡ spec.goal_word goal ++ spec.movement_word kind }
 {

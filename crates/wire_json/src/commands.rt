@@ -23,7 +23,7 @@ pub fn command_of(alloc: Global, value: &Value) -> Result<Option<Command>, Memor
     }
 }
 
-// The command in a value whose `kind` is this word.
+/// The command in a value whose `kind` is this word.
 fn command_named(alloc: Global, word: &str, value: &Value) -> Result<Option<Command>, Memory>
     ensures { IfOk result (λ found. found ≡ spec.command_named spec.kinds word.now (view value.now)) }
 {
@@ -39,6 +39,7 @@ fn command_named(alloc: Global, word: &str, value: &Value) -> Result<Option<Comm
     }
 }
 
+/// Reads `register` from an object with the keys `dc`, `kind`, `name` and `rack`. Returns `None` for any other value.
 #[tactic(auto, unfolding(crate::specs::Kinds::register_of))]
 fn register_of(alloc: Global, value: &Value) -> Result<Option<Command>, Memory>
     ensures { IfOk result (λ found. found ≡ spec.command_by spec.register (view value.now)) }
@@ -58,6 +59,7 @@ fn register_of(alloc: Global, value: &Value) -> Result<Option<Command>, Memory>
     Ok(Some(Command::Register { name, dc, rack }))
 }
 
+/// Reads `unsafe-join` from an object with the keys `kind`, `node` and `tokens`. Returns `None` for any other value.
 #[tactic(auto, unfolding(crate::specs::Kinds::unsafe_join_of))]
 fn unsafe_join_of(alloc: Global, value: &Value) -> Result<Option<Command>, Memory>
     ensures { IfOk result (λ found. found ≡ spec.command_by spec.unsafe_join (view value.now)) }
@@ -72,6 +74,7 @@ fn unsafe_join_of(alloc: Global, value: &Value) -> Result<Option<Command>, Memor
     Ok(tokens.map(|tokens| Command::UnsafeJoin { node, tokens }))
 }
 
+/// Reads `prepare-join` from an object with the keys `kind`, `node` and `tokens`. Returns `None` for any other value.
 #[tactic(auto, unfolding(crate::specs::Kinds::prepare_join_of))]
 fn prepare_join_of(alloc: Global, value: &Value) -> Result<Option<Command>, Memory>
     ensures { IfOk result (λ found. found ≡ spec.command_by spec.prepare_join (view value.now)) }
@@ -86,6 +89,7 @@ fn prepare_join_of(alloc: Global, value: &Value) -> Result<Option<Command>, Memo
     Ok(tokens.map(|tokens| Command::PrepareJoin { node, tokens }))
 }
 
+/// Reads `keyspace` from an object with the keys `kind`, `name` and `replication`. Returns `None` for any other value.
 #[tactic(auto, unfolding(crate::specs::Kinds::set_keyspace_of))]
 fn set_keyspace_of(alloc: Global, value: &Value) -> Result<Option<Command>, Memory>
     ensures { IfOk result (λ found. found ≡ spec.command_by spec.keyspace (view value.now)) }
@@ -100,6 +104,7 @@ fn set_keyspace_of(alloc: Global, value: &Value) -> Result<Option<Command>, Memo
     Ok(replication.map(|replication| Command::Keyspace { name, replication }))
 }
 
+/// Reads `drop-keyspace` from an object with the keys `kind` and `name`. Returns `None` for any other value.
 #[tactic(auto, unfolding(crate::specs::Kinds::drop_keyspace_of))]
 fn drop_keyspace_of(alloc: Global, value: &Value) -> Result<Option<Command>, Memory>
     ensures { IfOk result (λ found. found ≡ spec.command_by spec.drop_keyspace (view value.now)) }
@@ -111,6 +116,7 @@ fn drop_keyspace_of(alloc: Global, value: &Value) -> Result<Option<Command>, Mem
     Ok(name.map(|name| Command::DropKeyspace { name }))
 }
 
+/// Reads `prepare-move` from an object with the keys `kind`, `node` and `token`. Returns `None` for any other value.
 #[tactic(auto, unfolding(crate::specs::Kinds::prepare_move_of))]
 fn prepare_move_of(value: &Value) -> Option<Command>
     ensures { result ≡ spec.command_by spec.prepare_move (view value.now) }
@@ -123,6 +129,7 @@ fn prepare_move_of(value: &Value) -> Option<Command>
     Some(Command::PrepareMove { node, token })
 }
 
+/// Reads `prepare-replace` from an object with the keys `gone`, `kind` and `node`. Returns `None` for any other value.
 #[tactic(auto, unfolding(crate::specs::Kinds::prepare_replace_of))]
 fn prepare_replace_of(value: &Value) -> Option<Command>
     ensures { result ≡ spec.command_by spec.prepare_replace (view value.now) }
@@ -135,14 +142,14 @@ fn prepare_replace_of(value: &Value) -> Option<Command>
     Some(Command::PrepareReplace { node, gone })
 }
 
-// A step of the movement of a node.
+/// A step of the movement of a node.
 fn step(goal: Goal, kind: Kind, node: NodeId) -> Option<Command>
     ensures { result ≡ Some (Step goal kind node) }
 {
     Some(Command::Step { goal, kind, node })
 }
 
-// The command with this word and this node, if its only argument is a node.
+/// The command with this word and this node, if its only argument is a node.
 fn command_on(word: &str, node: NodeId) -> Option<Command>
     ensures { result ≡ spec.command_on word.now node }
 {
@@ -166,7 +173,7 @@ fn command_on(word: &str, node: NodeId) -> Option<Command>
     }
 }
 
-// Reads a command whose only argument is a node.
+/// Reads a command whose only argument is a node.
 #[tactic(auto, using(crate::proofs::KindsLemmas::no_node_command, crate::proofs::KindsLemmas::node_command))]
 fn node_command_of(word: &str, value: &Value) -> Option<Command>
     ensures { result ≡ spec.command_named spec.node_kinds word.now (view value.now) }

@@ -78,7 +78,7 @@ pub fn each_at<T: Form + Drop>(
     }
 }
 
-// The items as JSON values.
+/// The items as JSON values.
 fn values_of<T: Written>(alloc: Global, list: &SmallList<T>) -> Result<Vec<Value>, Memory>
     ensures { IfOk result (λ values. items_view values.items ≡ list_items T.data_of list.now) }
 {

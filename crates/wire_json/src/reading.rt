@@ -36,8 +36,8 @@ const MOST_EPOCHS: u64 = 65_536;
 ///    tokens has 1 to 256 tokens that ascend.
 /// 6. `snapshot` is an object with exactly the keys `epoch`, `keyspaces`, `next`, `nodes`, `sequences` and `tokens`:
 ///    `epoch` is a whole number below 2^64, `next` a whole number below 2^32, and the others are lists of any length.
-///    Their items have exactly the keys of their kind, with values as in rule 5; a pair is a list of a token and a node.
-///    An image that is read needn't be valid.
+///    Their items have exactly the keys of their kind, with values as in rule 5; a pair is a list of a token and a
+///    node. An image that is read needn't be valid.
 ///
 /// Fails with `Memory` if memory runs out. The cost is a pass over the bytes and over the value.
 pub fn read_line(alloc: Global, bytes: &[u8]) -> Result<Line, ReadLineFault>
@@ -53,7 +53,7 @@ pub fn read_line(alloc: Global, bytes: &[u8]) -> Result<Line, ReadLineFault>
     line_in(alloc, &value)
 }
 
-// What a JSON value says: rules 3 to 6.
+/// What a JSON value says: rules 3 to 6.
 #[tactic(auto, using(crate::proofs::LineLemmas::gives_entry), unfolding(crate::specs::Reading::line_in))]
 fn line_in(alloc: Global, value: &Value) -> Result<Line, ReadLineFault>
     ensures { spec.Gives (λ line. line) result (spec.line_in (view value.now)) }
@@ -64,7 +64,7 @@ fn line_in(alloc: Global, value: &Value) -> Result<Line, ReadLineFault>
     entry_of(alloc, value).map(Line::Entry)
 }
 
-// The image of a snapshot line: rule 6.
+/// The image of a snapshot line: rule 6.
 fn image_of_line(alloc: Global, value: &Value) -> Result<Line, ReadLineFault>
     ensures { spec.Gives (λ line. line) result (spec.image_of_line (view value.now)) }
 {
@@ -74,7 +74,7 @@ fn image_of_line(alloc: Global, value: &Value) -> Result<Line, ReadLineFault>
     }
 }
 
-// The JSON value in the bytes: rule 2.
+/// The JSON value in the bytes: rule 2.
 #[tactic(auto, using(crate::proofs::ReadingLemmas::value_there, crate::proofs::ReadingLemmas::no_value))]
 fn value_of(alloc: Global, bytes: &[u8]) -> Result<Value, ReadLineFault>
     ensures { spec.Gives view result (spec.found 2 (spec.value_of bytes.now)) }
@@ -86,7 +86,7 @@ fn value_of(alloc: Global, bytes: &[u8]) -> Result<Value, ReadLineFault>
     }
 }
 
-// The entry in a JSON value: rules 3 to 5.
+/// The entry in a JSON value: rules 3 to 5.
 #[tactic(auto, unfolding(crate::specs::Reading::entry_of))]
 fn entry_of(alloc: Global, value: &Value) -> Result<Entry, ReadLineFault>
     ensures { spec.Gives (λ entry. entry) result (spec.entry_of (view value.now)) }
@@ -106,14 +106,14 @@ fn entry_of(alloc: Global, value: &Value) -> Result<Entry, ReadLineFault>
     }
 }
 
-// The epoch at a key: a whole number from 1 to 65,536.
+/// The epoch at a key: a whole number from 1 to 65,536.
 fn epoch_at(value: &Value, key: &str) -> Option<u64>
     ensures { result ≡ spec.epoch_at key.now (view value.now) }
 {
     number_at(value, key).filter(|epoch| (1..=MOST_EPOCHS).contains(epoch))
 }
 
-// The command at a key, or `None` if there is no valid command.
+/// The command at a key, or `None` if there is no valid command.
 fn command_at(alloc: Global, value: &Value, key: &str) -> Result<Option<Command>, Memory>
     ensures { IfOk result (λ found. found ≡ command_at key.now (view value.now)) }
 {

@@ -21,7 +21,7 @@ pub fn snapshot_value(alloc: Global, image: &Image) -> Result<Value, Memory>
     Ok(value)
 }
 
-// The JSON object of an image.
+/// The JSON object of an image.
 fn image_value(alloc: Global, image: &Image) -> Result<Value, Memory>
     ensures { IfOk result (λ value. view value ≡ spec.image_data image.now) }
 {
@@ -87,7 +87,7 @@ impl Written for SeqRow {
     }
 }
 
-// The word of the kind of a movement.
+/// The word of the kind of a movement.
 fn kind_word(kind: Kind) -> &'static str
     ensures { result.now ≡ movement_word kind }
 {
@@ -99,7 +99,7 @@ fn kind_word(kind: Kind) -> &'static str
     }
 }
 
-// The word of a phase.
+/// The word of a phase.
 fn phase_word(phase: Phase) -> &'static str
     ensures { result.now ≡ phase_word phase }
 {

@@ -13,7 +13,8 @@ use serde_json::Value;
 use std::alloc::Global;
 use transformations::{Image, KeyspaceRow, Kind, Phase, SeqRow};
 
-/// The image at a key, or `None` if no image is there. Fails only if memory runs out. The cost is a pass over the value.
+/// The image at a key, or `None` if no image is there. Fails only if memory runs out. The cost is a pass over the
+/// value.
 pub fn snapshot_at(alloc: Global, value: &Value, key: &str) -> Result<Option<Image>, Memory>
     ensures { IfOk result (λ found. found ≡ spec.snapshot_at key.now (view value.now)) }
 {
@@ -23,7 +24,7 @@ pub fn snapshot_at(alloc: Global, value: &Value, key: &str) -> Result<Option<Ima
     }
 }
 
-// The image in a value.
+/// The image in a value.
 #[tactic(auto, unfolding(crate::specs::Snapshots::image_in))]
 fn image_in(alloc: Global, value: &Value) -> Result<Option<Image>, Memory>
     ensures { IfOk result (λ found. found ≡ spec.image_in (view value.now)) }
@@ -68,7 +69,7 @@ impl Form for Pair {
     }
 }
 
-// The pair of the values in a list, which must be two.
+/// The pair of the values in a list, which must be two.
 #[tactic(auto, using(crate::proofs::PairItems::no_pair, crate::proofs::PairItems::two_values))]
 fn pair_by(values: &Vec<Value>) -> Option<Pair>
     ensures { result ≡ spec.pair_by (items_view values.now.items) }
@@ -79,7 +80,7 @@ fn pair_by(values: &Vec<Value>) -> Option<Pair>
     pair_of(&values[0], &values[1])
 }
 
-// The pair of two values, a token and a node.
+/// The pair of two values, a token and a node.
 fn pair_of(token: &Value, node: &Value) -> Option<Pair>
     ensures { result ≡ spec.pair_of (view token.now) (view node.now) }
 {
@@ -164,7 +165,7 @@ impl Form for SeqRow {
     }
 }
 
-// The kind of a movement with this word.
+/// The kind of a movement with this word.
 fn kind_named(word: &str) -> Option<Kind>
     ensures { result ≡ spec.kind_named word.now }
 {
@@ -177,14 +178,14 @@ fn kind_named(word: &str) -> Option<Kind>
     }
 }
 
-// The kind of a movement at a key.
+/// The kind of a movement at a key.
 fn kind_at(value: &Value, key: &str) -> Option<Kind>
     ensures { result ≡ spec.kind_at key.now (view value.now) }
 {
     kind_named(text_at(value, key)?)
 }
 
-// The phase with this word.
+/// The phase with this word.
 fn phase_named(word: &str) -> Option<Phase>
     ensures { result ≡ spec.phase_named word.now }
 {
@@ -196,7 +197,7 @@ fn phase_named(word: &str) -> Option<Phase>
     }
 }
 
-// The phase at a key.
+/// The phase at a key.
 fn phase_at(value: &Value, key: &str) -> Option<Phase>
     ensures { result ≡ spec.phase_at key.now (view value.now) }
 {

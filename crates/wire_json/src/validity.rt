@@ -18,8 +18,8 @@ pub fn entries_read_back()
     ensures { (entry : Entry) → IsEntry entry → reading (entry_text entry) ≡ Ok (line.Entry entry) }
 {}
 
-/// Reading the text of an image gives the image back, if its values fit a line and its text isn't longer than a line may
-/// be. The image needn't be valid.
+/// Reading the text of an image gives the image back, if its values fit a line and its text isn't longer than a line
+/// may be. The image needn't be valid.
 #[tactic(auto, using(crate::proofs::ImagesReadBack::image_reads_back))]
 pub fn images_read_back()
     ensures { (image : Image) → FitsLine image → length (image_text image) ≤ most_bytes

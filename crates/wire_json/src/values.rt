@@ -8,7 +8,7 @@ use cluster_terms::{Memory, Name, NodeId, Replication, Token};
 use serde_json::{Map, Value};
 use std::alloc::Global;
 
-// Whether an object has exactly these keys. The keys are given in ascending order.
+/// Whether an object has exactly these keys. The keys are given in ascending order.
 fn same_keys(members: &Map<String, Value>, keys: &[&str]) -> bool
     ensures { result ≡ spec.are_keys (map (λ key. key.now) keys.now) (members_view members.now.entries) }
 {

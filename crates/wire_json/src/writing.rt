@@ -15,7 +15,7 @@ use transformations::{Entry, Image};
 /// The line of an entry: its JSON object, with the keys in byte order and without spaces, and a line feed. Each entry
 /// has exactly one such line. `entries_read_back` tells which entries `read_line` reads back from it.
 ///
-/// Fails only if memory runs out.
+/// Fails only if memory runs out. The cost is a pass over the entry.
 #[tactic(auto, using(crate::proofs::EntryFloats::no_float), unfolding(crate::specs::Texts::entry_text))]
 pub fn entry_line(alloc: Global, entry: &Entry) -> Result<ByteText, Memory>
     ensures { IfOk result (λ line. line ≡ spec.entry_line entry.now) }
@@ -41,7 +41,7 @@ pub fn snapshot_line(alloc: Global, image: &Image) -> Result<ByteText, Memory>
     Ok(ByteText::from_vec(line))
 }
 
-// The JSON object of an entry.
+/// The JSON object of an entry.
 fn entry_value(alloc: Global, entry: &Entry) -> Result<Value, Memory>
     ensures { IfOk result (λ value. view value ≡ spec.entry_data entry.now) }
 {

@@ -55,7 +55,7 @@ module _ (image after : Image) (c : Command) (valid : IsValid image) (formed : i
   cuts_by : CutsChange image after (prepared_by image.tokens c) (ended_by image c)
   cuts_by = subst (λ i. CutsChange image i (prepared_by image.tokens c) (ended_by image c)) (sym made) (cuts_followed image c valid.sound formed accepted epoch)
 
--- the movement of a node, at its index
+-- the movement of a node, at its position
 module _ (image : Image) (n at : ℕ) (stands : slice_get image.sequences at ≡ movement_of image n) where
   step_moves : (goal : Goal) (kind : Kind) (s : SeqRow) → slice_get image.sequences at ≡ Some s → (r : Replication) (x : ℤ) → delta_of_command image (Step goal kind n) r x ≡ deltas_of (step_delta goal) image s r x
   step_moves goal kind s here r x = ap (λ (o : Option SeqRow). delta_of_movement (λ s. step_delta goal) image r x o) (sym stands ∙ here)

@@ -1,4 +1,4 @@
--- What a change of each kind says of the movement at its index, and of the placements after it.
+-- What a change of each kind says of the movement at its position, and of the placements after it.
 use Rattle.std.proofs.Common.{◌≡◌, ℕ, false, List, Option, Some, None, option_map, refl, sym, subst}
 use Rattle.std.proofs.lemmas.Option.{none-some}
 use Rattle.std.specs.List.{slice_get}
@@ -18,7 +18,7 @@ use Rattle.cluster_metadata.specs.declared.change.Change.TheVariants.{Registered
 use Rattle.cluster_metadata.specs.declared.leaving.LeftRow.{LeftRow}
 use Rattle.cluster_metadata.specs.declared.new_node.NewNode.{NewNode}
 
--- a movement at an index, of which something holds
+-- a movement at a position, of which something holds
 pub record HasAt (rows : List SeqRow) (at : ℕ) (P : SeqRow → Type 0) : Type 0 where
   pub row : SeqRow
   pub here : slice_get rows at ≡ Some row

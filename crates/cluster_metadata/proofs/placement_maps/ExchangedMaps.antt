@@ -40,11 +40,7 @@ same_book image one other mine theirs = one_book image (replications_of image.ke
 
 -- ---- what a change brings
 
--- maps that are made for a change are those of the image after it
-pub made_anew : (image : Image) (change : Change) (maps : MapChange) (next : List MapRow) → ((book : List MapRow) → maps_after maps book ≡ next) → AreMaps (changed image change) next → BringsMaps image change maps
-made_anew image change maps next leads are book was = subst (AreMaps (changed image change)) (sym (leads book)) are
-
--- and so are those to which the image's own maps lead
+-- the maps to which the image's own maps lead are those of the image after the change
 pub made_from : (image : Image) (change : Change) (maps : MapChange) (own : List MapRow) → AreMaps image own → AreMaps (changed image change) (maps_after maps own) → BringsMaps image change maps
 made_from image change maps own has are book was = subst (λ b. AreMaps (changed image change) (maps_after maps b)) (same_book image own book has was) are
 

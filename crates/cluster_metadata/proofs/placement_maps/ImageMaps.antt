@@ -1,6 +1,5 @@
 -- The placement map of an image under a replication: its order, its cuts, and what it says at each token.
 use Rattle.std.proofs.Common.{◌≡◌, ℕ, ◌≤◌, Bool, ◌&&◌, true, false, if◌then◌else◌, ℤ, ◌≤ℤ◌, int_lt, int_le, List, [], ◌∷◌, length, map, Option, Some, None, refl, sym, ap, ◌∙◌, arith}
-use Rattle.std.proofs.lemmas.Cmp.{int_cmp_total}
 use Rattle.std.proofs.lemmas.Int.{ints}
 use Rattle.std.proofs.lemmas.List.{length-map}
 use Rattle.std.proofs.lemmas.List.Elements.{recursion_from_All}
@@ -9,21 +8,17 @@ use Rattle.std.specs.List.{AllByRecursion}
 use Rattle.std.specs.List.Sorted.{IsStrictlySortedBy}
 use Rattle.std.specs.Ordering.{int_cmp, int_eq}
 use Rattle.std.specs.declared.cmp.Ordering.TheVariants.{Less}
-use Rattle.cluster_terms.proofs.AscendingLemmas.{ascending_sorted}
 use Rattle.cluster_terms.specs.Arc.{IsToken, greatest_token}
-use Rattle.cluster_terms.specs.Pair.{tokens_of}
 use Rattle.cluster_terms.specs.Row.{is_last, is_past, is_within, rows_between, rows_from}
 use Rattle.cluster_terms.specs.declared.replication.Replication.{Replication}
 use Rattle.cluster_terms.specs.declared.row.TokenRange.{TokenRange}
-use Rattle.cluster_terms.specs.declared.token.Pair.{Pair}
 use Rattle.cluster_terms.specs.declared.token.RightEnd.TheVariants.{At, Max}
 use Rattle.range_placements.specs.Placements.{IsPlacementMap, cuts_of, map_at, placement_in}
 use Rattle.transformations.proofs.ranges.RowsServed.{cuts_ascend, rows_stand}
-use Rattle.transformations.specs.Rings.{StandsForTokens, cuts, cuts_among, reads_at, widest_among, writes_at}
+use Rattle.transformations.specs.Rings.{StandsForTokens, cuts, reads_at, writes_at}
 use Rattle.transformations.specs.declared.image.Image.{Image}
-use Rattle.transformations.specs.declared.sequence.SeqRow.{SeqRow}
 use Rattle.cluster_metadata.specs.Maps.{placement_row, placement_rows}
-use Rattle.cluster_metadata.specs.Turns.{AreMapRanges, row_with}
+use Rattle.cluster_metadata.specs.Turns.{row_with}
 
 -- ---- what the map says at a token
 
@@ -93,16 +88,6 @@ module _ (placement : ℤ → List ℕ × List ℕ) where
   pub ranges_map : (ends : List ℤ) → IsStrictlySortedBy int_cmp ends → AllByRecursion IsToken ends → IsPlacementMap (map (row_with placement) (rows_between ends))
   ranges_map [] up tokens = refl
   ranges_map (cut ∷ ends) up tokens = map_from None cut ends up tokens
-
--- the ranges of a map are those of a map with other sets
-pub other_sets : (one other : ℤ → List ℕ × List ℕ) (ranges : List TokenRange) → IsPlacementMap (map (row_with one) ranges) → IsPlacementMap (map (row_with other) ranges)
-other_sets one other [] is = is
-other_sets one other (range ∷ []) is = is
-other_sets one other (range ∷ next ∷ ranges) is = (is.0, other_sets one other (next ∷ ranges) is.1)
-
--- the ranges between the cuts of a ring and of movements are those of a map
-pub cut_ranges : (pairs : List Pair) (sequences : List SeqRow) → AllByRecursion IsToken (cuts_among pairs sequences) → AreMapRanges (rows_between (cuts_among pairs sequences))
-cut_ranges pairs sequences tokens = ranges_map (λ x. ([], [])) (cuts_among pairs sequences) (ascending_sorted int_cmp int_cmp_total (tokens_of (widest_among pairs sequences))) tokens
 
 module _ (image : Image) (r : Replication) where
   -- it is a map, if its cuts are tokens

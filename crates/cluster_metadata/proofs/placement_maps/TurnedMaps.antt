@@ -1,5 +1,5 @@
 -- Placement maps that are changed by the deltas of a movement are those of the image after its step.
-use Rattle.std.proofs.Common.{◌≡◌, ◌⊎◌, inl, inr, ℕ, suc, zero, ◌<◌, true, false, true≢false, ℤ, List, [], ◌∷◌, length, map, get_or, Some, refl, sym, ap, ◌∙◌, subst, arith}
+use Rattle.std.proofs.Common.{◌≡◌, ℕ, suc, zero, ◌<◌, true, false, true≢false, ℤ, List, [], ◌∷◌, length, map, get_or, Some, refl, sym, ap, ◌∙◌, subst, arith}
 use Rattle.std.specs.List.{AllByRecursion, slice_get}
 use Rattle.cluster_terms.proofs.RowLemmas.{rows_have_last}
 use Rattle.cluster_terms.specs.Arc.{IsToken}
@@ -11,6 +11,7 @@ use Rattle.placement_deltas.specs.declared.book.DeltaBookRow.{DeltaBookRow}
 use Rattle.placement_deltas.specs.declared.delta_row.DeltaRow.{DeltaRow}
 use Rattle.placement_deltas.specs.declared.plan.Plan.{Plan}
 use Rattle.range_placements.specs.Changing.{row_changed}
+use Rattle.range_placements.specs.Editing.{Edits}
 use Rattle.range_placements.specs.declared.placement_row.PlacementRow.{PlacementRow}
 use Rattle.range_placements.specs.declared.row_changes.RowChange.{RowChange}
 use Rattle.sequence_plans.specs.Deltas.{AreDeltas, HasDeltas, IsExact, gained_by, lost_by, no_nodes}
@@ -26,10 +27,11 @@ use Rattle.transformations.specs.declared.sequence.Goal.TheVariants as goal
 use Rattle.transformations.specs.declared.sequence.Phase.{Phase}
 use Rattle.transformations.specs.declared.sequence.Phase.TheVariants as phase
 use Rattle.transformations.specs.declared.sequence.SeqRow.{SeqRow}
+use Rattle.cluster_metadata.proofs.placement_maps.EditedMaps.{RecutsAll}
 use Rattle.cluster_metadata.proofs.placement_maps.ExchangedMaps.{same_count}
 use Rattle.cluster_metadata.proofs.placement_maps.ImageMaps.{served_at}
 use Rattle.cluster_metadata.proofs.RunningLemmas.{place_within, value_at}
-use Rattle.cluster_metadata.specs.MapChanges.{each_exchanged}
+use Rattle.cluster_metadata.specs.MapChanges.{each_edited, each_exchanged}
 use Rattle.cluster_metadata.specs.MapSteps.{MovesAt, MovesBy, MovesOf, Stays, deltas_of, no_deltas}
 use Rattle.cluster_metadata.specs.Maps.{AreMaps, IsMapOf, placement_row, placement_rows}
 use Rattle.cluster_metadata.specs.Running.{HaveDeltas, IsRunning, movement_row, phase_of, plan_of}
@@ -39,13 +41,6 @@ use Rattle.cluster_metadata.specs.declared.map_row.MapRow.{MapRow}
 use Rattle.cluster_metadata.specs.declared.running.Running.{Running}
 use Rattle.cluster_metadata.specs.declared.turn.Turn.{Turn}
 use Rattle.cluster_metadata.specs.declared.turn.Turn.TheVariants.{Keep, Reads, Writes, ReadsBack}
-
--- where one of the two lists is at its end, no map is left
-pub each_over : (change : List PlacementRow → List DeltaRow → List PlacementRow) (book : List MapRow) (deltas : List DeltaBookRow) → (length book ≡ 0) ⊎ (length deltas ≡ 0) → each_map change book deltas ≡ []
-each_over change [] deltas over = refl
-each_over change (row ∷ book) [] over = refl
-each_over change (row ∷ book) (d ∷ deltas) (inl none) = absurd (omega arith)
-each_over change (row ∷ book) (d ∷ deltas) (inr none) = absurd (omega arith)
 
 -- ---- the rows of a map
 
@@ -190,7 +185,7 @@ module _ (image : Image) (s : SeqRow) (r : Replication) where
   undo_turns phase.Started early x reads writes = λ i. (changed_none reads i, with_delta writes (deltas_of (cancel_delta phase.Started) image s r x).writes)
   undo_turns phase.Mid early x reads writes = absurd (true≢false early)
 
--- the plan of a movement, at its index
+-- the plan of a movement, at its position
 plan_at : (image : Image) (running : List Running) (at : ℕ) (m : Running) → HaveDeltas image running → at < length running → m ≡ get_or running at m → HasDeltas image (plan_of m)
 plan_at image [] at m have within is = absurd (omega arith)
 plan_at image (v ∷ running) zero m have within is = subst (λ (v : Running). HasDeltas image (plan_of v)) (sym is) have.0
@@ -239,21 +234,25 @@ module _ (image : Image) (book : List MapRow) (running : List Running) (at : ℕ
       (maps_turned image after (gained_by image plan.row) (lost_by image plan.row) (deltas_of (cancel_delta phase.Mid) image plan.row) ReadsBack (back_turns image plan.row) book plan.swap steps.cuts
       (moved after (λ s. cancel_delta phase.Mid) steps.moves) are held.swaps)
 
-  pub finish_maps : (after : Image) → AllByRecursion IsToken (cuts after) → MovesOf image after at (λ s. step_delta goal.Finish) → AreMaps after (each_map (recut_rows Writes (rows_between (cuts after))) book plan.lose)
-  finish_maps after tokens moves =
-      maps_recut image after no_nodes (lost_by image plan.row) (deltas_of (step_delta goal.Finish) image plan.row) Writes (finish_turns image plan.row) book plan.lose tokens
-      (moved after (λ s. step_delta goal.Finish) moves) are held.loses
+  pub finish_maps : (after : Image) (edits : List Edits) → RecutsAll Writes (rows_between (cuts after)) book plan.lose edits → AllByRecursion IsToken (cuts after) → MovesOf image after at (λ s. step_delta goal.Finish)
+      → AreMaps after (each_edited edits book)
+  finish_maps after edits sets tokens moves =
+      subst (AreMaps after) (sym (sets (same_count image book plan.lose no_nodes (lost_by image plan.row) are held.loses)))
+      (maps_recut image after no_nodes (lost_by image plan.row) (deltas_of (step_delta goal.Finish) image plan.row) Writes (finish_turns image plan.row) book plan.lose tokens
+      (moved after (λ s. step_delta goal.Finish) moves) are held.loses)
 
-  pub end_maps : (after : Image) → is_mid s.phase ≡ false → AllByRecursion IsToken (cuts after) → MovesOf image after at (λ s. cancel_delta s.phase)
-      → AreMaps after (each_map (recut_rows (undoing (phase_of m)) (rows_between (cuts after))) book plan.gain)
-  end_maps after early tokens moves =
+  pub end_maps : (after : Image) (edits : List Edits) → RecutsAll (undoing (phase_of m)) (rows_between (cuts after)) book plan.gain edits → is_mid s.phase ≡ false → AllByRecursion IsToken (cuts after)
+      → MovesOf image after at (λ s. cancel_delta s.phase) → AreMaps after (each_edited edits book)
+  end_maps after edits sets early tokens moves =
       let phase : s.phase ≡ phase_of m = ap (λ (q : SeqRow). q.phase) (sym own) in
-      subst (λ p. AreMaps after (each_map (recut_rows (undoing p) (rows_between (cuts after))) book plan.gain)) phase
+      subst (AreMaps after) (sym (sets (same_count image book plan.gain (gained_by image plan.row) no_nodes are held.gains)))
+      (subst (λ p. AreMaps after (each_map (recut_rows (undoing p) (rows_between (cuts after))) book plan.gain)) phase
       (maps_recut image after (gained_by image plan.row) no_nodes (deltas_of (cancel_delta s.phase) image plan.row) (undoing s.phase) (λ r. undo_turns image plan.row r s.phase early) book plan.gain tokens
-      (moved after (λ s. cancel_delta s.phase) moves) are held.gains)
+      (moved after (λ s. cancel_delta s.phase) moves) are held.gains))
 
 -- a movement that begins changes no set
-pub begin_maps : (image after : Image) (book : List MapRow) (gained lost : Replication → ℤ → List ℕ) (deltas : List DeltaBookRow) → AreMaps image book → AreDeltas (replications_of image.keyspaces) gained lost deltas
-    → AllByRecursion IsToken (cuts after) → MovesBy image after no_deltas → AreMaps after (each_map (recut_rows Keep (rows_between (cuts after))) book deltas)
-begin_maps image after book gained lost deltas are exact tokens moves =
-    maps_recut image after gained lost no_deltas Keep (λ r x reads writes. λ i. (changed_none reads i, changed_none writes i)) book deltas tokens moves are exact
+pub begin_maps : (image after : Image) (book : List MapRow) (gained lost : Replication → ℤ → List ℕ) (deltas : List DeltaBookRow) (edits : List Edits) → RecutsAll Keep (rows_between (cuts after)) book deltas edits
+    → AreMaps image book → AreDeltas (replications_of image.keyspaces) gained lost deltas → AllByRecursion IsToken (cuts after) → MovesBy image after no_deltas → AreMaps after (each_edited edits book)
+begin_maps image after book gained lost deltas edits sets are exact tokens moves =
+    subst (AreMaps after) (sym (sets (same_count image book deltas gained lost are exact)))
+    (maps_recut image after gained lost no_deltas Keep (λ r x reads writes. λ i. (changed_none reads i, changed_none writes i)) book deltas tokens moves are exact)

@@ -6,8 +6,8 @@ use std::alloc::Global;
 use std::process::Abort;
 use std::test::Fail;
 
-/// The name of a state; its epoch and its next id; its nodes, told by letters; the pairs of its ring; its keyspaces, told
-/// by letters; its movements; and the first rule that it breaks, with the value.
+/// The name of a state; its epoch and its next id; its nodes, told by letters; the pairs of its ring; its keyspaces,
+/// told by letters; its movements; and the first rule that it breaks, with the value.
 type BadState = (
     &'static str,
     (u64, u64),

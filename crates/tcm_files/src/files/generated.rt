@@ -75,9 +75,9 @@ const LOCKED: [(&str, u64); 5] = [
     ("5", 1),
 ];
 
-/// The summary of a script of 12 rounds. Once a join is locked, its three steps and those of its leave find no movement,
-/// and the leave itself finds a node that hasn't joined. Each other commit is an epoch, and the follower has them all.
-/// The lines are those of the opening, the commits of the rounds, and a delivery for each of their epochs.
+/// The summary of a script of 12 rounds. Once a join is locked, its three steps and those of its leave find no
+/// movement, and the leave itself finds a node that hasn't joined. Each other commit is an epoch, and the follower has
+/// them all. The lines are those of the opening, the commits of the rounds, and a delivery for each of their epochs.
 fn summary_by(alloc: Global, start: &str, locked: u64) -> Result<String, Fail> {
     let lost = locked.saturating_mul(6);
     let epoch = 290_u64.saturating_sub(locked.saturating_mul(8));

@@ -205,7 +205,8 @@ const RUNS: [LogRun; 21] = [
     ),
 ];
 
-/// The name of a refused log, the lines before the one that is refused, told as those of a file, this line, and the text that is printed.
+/// The name of a refused log, the lines before the one that is refused, told as those of a file, this line, and the
+/// text that is printed.
 type Refused = (&'static str, &'static str, &'static str, &'static str);
 
 /// The bytes after each refused line: another line to refuse, and the front of a line.
@@ -295,54 +296,10 @@ const REGISTERS: &str = "commit 1 register a dc1 r1\ncommit 2 register b dc1 r1\
 const BOTH: File = Some("1b");
 
 /// Runs that end with status 6.
-const STOPS: [Stop; 12] = [
+const STOPS: [Stop; 4] = [
     ("store-stops", None, (3, 0), "OK 1\n", Some("1")),
-    (
-        "a front of a line is kept",
-        None,
-        (3, 8),
-        "OK 1\n",
-        Some("1|f"),
-    ),
-    (
-        "a line is kept without its line feed",
-        None,
-        (3, 85),
-        "OK 1\n",
-        Some("1|b"),
-    ),
-    ("a whole line is kept", None, (3, 86), "OK 1\n", Some("1b")),
-    ("the first append", None, (2, 0), "", None),
-    (
-        "a front of the first line is kept",
-        None,
-        (2, 8),
-        "",
-        Some("|f"),
-    ),
-    (
-        "the whole first line is kept",
-        None,
-        (2, 1000),
-        "",
-        Some("1"),
-    ),
     ("a load", Some("1|f"), (1, 9), "", Some("1|f")),
     ("a load of no file", None, (1, 0), "", None),
-    (
-        "a cut that leaves the old file",
-        Some("1|f"),
-        (2, 0),
-        "",
-        Some("1|f"),
-    ),
-    (
-        "a cut that leaves the new file",
-        Some("1|f"),
-        (2, 1),
-        "",
-        Some("1"),
-    ),
     (
         "an append after a cut",
         Some("1|f"),

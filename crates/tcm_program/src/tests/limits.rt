@@ -1,5 +1,5 @@
-//! Scripts that reach the limits of nodes, tokens, keyspaces, epochs and waiting entries, and queries of epochs near those
-//! whose images are kept.
+//! Scripts that reach the limits of nodes, tokens, keyspaces, epochs and waiting entries, and queries of epochs near
+//! those whose images are kept.
 
 use crate::tests::running::{accepted, ran};
 use std::alloc::Global;

@@ -17,8 +17,8 @@ pub fn drawn(s: u64) -> u64
     (s * 1_103_515_245 + 12_345) % DRAW_LIMIT
 }
 
-/// The token of a number that was drawn: 8000000000 for each number below it, from -8589934592000000000 on. No step of
-/// this way to it leaves the tokens.
+/// The token of a number that was drawn: 8000000000 times the number, less 8589934592000000000. All values on the way
+/// are tokens, so nothing overflows.
 pub fn drawn_token(s: u64) -> Token
     requires { s < 2 ^ 31 }
     ensures { result ≡ spec.drawn_token s }

@@ -3,18 +3,18 @@
 ghost use Rattle.std.specs.Prelude.{◌≡◌, ◌≤◌, filter, length, map};
 ghost use Rattle.tcm_session.specs.Generated as spec;
 
-/// What an answer says.
+/// The kind of an answer.
 #[derive(Clone, Copy, Debug, PartialEq, Eq)]
 pub enum AnswerKind {
     /// A commit is accepted.
     Accepted,
     /// A commit is refused, with the refusal of this number.
     Refused(u8),
-    /// Anything else.
+    /// Any other answer.
     Other,
 }
 
-/// What the answers to refused commits begin with, from the refusal with number 1 on.
+/// The texts that the answers to refused commits begin with, by the number of the refusal, from 1 on.
 const REFUSALS: [&[u8]; 19] = [
     b"NO NAME-TAKEN",
     b"NO NODES-FULL",

@@ -8,7 +8,8 @@ use super::generation::Generation;
 use cluster_terms::{Memory, Token};
 use std::alloc::Global;
 
-/// Registers node `i`: node after node the datacenters take turns, and pair after pair the racks.
+/// Registers node `i`, from 1 to 24. Odd nodes are in dc1, and even nodes in dc2. Nodes 1 and 2 are in rack r1, 3 and 4
+/// in r2, 5 and 6 in r3, 7 and 8 in r1 again, and so on.
 fn register_node(generation: &mut Generation, alloc: Global, i: u64) -> Result<(), Memory>
     requires first { 1 ≤ i }
     requires last { i ≤ 24 }
@@ -17,7 +18,7 @@ fn register_node(generation: &mut Generation, alloc: Global, i: u64) -> Result<(
     generation.register(alloc, i, b"n", i, 2 - i % 2, (i - 1) / 2 % 3 + 1)
 }
 
-/// Registers so many nodes.
+/// Registers the nodes 1 to `count`.
 fn register_nodes(generation: &mut Generation, alloc: Global, count: u64) -> Result<(), Memory>
     requires { count ≤ 24 }
     ensures { OnOk result (generation.new ≡ after_lines generation.old (spec.register_lines count)) }
@@ -30,8 +31,8 @@ fn register_nodes(generation: &mut Generation, alloc: Global, count: u64) -> Res
     Ok(())
 }
 
-/// The token of node `i`: 700000000000000000 for each node before it, from -8000000000000000000 on. No step of this way
-/// to it leaves the tokens.
+/// The token of node `i`: -8000000000000000000, and 700000000000000000 more for each node before it. All values on the
+/// way are tokens, so nothing overflows.
 fn opening_token(i: u64) -> Token
     requires first { 1 ≤ i }
     requires last { i ≤ 24 }
@@ -49,7 +50,7 @@ fn join_node(generation: &mut Generation, alloc: Global, i: u64) -> Result<(), M
     generation.commit_token(alloc, 24 + i, b"unsafe-join", i, opening_token(i))
 }
 
-/// Joins so many nodes.
+/// Joins the nodes 1 to `count`.
 fn join_nodes(generation: &mut Generation, alloc: Global, count: u64) -> Result<(), Memory>
     requires { count ≤ 24 }
     ensures { OnOk result (generation.new ≡ after_lines generation.old (spec.join_lines count)) }

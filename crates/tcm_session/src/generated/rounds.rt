@@ -80,7 +80,7 @@ fn run_round(generation: &mut Generation, alloc: Global, s: u64, j: u64) -> Resu
     generation.deliver_down(alloc, before, last)
 }
 
-/// Answers the lines of so many rounds, whose tokens are drawn after `first`.
+/// Answers the lines of the rounds 1 to `rounds`, whose tokens are drawn after `first`.
 pub fn run_rounds(
     generation: &mut Generation,
     alloc: Global,

@@ -114,8 +114,8 @@ fn summary_of(
 
 /// The summary of the generated script with these numbers. Fails only if memory runs out.
 ///
-/// Cost: a session answers up to 60,101 lines, and one for each epoch. It is in memory until the end, with two bytes for
-/// each line.
+/// Cost: a session answers up to 60,101 lines, and one more for each epoch that the rounds commit. It is in memory
+/// until the end, with two bytes for each line.
 pub fn generate(alloc: Global, start: u64, rounds: u64) -> Result<ByteText, Memory>
     requires { rounds ≤ 3000 }
     ensures { IfOk result (λ text. text ≡ spec.summary start rounds) }

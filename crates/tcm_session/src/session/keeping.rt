@@ -8,7 +8,7 @@ use cluster_terms::Memory;
 
 impl Session {
     /// Keeps the image of the last epoch if this is a multiple of 256 above 0, and the image isn't kept yet. Whatever
-    /// the result, the log and the followers are unchanged. `Err` means that memory ran out.
+    /// the result, the log and the followers are unchanged. Fails only if memory runs out.
     ///
     /// Cost: at each 256th epoch a copy of the image, and else nothing.
     pub(crate) fn keep_image(&mut self) -> Result<(), Memory>

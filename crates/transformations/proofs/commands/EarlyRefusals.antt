@@ -1,4 +1,5 @@
--- The refusal of a command as LOCKED: none of the refusals before it shows a lock, so it is that of the movement's ranges.
+-- The refusal of a command as LOCKED: none of the refusals before it shows a lock, so it is that of the movement's
+-- ranges.
 use Rattle.std.proofs.Common.{◌≡◌, ℕ, Bool, true, false, true≢false, not, ◌&&◌, ◌==◌, ℤ, List, [], ◌∷◌, find, length, Option, Some, None, option_map, option_and_then, nat_le, nat_lt, is_some, refl, sym, ap, ◌∙◌, arith}
 use Rattle.std.proofs.lemmas.List.Sorted.{Contains-permutation}
 use Rattle.std.proofs.lemmas.Option.{none-some}

@@ -1,4 +1,5 @@
--- A movement that is prepared, and whose ranges are not locked: the others keep their ranges, and it overlaps none of them.
+-- A movement that is prepared, and whose ranges are not locked: the others keep their ranges, and it overlaps none of
+-- them.
 use Rattle.std.proofs.Common.{◌≡◌, true, false, ◌&&◌, ◌==◌, ℤ, List, ◌∷◌, ◌++◌, map, Option, Some, None, option_and_then, refl, sym, ap, ◌∙◌, subst}
 use Rattle.std.proofs.lemmas.List.Elements.{All-from_recursion, recursion_from_All}
 use Rattle.std.proofs.lemmas.List.Sorted.{All-permutation, IsPermutation-sym}

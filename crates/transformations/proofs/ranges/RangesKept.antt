@@ -76,7 +76,8 @@ finish_by P image n epoch none some = by (movement_of image n) refl
     by None found = none found
     by (Some s) found = some s (own_found image n s found).1
 
--- and what holds of the image once it goes back to where it had started, and of the image without it, holds of the image once it is cancelled
+-- and what holds of the image once it goes back to where it had started, and of the image without it, holds of the
+-- image once it is cancelled
 pub cancel_by : (P : Image → Type 0) (image : Image) (n epoch : ℕ) → (movement_of image n ≡ None → P (record image { epoch = epoch }))
     → P (record image { epoch = epoch; sequences = map (at_phase Started n) image.sequences })
     → ((s : SeqRow) → find (λ (q : SeqRow). q.node == s.node) image.sequences ≡ Some s → P (record image { epoch = epoch; sequences = others image.sequences s.node }))

@@ -1,4 +1,4 @@
-use Rattle.std.proofs.Common.{◌≡◌, ℤ, List, length, refl, ap, sym, ◌∙◌, subst}
+use Rattle.std.proofs.Common.{◌≡◌, ℤ, List, length, ap, sym, subst}
 use Rattle.std.specs.List.{AllByRecursion}
 use Rattle.cluster_terms.specs.Arc.{IsToken}
 use Rattle.cluster_terms.specs.Row.{rows_between}
@@ -6,16 +6,16 @@ use Rattle.placement_deltas.specs.declared.plan.Plan.{Plan}
 use Rattle.sequence_plans.specs.Deltas.{gained_by, no_nodes}
 use Rattle.transformations.specs.Rings.{cuts, cuts_among}
 use Rattle.cluster_metadata.proofs.placement_maps.ChangeSteps.{back_at, back_moves, begun_deltas, begun_moves, ended_at, ended_moves, finished_at, finished_moves, mid_at, mid_moves, registered_stays, started_at, started_moves, unregistered_stays}
-use Rattle.cluster_metadata.proofs.placement_maps.ExchangedMaps.{made_anew, made_from}
+use Rattle.cluster_metadata.proofs.placement_maps.EditedMaps.{RecutsAll}
+use Rattle.cluster_metadata.proofs.placement_maps.ExchangedMaps.{made_from}
 use Rattle.cluster_metadata.proofs.placement_maps.TurnedMaps.{back_maps, begin_maps, end_maps, finish_maps, mid_maps, nodes_maps, start_maps}
 use Rattle.cluster_metadata.specs.Change.{changed}
-use Rattle.cluster_metadata.specs.Maps.{AreMaps}
 use Rattle.cluster_metadata.specs.MapChanges.{each_exchanged}
 use Rattle.cluster_metadata.specs.Running.{phase_of, plan_of}
-use Rattle.cluster_metadata.specs.Turns.{each_map, recut_rows, turned_rows, undoing}
+use Rattle.cluster_metadata.specs.Turns.{each_map, turned_rows, undoing}
 use Rattle.cluster_metadata.specs.declared.change.Change.{Change}
 use Rattle.cluster_metadata.specs.declared.change.Change.TheVariants.{Begun}
-use Rattle.cluster_metadata.specs.declared.map_change.MapChange.TheVariants.{Anew, Sets}
+use Rattle.cluster_metadata.specs.declared.map_change.MapChange.TheVariants.{Rows, Sets}
 use Rattle.cluster_metadata.specs.declared.turn.Turn.{Turn}
 use Rattle.cluster_metadata.specs.declared.turn.Turn.TheVariants as turn
 use Rattle.cluster_metadata.proofs.map_changes.maps_for.Goals as goal
@@ -34,12 +34,13 @@ returns-in_ok-next-in-Begun c =
     let change = c.args.change.now in
     let b = c.in-Begun in
     let cut : cuts (changed image change) ≡ cuts_among image.tokens b.sequences = ap (λ (ch : Change). cuts (changed image ch)) b.is in
-    let made =
-    c.in_ok-next-in-Begun.ensures.maps ∙ ap (λ (ts : List ℤ). each_map (recut_rows turn.Keep (rows_between ts)) c.args.maps.now b.plan.gain) (sym cut) in
-    made_anew image change (Anew c.in_ok-next-in-Begun.next) c.in_ok-next-in-Begun.next (λ book. refl)
-    (subst (AreMaps (changed image change)) (sym made)
-    (begin_maps image (changed image change) c.args.maps.now (gained_by (changed image (Begun b.at b.plan b.sequences)) b.plan.row) no_nodes b.plan.gain c.requires.maps (begun_deltas image change b.at b.sequences b.plan b.is c.requires.brings).gains
-    (subst (AllByRecursion IsToken) (sym cut) c.in_ok-next-in-Begun.ensures.tokens) (begun_moves image change b.at b.sequences b.plan b.is c.requires.steps)))
+    let maps = c.args.maps.now in
+    let edits = c.in_ok-next-in-Begun.next.items in
+    let sets : RecutsAll turn.Keep (rows_between (cuts (changed image change))) maps b.plan.gain edits =
+    subst (λ (ts : List ℤ). RecutsAll turn.Keep (rows_between ts) maps b.plan.gain edits) (sym cut) c.in_ok-next-in-Begun.ensures.maps in
+    made_from image change (Rows c.in_ok-next-in-Begun.next) maps c.requires.maps
+    (begin_maps image (changed image change) maps (gained_by (changed image (Begun b.at b.plan b.sequences)) b.plan.row) no_nodes b.plan.gain edits sets c.requires.maps (begun_deltas image change b.at b.sequences b.plan b.is c.requires.brings).gains
+    (subst (AllByRecursion IsToken) (sym cut) c.in_ok-next-in-Begun.ensures.tokens) (begun_moves image change b.at b.sequences b.plan b.is c.requires.steps))
 
 pub returns-in_ok-turned_book-in-Started : goal.returns-in_ok-turned_book-in-Started
 returns-in_ok-turned_book-in-Started c =
@@ -87,14 +88,14 @@ returns-in_ok-next-in-Finished c =
     let s = c.in-Finished in
     let found = finished_at image change s.at s.sequences s.left s.tokens s.is c.requires.follows in
     let cut : cuts (changed image change) ≡ cuts_among s.tokens s.sequences = ap (λ (ch : Change). cuts (changed image ch)) s.is in
-    let made =
-    c.in_ok-next-in-Finished.ensures.maps
-    ∙ ap (λ (ts : List ℤ). each_map (recut_rows turn.Writes (rows_between ts)) c.args.maps.now c.plan-in-Finished.result.now.lose) (sym cut)
-    ∙ ap (λ (p : Plan). each_map (recut_rows turn.Writes (rows_between (cuts (changed image change)))) c.args.maps.now p.lose) c.plan-in-Finished.ensures in
-    made_anew image change (Anew c.in_ok-next-in-Finished.next) c.in_ok-next-in-Finished.next (λ book. refl)
-    (subst (AreMaps (changed image change)) (sym made)
-    (finish_maps image c.args.maps.now c.args.running.now s.at c.index-running-at-in-Finished.result found.row c.requires.maps c.requires.running c.requires.deltas found.here c.index-running-at-in-Finished.is (changed image change)
-    (subst (AllByRecursion IsToken) (sym cut) c.in_ok-next-in-Finished.ensures.tokens) (finished_moves image change s.at s.sequences s.left s.tokens s.is c.requires.steps)))
+    let maps = c.args.maps.now in
+    let edits = c.in_ok-next-in-Finished.next.items in
+    let sets : RecutsAll turn.Writes (rows_between (cuts (changed image change))) maps (plan_of c.index-running-at-in-Finished.result).lose edits =
+    subst (λ (p : Plan). RecutsAll turn.Writes (rows_between (cuts (changed image change))) maps p.lose edits) c.plan-in-Finished.ensures
+    (subst (λ (ts : List ℤ). RecutsAll turn.Writes (rows_between ts) maps c.plan-in-Finished.result.now.lose edits) (sym cut) c.in_ok-next-in-Finished.ensures.maps) in
+    made_from image change (Rows c.in_ok-next-in-Finished.next) maps c.requires.maps
+    (finish_maps image maps c.args.running.now s.at c.index-running-at-in-Finished.result found.row c.requires.maps c.requires.running c.requires.deltas found.here c.index-running-at-in-Finished.is (changed image change) edits sets
+    (subst (AllByRecursion IsToken) (sym cut) c.in_ok-next-in-Finished.ensures.tokens) (finished_moves image change s.at s.sequences s.left s.tokens s.is c.requires.steps))
 
 pub returns-in_ok-next-in-Ended : goal.returns-in_ok-next-in-Ended
 returns-in_ok-next-in-Ended c =
@@ -104,12 +105,12 @@ returns-in_ok-next-in-Ended c =
     let found = ended_at image change s.at s.sequences s.is c.requires.follows in
     let cut : cuts (changed image change) ≡ cuts_among image.tokens s.sequences = ap (λ (ch : Change). cuts (changed image ch)) s.is in
     let ranges = rows_between (cuts (changed image change)) in
-    let made =
-    c.in_ok-next-in-Ended.ensures.maps
-    ∙ ap (λ (ts : List ℤ). each_map (recut_rows c.undoing-turn.result (rows_between ts)) c.args.maps.now c.plan-in-Ended.result.now.gain) (sym cut)
-    ∙ ap (λ (t : Turn). each_map (recut_rows t ranges) c.args.maps.now c.plan-in-Ended.result.now.gain) c.undoing-turn.ensures
-    ∙ ap (λ (p : Plan). each_map (recut_rows (undoing (phase_of c.index-running-at-in-Ended.result)) ranges) c.args.maps.now p.gain) c.plan-in-Ended.ensures in
-    made_anew image change (Anew c.in_ok-next-in-Ended.next) c.in_ok-next-in-Ended.next (λ book. refl)
-    (subst (AreMaps (changed image change)) (sym made)
-    (end_maps image c.args.maps.now c.args.running.now s.at c.index-running-at-in-Ended.result found.row c.requires.maps c.requires.running c.requires.deltas found.here c.index-running-at-in-Ended.is (changed image change) found.holds
-    (subst (AllByRecursion IsToken) (sym cut) c.in_ok-next-in-Ended.ensures.tokens) (ended_moves image change s.at s.sequences s.is c.requires.steps)))
+    let maps = c.args.maps.now in
+    let edits = c.in_ok-next-in-Ended.next.items in
+    let sets : RecutsAll (undoing (phase_of c.index-running-at-in-Ended.result)) ranges maps (plan_of c.index-running-at-in-Ended.result).gain edits =
+    subst (λ (p : Plan). RecutsAll (undoing (phase_of c.index-running-at-in-Ended.result)) ranges maps p.gain edits) c.plan-in-Ended.ensures
+    (subst (λ (t : Turn). RecutsAll t ranges maps c.plan-in-Ended.result.now.gain edits) c.undoing-turn.ensures
+    (subst (λ (ts : List ℤ). RecutsAll c.undoing-turn.result (rows_between ts) maps c.plan-in-Ended.result.now.gain edits) (sym cut) c.in_ok-next-in-Ended.ensures.maps)) in
+    made_from image change (Rows c.in_ok-next-in-Ended.next) maps c.requires.maps
+    (end_maps image maps c.args.running.now s.at c.index-running-at-in-Ended.result found.row c.requires.maps c.requires.running c.requires.deltas found.here c.index-running-at-in-Ended.is (changed image change) edits sets found.holds
+    (subst (AllByRecursion IsToken) (sym cut) c.in_ok-next-in-Ended.ensures.tokens) (ended_moves image change s.at s.sequences s.is c.requires.steps))

@@ -1,7 +1,8 @@
-use Rattle.std.proofs.Common.{◌≡◌, ◌++◌}
-use Rattle.cluster_metadata.specs.Turns.{each_map, recut_rows}
+use Rattle.std.proofs.Common.{◌≡◌, length}
+use Rattle.cluster_metadata.proofs.placement_maps.EditedMaps.{RecutsOn}
 use Rattle.cluster_metadata.proofs.turning.recut_book.Given as goal
 
--- the maps so far, and those of the rows that are left
+-- the edits so far, with those of the maps that are left, are those of all maps
 abbrev pub invariant-loop-row : goal.invariant-loop-row
-invariant-loop-row l = l.next ++ each_map (recut_rows l.turn l.ranges) l.row-iterator.a.rest.now l.row-iterator.b.rest.now ≡ each_map (recut_rows l.turn l.ranges) l.book l.deltas
+invariant-loop-row l = (length l.book ≡ length l.deltas → length l.row-iterator.a.rest.now ≡ length l.row-iterator.b.rest.now)
+    × RecutsOn l.turn l.ranges l.edits.items l.row-iterator.a.rest.now l.row-iterator.b.rest.now l.book l.deltas

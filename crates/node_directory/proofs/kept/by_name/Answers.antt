@@ -18,4 +18,5 @@ loop-row-preserved c =
       named = c.in_ok-push_copy.ensures.named;
       rows = c.in_ok-push_copy.ensures.rows ∙ ap (λ (done : List NodeRow). done ++ row ∷ []) done.rows ∙ ap (λ (r : NodeRow). take at rows ++ r ∷ []) c.row-item.is ∙ sym (take_more rows at row (omega arith));
       distinct = distinct-more rows at row (omega arith) c.row-item.is new done.distinct;
+      spare = omega (arith, done.spare, c.in_ok-push_copy.ensures.spare);
     }

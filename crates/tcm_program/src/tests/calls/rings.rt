@@ -23,7 +23,7 @@ fn pair(token: i64, node: u32) -> Pair
     }
 }
 
-/// A token, the index of the first token at or after it, and the node of that first token.
+/// A token, the position of the first token at or after it, and the node of that first token.
 const OWNERS: [(i64, usize, u32); 4] = [(i64::MIN, 0, 1), (-1, 1, 2), (i64::MAX, 2, 3), (1, 2, 3)];
 
 fn owners<A: Abort>(rt: &A, alloc: Global) -> Result<(), Fail> {

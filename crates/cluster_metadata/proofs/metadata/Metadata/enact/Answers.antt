@@ -9,6 +9,8 @@ use Rattle.cluster_metadata.proofs.LocksKept.{locks_held}
 use Rattle.cluster_metadata.proofs.LocksTaken.{may_lock}
 use Rattle.cluster_metadata.proofs.PermitOutcomes.{acts_by_delta, cuts_move, keeps_ranges, placed, placements, quorums_meet, replications_kept, rings, valid_after}
 use Rattle.cluster_metadata.proofs.PlanLemmas.{deltas_held}
+use Rattle.cluster_metadata.proofs.placement_maps.EditedMaps.{maps_hold}
+use Rattle.cluster_metadata.specs.Change.{changed}
 use Rattle.cluster_metadata.specs.CutDeltas.{ActsByDelta, CutsMove}
 use Rattle.cluster_metadata.specs.Maps.{AreMaps}
 use Rattle.cluster_metadata.proofs.metadata.Metadata.enact.Goals as goal
@@ -38,6 +40,12 @@ invariant_of-self c =
           (locks_held c.self.inside.image c.make.new.image _ _ _ _ _ permitted c.make.ensures.made c.self.invariant.valid c.self.invariant.running c.self.invariant.locks
           (valid c).sound.movements c.make.ensures.running c.make.ensures.plans);
     }
+
+pub exchange-requires : goal.exchange-requires
+exchange-requires c =
+    let same : c.permit.inside.image.value ≡ c.self.inside.image = cc in
+    let brings = rw same at c.permit.invariant.3 in
+    maps_hold (changed c.self.inside.image c.permit.inside.change) _ (brings c.self.inside.maps c.self.invariant.maps).placements
 
 pub make-requires-clause-names : goal.make-requires-clause-names
 make-requires-clause-names c = locks_named _ _ _ c.self.invariant.locks

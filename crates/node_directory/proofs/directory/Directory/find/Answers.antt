@@ -5,6 +5,6 @@ use Rattle.node_directory.proofs.directory.Directory.find.Goals as goal
 
 pub returns : goal.returns
 returns c =
-    let found = node_named-lookup c.self.inside.nodes.entries c.args.self.now _ _ c.self.invariant.0 (ap (λ (d : Registry). d.rows) c.self.view_is) c.as_str.ensures.text in
+    let found = node_named-lookup c.self.inside.nodes.entries c.args.self.now _ _ c.self.invariant.0.0 (ap (λ (d : Registry). d.rows) c.self.view_is) c.as_str.ensures.text in
     let cases = c.map.ensures.cases in
     search (rules, found)

@@ -3,8 +3,14 @@ use Rattle.std.specs.List.{AllByRecursion}
 use Rattle.std.proofs.lemmas.Int.{to_z-of_z}
 use Rattle.std.proofs.lemmas.List.{take_all}
 use Rattle.cluster_terms.specs.Arc.{IsToken}
+use Rattle.token_ring.proofs.ApartLemmas.{apart_end}
 use Rattle.token_ring.proofs.ChosenRows.{first_found, first_last, none_common}
 use Rattle.token_ring.proofs.range_list.RangeList.first_common.Goals as goal
+
+pub returns-then-are_apart-clause-first : goal.returns-then-are_apart-clause-first
+returns-then-are_apart-clause-first c =
+    let none = rw (c.as_slice.ensures.ranges, c.as_slice-2.ensures.ranges) at c.are_apart.ensures c.if-are_apart.true in
+    apart_end c.args.a.now c.args.b.now c.args.cuts.now none
 
 pub returns-then-have_both-clause-first : goal.returns-then-have_both-clause-first
 returns-then-have_both-clause-first c =

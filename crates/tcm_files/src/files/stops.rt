@@ -1,0 +1,176 @@
+//! Runs of `commit x` that stop at a call of the outside, each followed by a run of the same script over what it left.
+
+use crate::files::running::{calls_of, fail_of, words_from};
+use crate::files::told::{File, bytes_of, keeps_other, store_of, sure_store_of};
+use cluster_terms::ByteText;
+use std::alloc::Global;
+use std::process::Abort;
+use std::test::Fail;
+use tcm_edges::{CallList, MemSink, MemSource, MemStore};
+use tcm_session::{Status, run};
+
+/// The script of each run: two commits.
+const SCRIPT: &str = "commit 1 register a dc1 r1\ncommit 2 register b dc1 r1\n";
+
+/// The answers to both commits, and the bytes of one answer.
+const ANSWERS: &str = "OK 1\nOK 2\n";
+
+const ANSWER: usize = 5;
+
+/// The file with both entries, and the bytes of the line of one entry.
+const BOTH: &str = "1b";
+
+const LINE: usize = 86;
+
+/// The bytes of a line of the script, and the most bytes that a read gives.
+const COMMIT: usize = 27;
+
+const PIECE: usize = 7;
+
+/// What a run leaves: its status, the number of answers, and how many bytes of the whole file the file has, unless it is
+/// absent.
+#[derive(Clone, Copy)]
+struct Left {
+    status: u8,
+    answers: usize,
+    file: Option<usize>,
+}
+
+/// What a run leaves at an absent file of which this many bytes were added.
+fn leaves(status: u8, answers: usize, added: usize) -> Left {
+    let file = if added == 0 { None } else { Some(added) };
+    Left {
+        status,
+        answers,
+        file,
+    }
+}
+
+/// The script as a source whose read of this number fails; none does at 0.
+fn source(alloc: Global, call: u64) -> Result<MemSource, Fail> {
+    let script = ByteText::from_vec(SCRIPT.as_bytes().to_vec(alloc)?);
+    Ok(MemSource::new(script, PIECE, calls_of(alloc, call)?))
+}
+
+/// Whether the file `x` is the first bytes of the whole file, as many as are wanted, and the other file is unchanged.
+fn is_front(alloc: Global, store: &MemStore, wanted: Option<usize>) -> Result<bool, Fail> {
+    let whole = bytes_of(alloc, BOTH)?;
+    let front = match wanted {
+        Some(len) => whole.as_slice().get(..len),
+        None => None,
+    };
+    Ok(keeps_other(store) && store.file("x") == front)
+}
+
+/// Runs the script over these objects, and compares what it leaves. Then runs it again without faults: both commits are
+/// answered, and the file has both entries.
+fn goes_on<A: Abort>(
+    rt: &A,
+    alloc: Global,
+    mut input: MemSource,
+    mut out: MemSink,
+    mut store: MemStore,
+    wanted: Left,
+) -> Result<(), Fail> {
+    let words = words_from(alloc, &["commit", "x"])?;
+    let status = run(alloc, &words, &mut input, &mut out, &mut store);
+    assert_eq!(rt; status, Status(wanted.status));
+    let answers = ANSWERS
+        .as_bytes()
+        .get(..wanted.answers.saturating_mul(ANSWER));
+    assert!(rt; Some(out.bytes()) == answers);
+    assert!(rt; is_front(alloc, &store, wanted.file)?);
+    let mut again = source(alloc, 0)?;
+    let mut all = MemSink::new(alloc, CallList::empty(alloc));
+    let status = run(alloc, &words, &mut again, &mut all, &mut store);
+    assert_eq!(rt; status, Status(0));
+    assert_eq!(rt; all.bytes(), ANSWERS.as_bytes());
+    assert!(rt; is_front(alloc, &store, Some(2 * LINE))?);
+    Ok(())
+}
+
+/// Stops a run at a read, and goes on.
+fn read_fails<A: Abort>(rt: &A, alloc: Global, call: usize) -> Result<(), Fail> {
+    let lines = call.saturating_sub(1).saturating_mul(PIECE) / COMMIT;
+    let input = source(alloc, call as u64)?;
+    let out = MemSink::new(alloc, CallList::empty(alloc));
+    let store = sure_store_of(alloc, None)?;
+    goes_on(
+        rt,
+        alloc,
+        input,
+        out,
+        store,
+        leaves(4, lines, lines.saturating_mul(LINE)),
+    )
+}
+
+/// Stops a run at a write, and goes on. The entry whose answer isn't written is in the file.
+fn write_fails<A: Abort>(rt: &A, alloc: Global, call: usize) -> Result<(), Fail> {
+    let input = source(alloc, 0)?;
+    let out = MemSink::new(alloc, calls_of(alloc, call as u64)?);
+    let store = sure_store_of(alloc, None)?;
+    goes_on(
+        rt,
+        alloc,
+        input,
+        out,
+        store,
+        leaves(5, call.saturating_sub(1), call.saturating_mul(LINE)),
+    )
+}
+
+/// Stops a run at an append that keeps some bytes of its line, and goes on. The first call of the store is the load.
+fn append_fails<A: Abort>(rt: &A, alloc: Global, lines: usize, kept: usize) -> Result<(), Fail> {
+    let input = source(alloc, 0)?;
+    let out = MemSink::new(alloc, CallList::empty(alloc));
+    let fails = fail_of(alloc, ((lines as u64).saturating_add(2), kept as u64))?;
+    let store = store_of(alloc, fails, None)?;
+    goes_on(
+        rt,
+        alloc,
+        input,
+        out,
+        store,
+        leaves(6, lines, lines.saturating_mul(LINE).saturating_add(kept)),
+    )
+}
+
+/// Stops a run at the cut of a front of a line, which leaves the old file or the new one, and goes on.
+fn cut_fails<A: Abort>(rt: &A, alloc: Global, kept: u64, file: usize) -> Result<(), Fail> {
+    let input = source(alloc, 0)?;
+    let out = MemSink::new(alloc, CallList::empty(alloc));
+    let front: File = Some("|f");
+    let store = store_of(alloc, fail_of(alloc, (2, kept))?, front)?;
+    let wanted = Left {
+        status: 6,
+        answers: 0,
+        file: Some(file),
+    };
+    goes_on(rt, alloc, input, out, store, wanted)
+}
+
+#[test]
+fn reads_and_writes_stop_a_run(rt: HostRuntime) -> Result<(), Fail> {
+    let reads = SCRIPT.len().div_ceil(PIECE) + 1;
+    for call in 1..=reads {
+        read_fails(&rt, rt.alloc(), call)?;
+    }
+    write_fails(&rt, rt.alloc(), 1)?;
+    write_fails(&rt, rt.alloc(), 2)
+}
+
+#[test]
+fn appends_stop_a_run(rt: HostRuntime) -> Result<(), Fail> {
+    for kept in 0..=LINE {
+        append_fails(&rt, rt.alloc(), 0, kept)?;
+        append_fails(&rt, rt.alloc(), 1, kept)?;
+    }
+    Ok(())
+}
+
+#[test]
+fn cuts_stop_a_run(rt: HostRuntime) -> Result<(), Fail> {
+    cut_fails(&rt, rt.alloc(), 0, 8)?;
+    cut_fails(&rt, rt.alloc(), 1, 0)
+}
