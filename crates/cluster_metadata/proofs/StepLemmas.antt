@@ -14,6 +14,7 @@ use Rattle.transformations.specs.History.{next_image}
 use Rattle.transformations.specs.Orders.{by_node}
 use Rattle.transformations.specs.Refusals.{with_movement, early_refusal_of, no_node, no_sequence, unless_next, wrong_step}
 use Rattle.transformations.specs.Steps.{at_phase, finished, is_next_step, leaver, movement_of, others, phase_before, ring_after, same_kind, same_phase, with_left}
+use Rattle.transformations.specs.Rings.{cuts_among}
 use Rattle.transformations.specs.declared.command.Command.TheVariants.{Step}
 use Rattle.transformations.specs.declared.image.Image.{Image}
 use Rattle.transformations.specs.declared.refusal.Refusal.TheVariants.{NoSequence, WrongStep}
@@ -25,7 +26,7 @@ use Rattle.transformations.specs.declared.sequence.Phase.TheVariants as phase
 use Rattle.transformations.specs.declared.sequence.SeqRow.{SeqRow}
 use Rattle.cluster_metadata.proofs.PlanLemmas.{deltas_elsewhere}
 use Rattle.cluster_metadata.proofs.MovementPlaces.{at_index, others_at, stepped_at}
-use Rattle.cluster_metadata.specs.Change.{Begins, IsChange, in_phase, plan_lock}
+use Rattle.cluster_metadata.specs.Change.{Begins, HasCuts, IsChange, in_phase, plan_lock}
 use Rattle.cluster_metadata.specs.Locks.{IsLockOf}
 use Rattle.cluster_metadata.proofs.LocksKept.{lock_later}
 use Rattle.cluster_metadata.specs.Nodes.{IsLeftRow, nodes_left}
@@ -50,14 +51,18 @@ facts image g kind n h =
 
 pub begins : (image : Image) (at : ℕ) (plan : Plan) (after : List SeqRow) → plan.row.phase ≡ phase.Prepared → at ≤ length image.sequences → after ≡ insert image.sequences at plan.row
     → put by_node plan.row image.sequences ≡ insert image.sequences at plan.row → HasDeltas image plan → IsLockOf (with_movement image plan.row) plan.row (plan_lock plan)
-    → Begins image plan.row (Begun at plan after)
-begins image at plan after prepared within made place deltas lock =
+    → HasCuts (with_movement image plan.row) plan → Begins image plan.row (Begun at plan after)
+begins image at plan after prepared within made place deltas lock own_cuts =
     let with_rows : List SeqRow → Image = λ rows. record image { epoch = image.epoch + 1; sequences = rows } in
     let later = lock_later (with_movement image plan.row) (image.epoch + 1) plan.row (plan_lock plan) lock in
     record {
       made = ap with_rows (made ∙ sym place);
       follows = (prepared, within, made);
-      plan = (deltas_elsewhere image (image.epoch + 1) after plan deltas, subst (λ rows. IsLockOf (with_rows rows) plan.row (plan_lock plan)) (place ∙ sym made) later);
+      plan = (
+        deltas_elsewhere image (image.epoch + 1) after plan deltas,
+        subst (λ rows. IsLockOf (with_rows rows) plan.row (plan_lock plan)) (place ∙ sym made) later,
+        (own_cuts.0 ∙ ap (cuts_among image.tokens) (place ∙ sym made), own_cuts.1),
+      );
       begins = refl;
     }
 

@@ -1,7 +1,8 @@
 -- The changes that commands make in an image.
 -- Of the code, but for `directory_of`, which `Metadata::directory` promises: no promise rests on the others.
 use Rattle.std.specs.Prelude.{◌≡◌, ℕ, ◌+◌, ◌≤◌, false, List, [], ◌∷◌, ◌++◌, length, slice_set, Some, option_map, IfSome, IsSome}
-use Rattle.std.specs.List.{insert, remove, slice_get}
+use Rattle.std.specs.List.{AllByRecursion, insert, remove, slice_get}
+use Rattle.cluster_terms.specs.Arc.{IsToken}
 use Rattle.cluster_terms.specs.NodeRow.{row_of}
 use Rattle.locked_ranges.specs.Table.{lock_row}
 use Rattle.token_ring.specs.declared.book.LockRow.{LockRow}
@@ -11,7 +12,7 @@ use Rattle.placement_deltas.specs.declared.plan.Plan.{Plan}
 use Rattle.sequence_plans.specs.Deltas.{HasDeltas}
 use Rattle.transformations.specs.History.{begun, next_image}
 use Rattle.transformations.specs.Refusals.{prepared_by}
-use Rattle.transformations.specs.Rings.{is_mid}
+use Rattle.transformations.specs.Rings.{cuts, is_mid}
 use Rattle.transformations.specs.Steps.{movement_of}
 use Rattle.transformations.specs.declared.command.Command.{Command}
 use Rattle.transformations.specs.declared.command.Command.TheVariants.{Register, Unregister, UnsafeJoin, Keyspace, DropKeyspace, Step, Cancel}
@@ -74,10 +75,16 @@ FitsNodes image _ = Unit {0}
 abbrev pub plan_lock : Plan → LockRow
 plan_lock plan = lock_row plan.row.node plan.ranges
 
--- the plan of a new movement has its deltas and its ranges, in the image that the change leads to
+-- a plan has the cuts of an image
+abbrev pub HasCuts : Image → Plan → Type 0
+HasCuts image plan = (plan.cuts ≡ cuts image) × AllByRecursion IsToken plan.cuts
+
+-- the plan of a new movement has its deltas, its ranges and the cuts, in the image that the change leads to
 abbrev pub BringsPlan : Image → Change → Type 0
 BringsPlan image (Begun at plan after) =
-    HasDeltas (changed image (Begun at plan after)) plan × IsLockOf (changed image (Begun at plan after)) plan.row (plan_lock plan)
+    HasDeltas (changed image (Begun at plan after)) plan
+    × IsLockOf (changed image (Begun at plan after)) plan.row (plan_lock plan)
+    × HasCuts (changed image (Begun at plan after)) plan
 BringsPlan image _ = Unit {0}
 
 -- the movement of a node stands at this position

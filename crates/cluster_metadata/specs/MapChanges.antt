@@ -1,5 +1,5 @@
 -- The placement maps after a change.
--- Of the code: no promise rests on these.
+-- The invariant of `Permit` cites `BringsMaps`. Of the code: no promise rests on what it isn't made of.
 use Rattle.std.specs.Prelude.{ℕ, zero, suc, List, [], ◌∷◌}
 use Rattle.std.specs.List.{AllByRecursion}
 use Rattle.range_placements.specs.Editing.{Edits, edited}

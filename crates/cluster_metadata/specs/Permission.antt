@@ -16,7 +16,7 @@ pub record Permission : Type 0 where
   pub image : Image
   pub command : Command
 
--- a command is accepted in an image, and makes this change in it
+-- a command is accepted in an image, and makes this change in it (the invariant of `Permit`)
 pub record IsPermitted (image : Image) (command : Command) (change : Change) : Type 0 where
   pub room : image.epoch < most_epochs
   pub formed : is_command command ≡ true

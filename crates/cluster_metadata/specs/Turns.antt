@@ -1,11 +1,12 @@
 -- Placement maps that are changed by the deltas of a movement. Of the code: no promise rests on these.
-use Rattle.std.specs.Prelude.{◌≡◌, ℕ, ℤ, List, [], ◌∷◌, ◌++◌, length, map}
+use Rattle.std.specs.Prelude.{◌≡◌, ℕ, ℤ, List, [], ◌∷◌, ◌++◌, length, map, Option, IfSome}
 use Rattle.cluster_terms.specs.Row.{last_token}
 use Rattle.cluster_terms.specs.declared.row.TokenRange.{TokenRange}
 use Rattle.cluster_terms.specs.declared.token.RightEnd.{RightEnd}
-use Rattle.placement_deltas.specs.Deltas.{delta_at}
+use Rattle.placement_deltas.specs.Deltas.{ChangesNothing, delta_at}
 use Rattle.placement_deltas.specs.declared.book.DeltaBookRow.{DeltaBookRow}
 use Rattle.placement_deltas.specs.declared.delta_row.DeltaRow.{DeltaRow}
+use Rattle.placement_deltas.specs.declared.unchanged.Unchanged.{Unchanged}
 use Rattle.range_placements.specs.Changing.{row_changed, rows_changed}
 use Rattle.range_placements.specs.Editing.{Edits, edited}
 use Rattle.range_placements.specs.Exchanging.{exchanged}
@@ -43,6 +44,10 @@ row_with placement range = row_to range.right (placement (last_token range.right
 -- the rows of a map, changed by a delta; and those of other ranges, with the same changes at their last tokens
 abbrev pub turned_rows : Turn → List PlacementRow → List DeltaRow → List PlacementRow
 turned_rows turn rows delta = rows_changed (turned turn) delta rows
+
+-- a delta changes nothing at tokens of which this is known
+abbrev pub IsKnown : List DeltaRow → Option Unchanged → Type 0
+IsKnown delta known = IfSome known (λ tokens. ChangesNothing delta tokens.first tokens.last)
 
 -- new sets are added for the row at a position, where the delta changes it: whatever rows stand beside it
 abbrev pub AddsTurned : Turn → List DeltaRow → ℕ → PlacementRow → List RowChange → List RowChange → Type 0

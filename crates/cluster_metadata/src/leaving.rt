@@ -48,7 +48,8 @@ fn found_at(nodes: &[NodeRow], node: NodeId) -> Option<usize>
 /// registered.
 pub fn left_row(image: &Image, leaver: Option<NodeId>) -> Result<Option<LeftRow>, Memory>
     requires { IsSound image.now }
-    ensures nodes { IfOk result (λ left. spec.nodes_left image.now.nodes left ≡ with_left image.now.nodes leaver) }
+    ensures nodes { IfOk result
+        (λ left. spec.nodes_left image.now.nodes left ≡ with_left image.now.nodes leaver) }
     ensures row { IfOk result (λ left. IfSome left (spec.IsLeftRow image.now.nodes)) }
 {
     let Some(node) = leaver else {

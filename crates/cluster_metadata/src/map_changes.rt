@@ -22,7 +22,7 @@ use crate::maps::maps_of;
 use crate::running::Running;
 use crate::turn::Turn;
 use crate::turning::{recut_book, turned_book};
-use cluster_terms::{Memory, PairList, TryCopy, rows_between};
+use cluster_terms::{Memory, PairList, Token, TryCopy, rows_between};
 use node_directory::Directory;
 use placement_deltas::DeltaBook;
 use std::alloc::Global;
@@ -86,8 +86,24 @@ fn maps_under(
     Ok(MapChange::Anew(maps))
 }
 
-/// The edits that make maps those of the ranges between the cuts of a ring and these movements, with the sets that the maps
-/// have at the last tokens of the ranges, changed by the deltas of a movement.
+/// The edits that make maps those of the ranges between these cuts, with the sets that the maps have at the last tokens
+/// of the ranges, changed by the deltas of a movement.
+fn recut_at(
+    alloc: Global,
+    cuts: &[Token],
+    maps: &MapBook,
+    turn: Turn,
+    deltas: &DeltaBook,
+) -> Result<BookEdits, Memory>
+    ensures { IfOk result (λ edits. length maps.now ≡ length deltas.now
+        → each_edited edits.items maps.now
+        ≡ each_map (recut_rows turn (rows_between cuts.now)) maps.now deltas.now) }
+{
+    let ranges = rows_between(alloc, cuts)?;
+    recut_book(alloc, turn, maps, deltas, ranges.as_slice())
+}
+
+/// The edits that `recut_at` gives for the cuts of a ring and these movements.
 fn recut_among(
     alloc: Global,
     tokens: &PairList,
@@ -96,13 +112,14 @@ fn recut_among(
     turn: Turn,
     deltas: &DeltaBook,
 ) -> Result<BookEdits, Memory>
-    ensures maps { IfOk result (λ edits. length maps.now ≡ length deltas.now → each_edited edits.items maps.now
-        ≡ each_map (recut_rows turn (rows_between (cuts_among tokens.now sequences.now))) maps.now deltas.now) }
+    ensures maps { IfOk result (λ edits. length maps.now ≡ length deltas.now
+        → each_edited edits.items maps.now
+        ≡ each_map (recut_rows turn (rows_between (cuts_among tokens.now sequences.now)))
+        maps.now deltas.now) }
     ensures tokens { OnOk result (AllByRecursion IsToken (cuts_among tokens.now sequences.now)) }
 {
     let cuts = cuts_among(alloc, tokens, sequences.as_slice())?;
-    let ranges = rows_between(alloc, cuts.as_slice())?;
-    recut_book(alloc, turn, maps, deltas, ranges.as_slice())
+    recut_at(alloc, cuts.as_slice(), maps, turn, deltas)
 }
 
 /// How a change changes the placement maps. The directory must hold the nodes of the image. Fails only if memory runs
@@ -111,8 +128,8 @@ fn recut_among(
 /// A change of nodes keeps the maps, and so does one of keyspaces that leaves their replications. New tokens place them
 /// anew, and new keyspaces those under new replications; the others are copied. If a movement begins or ends, the maps
 /// keep their rows, apart from those whose sets the deltas of the movement change and those that end or begin at a cut
-/// that is new or goes. This needs the cuts of the next image, and so a pass over its tokens. All other changes give new
-/// sets to the rows that the deltas change.
+/// that is new or goes. This needs the cuts of the next image: those of the plan, or else a pass over its tokens. All
+/// other changes give new sets to the rows that the deltas change.
 pub fn maps_for(
     alloc: Global,
     image: &Image,
@@ -138,19 +155,9 @@ pub fn maps_for(
         Change::Unregistered { .. } => Ok(MapChange::Keep),
         Change::Tokens(tokens) => maps_on(alloc, image, directory, tokens, change),
         Change::Keyspaces(rows) => maps_under(alloc, image, directory, maps, rows, change),
-        Change::Begun {
-            plan,
-            sequences,
-            ..
-        } => {
-            let next = recut_among(
-                alloc,
-                &image.tokens,
-                sequences,
-                maps,
-                Turn::Keep,
-                &plan.gain,
-            )?;
+        Change::Begun { plan, .. } => {
+            let cuts = plan.cuts.as_slice();
+            let next = recut_at(alloc, cuts, maps, Turn::Keep, &plan.gain)?;
             Ok(MapChange::Rows(next))
         }
         Change::Started { at, .. } => {

@@ -13,7 +13,7 @@ ghost use Rattle.transformations.specs.declared.sequence.SeqRow.{SeqRow};
 ghost use Rattle.sequence_plans.specs.Deltas.{HasDeltas};
 ghost use Rattle.cluster_metadata.specs.Change.{Begins};
 ghost use Rattle.cluster_metadata.specs.Locks.{AreLocksOf, IsLockOf};
-ghost use Rattle.cluster_metadata.specs.Change.{plan_lock};
+ghost use Rattle.cluster_metadata.specs.Change.{HasCuts, plan_lock};
 ghost use Rattle.cluster_metadata.specs.Permission.{AdmitsUnless};
 
 use crate::admit_fault::AdmitFault;
@@ -49,6 +49,7 @@ fn begun(image: &Image, plan: Plan) -> Result<Change, Memory>
     requires new { AllByRecursion (λ s. (s.node == plan.row.node) ≡ false) image.now.sequences }
     requires deltas { HasDeltas image.now plan }
     requires ranges { IsLockOf (with_movement image.now plan.row) plan.row (plan_lock plan) }
+    requires cuts { HasCuts (with_movement image.now plan.row) plan }
     ensures { IfOk result (Begins image.now plan.row) }
 {
     let row = &plan.row;

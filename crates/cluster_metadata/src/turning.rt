@@ -1,7 +1,8 @@
 //! Changes placement maps by the deltas of a movement.
 
-ghost use Rattle.std.specs.Prelude.{◌≡◌, ◌<◌, ◌≤◌, ◌-◌, ◌^◌, ℕ, List, length, IfOk, IsTrue, OnOk};
+ghost use Rattle.std.specs.Prelude.{◌≡◌, ◌<◌, ◌≤◌, ◌-◌, ◌^◌, ℕ, List, [], None, length, IfOk, IsTrue, OnOk};
 ghost use Rattle.placement_deltas.specs.Deltas.{delta_at};
+ghost use Rattle.placement_deltas.specs.declared.delta_row.DeltaRow.{DeltaRow};
 ghost use Rattle.range_placements.specs.Editing.{edited, passed};
 ghost use Rattle.range_placements.specs.Exchanging.{exchanged};
 ghost use Rattle.cluster_metadata.specs.MapChanges.{each_edited, each_exchanged};
@@ -12,7 +13,7 @@ use crate::map_change::{BookChanges, BookEdits};
 use crate::turn::Turn;
 use cluster_terms::{Memory, RightEnd, Token, TokenRange, TryCopy};
 use node_sets::NodeSet;
-use placement_deltas::{Delta, DeltaBook};
+use placement_deltas::{Delta, DeltaBook, Unchanged};
 use range_placements::{PlacementMap, PlacementRow, RowChange, RowChanges, RowEdits, with_change};
 use std::alloc::Global;
 
@@ -57,21 +58,66 @@ fn turned_sets(
     }
 }
 
-/// Adds the new sets of a row, if the delta shows a change at its last token. `near` is where the delta is looked at.
+/// Where a delta was looked at last, and tokens at which it changes nothing, if some are known.
+#[derive(Drop)]
+struct DeltaPlace {
+    near: usize,
+    unchanged: Option<Unchanged>,
+}
+
+/// Before the first look at a delta.
+fn at_start() -> DeltaPlace
+    ensures { result ≡ record { near = 0; unchanged = None } }
+{
+    DeltaPlace {
+        near: 0,
+        unchanged: None,
+    }
+}
+
+/// Whether a token is one at which a delta is known to change nothing.
+fn is_among(known: Option<Unchanged>, t: Token) -> bool
+    ensures { IsTrue result → (delta : List DeltaRow)
+        → spec.IsKnown delta known → delta_at delta t ≡ ([], []) }
+{
+    match known {
+        Some(tokens) => tokens.has(t),
+        None => false,
+    }
+}
+
+/// Whether a delta changes nothing at a token. A row of the delta in which it changes nothing is looked up only once,
+/// if the tokens ascend.
+fn changes_nothing(delta: &Delta, t: Token, place: &mut DeltaPlace) -> bool
+    requires { spec.IsKnown delta.now place.old.unchanged }
+    ensures known { spec.IsKnown delta.now place.new.unchanged }
+    ensures unchanged { IsTrue result → delta_at delta.now t ≡ ([], []) }
+{
+    if is_among(place.unchanged, t) {
+        return true;
+    }
+    place.unchanged = delta.unchanged_from(t, &mut place.near);
+    is_among(place.unchanged, t)
+}
+
+/// Adds the new sets of a row, if the delta shows a change at its last token.
 fn push_turned(
     changes: &mut RowChanges,
     turn: Turn,
     at: usize,
     row: &PlacementRow,
     delta: &Delta,
-    near: &mut usize,
+    place: &mut DeltaPlace,
 ) -> Result<(), Memory>
-    ensures { OnOk result (spec.AddsTurned turn delta.now at row.now changes.old changes.new) }
+    requires { spec.IsKnown delta.now place.old.unchanged }
+    ensures known { spec.IsKnown delta.now place.new.unchanged }
+    ensures sets { OnOk result (spec.AddsTurned turn delta.now at row.now changes.old changes.new) }
 {
-    let (gained, lost) = delta.at_near(row.last_token(), near);
-    if gained.is_empty() && lost.is_empty() {
+    let last = row.last_token();
+    if changes_nothing(delta, last, place) {
         return Ok(());
     }
+    let (gained, lost) = delta.at_near(last, &mut place.near);
     let PlacementRow {
         right: _,
         reads,
@@ -90,30 +136,31 @@ fn turned_rows(
     ensures { IfOk result (λ changes. exchanged changes map.now ≡ spec.turned_rows turn map.now delta.now) }
 {
     let mut changes = RowChanges::empty(alloc);
-    let mut near = 0;
+    let mut place = at_start();
     for (at, row) in map.rows().iter().enumerate() {
-        push_turned(&mut changes, turn, at, row, delta, &mut near)?;
+        push_turned(&mut changes, turn, at, row, delta, &mut place)?;
     }
     Ok(changes)
 }
 
-/// Where a pass over ascending tokens has come in a map and in a delta.
+/// Where a map and a delta were looked at last.
 #[derive(Drop)]
 struct Places {
     map: usize,
-    delta: usize,
+    delta: DeltaPlace,
 }
 
-/// Whether a turn by a delta leaves the sets of a token as they are. `near` is where the delta is looked at.
-fn leaves_sets(turn: Turn, delta: &Delta, t: Token, near: &mut usize) -> bool
-    ensures { IsTrue result → (reads writes : List ℕ)
+/// Whether a turn by a delta leaves the sets of a token as they are.
+fn leaves_sets(turn: Turn, delta: &Delta, t: Token, place: &mut DeltaPlace) -> bool
+    requires { spec.IsKnown delta.now place.old.unchanged }
+    ensures known { spec.IsKnown delta.now place.new.unchanged }
+    ensures sets { IsTrue result → (reads writes : List ℕ)
         → spec.turned turn (reads, writes) (delta_at delta.now t) ≡ (reads, writes) }
 {
     if matches!(turn, Turn::Keep) {
         return true;
     }
-    let (gained, lost) = delta.at_near(t, near);
-    gained.is_empty() && lost.is_empty()
+    changes_nothing(delta, t, place)
 }
 
 /// Whether a map has a row at an index, which no edit is past.
@@ -124,8 +171,9 @@ fn is_ahead(edits: &RowEdits, map: &PlacementMap, at: usize) -> bool
     edits.passed() <= at && at < map.rows().len()
 }
 
-/// Adds the row of a range, with the sets of its last token in a map, changed by what the delta shows there. If this is the
-/// token's row in the map and no edit is past it, the row is kept. `places` is where the map and the delta are looked at.
+/// Adds the row of a range, with the sets of its last token in a map, changed by what the delta shows there. If this is
+/// the token's row in the map and no edit is past it, the row is kept. `places` is where the map and the delta are
+/// looked at.
 fn recut_row(
     edits: &mut RowEdits,
     turn: Turn,
@@ -134,8 +182,10 @@ fn recut_row(
     range: &TokenRange,
     places: &mut Places,
 ) -> Result<(), Memory>
-    ensures { OnOk result (spec.AddsRow map.now (spec.row_with (spec.turned_at turn map.now delta.now) range.now)
-        edits.old edits.new) }
+    requires { spec.IsKnown delta.now places.old.delta.unchanged }
+    ensures known { spec.IsKnown delta.now places.new.delta.unchanged }
+    ensures row { OnOk result (spec.AddsRow map.now
+        (spec.row_with (spec.turned_at turn map.now delta.now) range.now) edits.old edits.new) }
 {
     let last = range.last_token();
     let row = map.row_near(last, &mut places.map);
@@ -145,12 +195,12 @@ fn recut_row(
     {
         return edits.keep(places.map);
     }
-    let (gained, lost) = delta.at_near(last, &mut places.delta);
+    let (gained, lost) = delta.at_near(last, &mut places.delta.near);
     edits.put(turned_sets(turn, range.right, &row.reads, &row.writes, gained, lost)?)
 }
 
-/// The edits that make a map one of these ranges, with the sets of their last tokens in the map, changed by what the delta
-/// shows there.
+/// The edits that make a map one of these ranges, with the sets of their last tokens in the map, changed by what the
+/// delta shows there.
 fn recut_map(
     alloc: Global,
     turn: Turn,
@@ -161,7 +211,10 @@ fn recut_map(
     ensures { IfOk result (λ edits. edited edits map.now ≡ spec.recut_rows turn ranges.now map.now delta.now) }
 {
     let mut edits = RowEdits::with_room(alloc, ranges.len())?;
-    let mut places = Places { map: 0, delta: 0 };
+    let mut places = Places {
+        map: 0,
+        delta: at_start(),
+    };
     for range in ranges {
         recut_row(&mut edits, turn, map, delta, range, &mut places)?;
     }
@@ -188,9 +241,9 @@ pub fn turned_book(
 }
 
 /// The edits that make the maps of a book those of these ranges, with the sets of their last tokens in the maps of the
-/// book, changed by the deltas of a movement. The deltas are under the same replications in the same order. Fails only if
-/// memory runs out. Cost: under each replication one pass over the map, the delta and the ranges, and a copy of the sets
-/// for each row that is new or changes.
+/// book, changed by the deltas of a movement. The deltas are under the same replications in the same order. Fails only
+/// if memory runs out. Cost: under each replication one pass over the map, the delta and the ranges, and a copy of the
+/// sets for each row that is new or changes.
 pub fn recut_book(
     alloc: Global,
     turn: Turn,
@@ -199,7 +252,8 @@ pub fn recut_book(
     ranges: &[TokenRange],
 ) -> Result<BookEdits, Memory>
     ensures { IfOk result (λ edits. length book.now ≡ length deltas.now
-        → each_edited edits.items book.now ≡ spec.each_map (spec.recut_rows turn ranges.now) book.now deltas.now) }
+        → each_edited edits.items book.now
+        ≡ spec.each_map (spec.recut_rows turn ranges.now) book.now deltas.now) }
 {
     let mut edits = Vec::new(alloc);
     for (row, deltas) in book.as_slice().iter().zip(deltas.as_slice()) {

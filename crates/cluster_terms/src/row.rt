@@ -60,7 +60,7 @@ pub fn rows_between(alloc: Global, cuts: &[Token]) -> Result<Rows, Memory>
     ensures rows { IfOk result (λ rows. rows ≡ spec.rows_between cuts.now) }
     ensures tokens { OnOk result (AllByRecursion IsToken cuts.now) }
 {
-    let mut rows = Rows::empty(alloc);
+    let mut rows = Vec::with_capacity(alloc, cuts.len().saturating_add(1))?;
     let mut left = None;
     for cut in cuts {
         let right = RightEnd::At(cut.copy()?);
@@ -71,5 +71,5 @@ pub fn rows_between(alloc: Global, cuts: &[Token]) -> Result<Rows, Memory>
         let right = RightEnd::Max;
         rows.push(TokenRange { left, right })?;
     }
-    Ok(rows)
+    Ok(Rows::from_vec(rows))
 }

@@ -8,10 +8,10 @@ use Rattle.transformations.specs.declared.entry.Entry.{Entry}
 abbrev pub entry_at : List Entry → ℕ → Option Entry
 entry_at log epoch = if epoch == 0 then None else slice_get log (epoch - 1)
 
--- each entry is stored under its id
+-- each entry is stored under its id (the invariant of `Log`)
 abbrev pub AreById : List (ℕ × Entry) → Type 0
 AreById stored = keys_of stored ≡ map (λ entry. entry.id) (values_of stored)
 
--- each entry is stored under its id, and the entries are those of a log
+-- and the entries are those of a log (the invariant of `Log`)
 abbrev pub IsStored : List (ℕ × Entry) → Type 0
 IsStored stored = AreById stored × AreEntries (values_of stored)

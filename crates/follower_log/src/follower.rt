@@ -181,7 +181,8 @@ impl Follower {
         ensures step { Performs self.old (hand_image self.old image) result self.new }
         ensures least { IsCutFrom self.old.image.epoch result }
         ensures shows { (log : List LogEntry) (taken : Taken) → IsLog log → IsImageOf log image
-            → StandsFor log taken self.old → StandsAfter log taken (with_image taken image.epoch) result self.new }
+            → StandsFor log taken self.old
+            → StandsAfter log taken (with_image taken image.epoch) result self.new }
     {
         self.hand_over_image(image)
     }

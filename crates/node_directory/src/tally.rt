@@ -67,7 +67,8 @@ fn add_node(nodes: &mut Vec<NodeId>, most: usize, node: NodeId) -> Result<(), Me
 /// Adds a rack if it is new and the list has fewer than `most` racks. If memory runs out, the list is unchanged.
 fn add_rack<'a>(racks: &mut Vec<&'a [u8]>, most: usize, rack: &'a [u8]) -> Result<(), Memory>
     ensures { MatchResult result
-        (λ _. spec.racks_in racks.new.items ≡ spec.with_new bytes_eq most rack.now (spec.racks_in racks.old.items))
+        (λ _. spec.racks_in racks.new.items
+        ≡ spec.with_new bytes_eq most rack.now (spec.racks_in racks.old.items))
         (λ _. racks.new.items ≡ racks.old.items) }
 {
     if racks.len() < most && !has_rack(racks, rack) {

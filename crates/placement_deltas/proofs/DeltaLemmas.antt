@@ -4,6 +4,7 @@ use Rattle.std.specs.List.{AllByRecursion}
 use Rattle.std.specs.List.Sorted.{IsPartitionPoint, IsPartitionedBy}
 use Rattle.std.proofs.lemmas.Bool.{true≢false}
 use Rattle.std.proofs.lemmas.Int.{ints}
+use Rattle.std.proofs.lemmas.List.{get_or_default}
 use Rattle.cluster_terms.proofs.AscendingLemmas.{weaker}
 use Rattle.cluster_terms.specs.Arc.{greatest_token}
 use Rattle.cluster_terms.specs.Row.{last_token}
@@ -84,6 +85,25 @@ found_at (row ∷ rows) t (suc k) d split within =
     let past : int_le t (last_token row.right) ≡ false = grind (arith, ints) in
     found_at rows t k d (λ j e from below. split.0 (suc j) e (omega arith) (omega arith), λ j e from below. split.1 (suc j) e (omega arith) (omega arith)) (omega arith)
     ∙ ap (λ b. if b then change_in row else delta_at rows t) (sym past)
+
+-- it tells the same of each token from there up to its end
+pub found_from : (rows : List DeltaRow) (t : ℤ) (k : ℕ) (row : DeltaRow) → IsDelta rows
+    → IsPartitionPoint (λ r. int_lt (last_token r.right) t ≡ true) (λ r. int_lt (last_token r.right) t ≡ false) rows k
+    → k < length rows → row ≡ get_or rows k row → (x : ℤ) → t ≤ℤ x → x ≤ℤ last_token row.right → delta_at rows x ≡ change_in row
+found_from rows t k row delta split within is x from upto =
+    sym (ap change_in is ∙ found_at rows x k row (splits_here rows x k delta within here before) within)
+  where
+    high : (w : ℤ) → x ≤ℤ w → int_lt w x ≡ false
+    high w le = grind (arith, ints)
+
+    low : (w : ℤ) → int_lt w t ≡ true → int_lt w x ≡ true
+    low w lt = grind (arith, ints)
+
+    here : (d : DeltaRow) → int_lt (last_token (get_or rows k d).right) x ≡ false
+    here d = ap (λ (r : DeltaRow). int_lt (last_token r.right) x) (get_or_default rows k d row within ∙ sym is) ∙ high (last_token row.right) upto
+
+    before : (d : DeltaRow) → 1 ≤ k → int_lt (last_token (get_or rows (k - 1) d).right) x ≡ true
+    before d some = low (last_token (get_or rows (k - 1) d).right) (split.0 (k - 1) d (omega arith) (omega arith))
 
 -- ---- the inverse
 

@@ -1,5 +1,5 @@
 -- Deltas: the nodes that are gained and the nodes that are lost at each token.
-use Rattle.std.specs.Prelude.{◌≡◌, ◌≢◌, true, if◌then◌else◌, ℕ, ℤ, int_lt, int_le, List, [], ◌∷◌, map}
+use Rattle.std.specs.Prelude.{◌≡◌, ◌≢◌, true, if◌then◌else◌, ℕ, ℤ, ◌≤ℤ◌, int_lt, int_le, List, [], ◌∷◌, map}
 use Rattle.std.specs.List.{AllByRecursion}
 use Rattle.cluster_terms.specs.Row.{is_within, last_token}
 use Rattle.cluster_terms.specs.declared.row.TokenRange.{TokenRange}
@@ -20,6 +20,10 @@ change_in row = (row.gained, row.lost)
 abbrev pub delta_at : List DeltaRow → ℤ → List ℕ × List ℕ
 delta_at [] x = ([], [])
 delta_at (row ∷ rows) x = if int_le x (last_token row.right) then change_in row else delta_at rows x
+
+-- a delta changes nothing at the tokens from one to another
+abbrev pub ChangesNothing : List DeltaRow → ℤ → ℤ → Type 0
+ChangesNothing delta first last = (x : ℤ) → first ≤ℤ x → x ≤ℤ last → delta_at delta x ≡ ([], [])
 
 -- the rows ascend, adjacent rows differ in their gained or lost nodes, and the last row ends in Max
 abbrev pub IsDelta : List DeltaRow → Type 0

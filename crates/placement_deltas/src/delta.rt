@@ -1,11 +1,12 @@
-ghost use Rattle.std.specs.Prelude.{◌≡◌, int_lt, true, false, ◌<◌, length, IfOk, IsTrue};
+ghost use Rattle.std.specs.Prelude.{◌≡◌, ◌≢◌, ◌≤ℤ◌, int_lt, true, false, ◌<◌, [], length, IfOk, IfSome, IsFalse, IsNone, IsTrue};
 ghost use Rattle.std.specs.List.Sorted.{IsPartitionPoint, IsStrictlySortedBy};
 ghost use Rattle.std.specs.Ordering.{int_cmp};
 ghost use Rattle.cluster_terms.specs.Row.{last_token, rows_between};
-ghost use Rattle.placement_deltas.specs.Deltas.{EndAtCuts, IsDelta, ShowsChanges, delta_at, exchanged, inverse_of};
+ghost use Rattle.placement_deltas.specs.Deltas.{ChangesNothing, EndAtCuts, IsDelta, ShowsChanges, change_in, delta_at, exchanged, inverse_of};
 
 use crate::delta_row::{DeltaRow, DeltaRows};
 use crate::joining::joined;
+use crate::unchanged::Unchanged;
 use cluster_terms::{Memory, Token, TryCopy, rows_between};
 use node_sets::NodeSet;
 use std::alloc::Global;
@@ -77,6 +78,14 @@ fn count_near(rows: &[DeltaRow], near: usize, t: Token) -> usize
     count_before(rows, t)
 }
 
+/// Whether no node is gained and none is lost in a row.
+fn changes_nothing(row: &DeltaRow) -> bool
+    ensures yes { IsTrue result → change_in row.now ≡ ([], []) }
+    ensures no { IsFalse result → change_in row.now ≢ ([], []) }
+{
+    row.gained.is_empty() && row.lost.is_empty()
+}
+
 /// The row with the nodes gained and the nodes lost exchanged.
 fn exchanged(row: &DeltaRow) -> Result<DeltaRow, Memory>
     ensures { IfOk result (λ other. other ≡ exchanged row.now) }
@@ -131,13 +140,33 @@ impl Delta {
     /// these rows are looked at, so for ascending tokens that miss no row a look-up costs a few comparisons. Otherwise
     /// the cost is a binary search.
     pub fn at_near(&self, t: Token, near: &mut usize) -> (&NodeSet, &NodeSet)
-        ensures { (result.0.now, result.1.now) ≡ delta_at self.now t }
+        ensures delta { (result.0.now, result.1.now) ≡ delta_at self.now t }
+        ensures first { IsPartitionPoint (λ r. int_lt (last_token r.right) t ≡ true)
+            (λ r. int_lt (last_token r.right) t ≡ false) self.now near.new }
     {
         let rows = self.rows();
         let found = count_near(rows, *near, t);
         *near = found;
         let row = &rows[found];
         (&row.gained, &row.lost)
+    }
+
+    /// The tokens from `t` up to the end of its row, if the delta changes nothing at `t`. Returns `None` if and only if
+    /// it changes something there. Takes no memory. `near` and the cost are as for `at_near`.
+    pub fn unchanged_from(&self, t: Token, near: &mut usize) -> Option<Unchanged>
+        ensures changed { IsNone result → delta_at self.now t ≢ ([], []) }
+        ensures ends { IfSome result (λ tokens. (tokens.first ≡ t) × (t ≤ℤ tokens.last)) }
+        ensures unchanged { IfSome result (λ tokens. ChangesNothing self.now tokens.first tokens.last) }
+    {
+        let rows = self.rows();
+        let found = count_near(rows, *near, t);
+        *near = found;
+        let row = &rows[found];
+        if !changes_nothing(row) {
+            return None;
+        }
+        let last = row.last_token();
+        Some(Unchanged { first: t, last })
     }
 
     /// The delta with the nodes gained and the nodes lost exchanged. Fails only if memory runs out. The cost is a

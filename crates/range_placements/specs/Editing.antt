@@ -1,5 +1,6 @@
 -- The rows of a map after rows are put in and removed.
--- Of the code: no promise rests on these.
+-- The contracts of `RowEdits` and `PlacementMap::edit` cite `edited` and `passed`. Of the code: no promise rests on
+-- `rows_made`.
 use Rattle.std.specs.Prelude.{ℕ, suc, ◌+◌, List, [], ◌∷◌, ◌++◌, take, drop}
 use Rattle.range_placements.specs.declared.placement_row.PlacementRow.{PlacementRow}
 use Rattle.range_placements.specs.declared.row_edits.RowEdit.{RowEdit}

@@ -186,6 +186,8 @@ impl PlacementMap {
     pub fn row_near(&self, t: Token, near: &mut usize) -> &PlacementRow
         ensures bound { near.new < length self.now }
         ensures row { (d : AnyRow) → result.now ≡ get_or self.now near.new d }
+        ensures first { IsPartitionPoint (λ r. int_lt (last_token r.right) t ≡ true)
+            (λ r. int_lt (last_token r.right) t ≡ false) self.now near.new }
         ensures placement { (result.now.reads, result.now.writes) ≡ map_at self.now t }
     {
         let rows = self.rows();
@@ -196,7 +198,9 @@ impl PlacementMap {
 
     /// The reads and the writes at a token, as `at` gives them. Takes no memory. The cost is that of `row_near`.
     pub fn at_near(&self, t: Token, near: &mut usize) -> (&NodeSet, &NodeSet)
-        ensures { (result.0.now, result.1.now) ≡ map_at self.now t }
+        ensures placement { (result.0.now, result.1.now) ≡ map_at self.now t }
+        ensures first { IsPartitionPoint (λ r. int_lt (last_token r.right) t ≡ true)
+            (λ r. int_lt (last_token r.right) t ≡ false) self.now near.new }
     {
         let row = self.row_near(t, near);
         (&row.reads, &row.writes)

@@ -19,8 +19,8 @@ pub enum RowEdit {
     Skip { keep: usize, skip: usize },
 }
 
-/// How a pass over the rows of a placement map keeps some, removes others and puts in new ones. It holds the memory for the
-/// rows after it. Rows that the pass doesn't come to are removed.
+/// How a pass over the rows of a placement map keeps some, removes others and puts in new ones. It holds the memory for
+/// the rows after it. Rows that the pass doesn't come to are removed.
 #[derive(Debug, Drop)]
 pub struct RowEdits {
     edits: Vec<RowEdit>,
@@ -147,13 +147,14 @@ impl RowEdits {
         self.passed
     }
 
-    /// Keeps the row at an index, which the pass hasn't come past, and removes the rows before it. `Err` means that memory
-    /// ran out.
+    /// Keeps the row at an index, which the pass hasn't come past, and removes the rows before it. `Err` means that
+    /// memory ran out.
     pub fn keep(&mut self, at: usize) -> Result<(), Memory>
         requires place { spec.passed self.old ≤ at }
         requires bound { at < 2 ^ 64 - 1 }
-        ensures { OnOk result ((rows : List AnyRow) (d : AnyRow) → at < length rows
+        ensures rows { OnOk result ((rows : List AnyRow) (d : AnyRow) → at < length rows
             → spec.edited self.new rows ≡ spec.edited self.old rows ++ get_or rows at d ∷ []) }
+        ensures passed { OnOk result (spec.passed self.new ≡ at + 1) }
     {
         make_room(&mut self.room, self.made)?;
         if at == self.passed {
@@ -172,8 +173,9 @@ impl RowEdits {
 
     /// Puts in a row. `Err` means that memory ran out.
     pub fn put(&mut self, row: PlacementRow) -> Result<(), Memory>
-        ensures { OnOk result ((rows : List AnyRow)
+        ensures rows { OnOk result ((rows : List AnyRow)
             → spec.edited self.new rows ≡ spec.edited self.old rows ++ row ∷ []) }
+        ensures passed { OnOk result (spec.passed self.new ≡ spec.passed self.old) }
     {
         make_room(&mut self.room, self.made)?;
         let keep = self.keep;

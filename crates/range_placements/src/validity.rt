@@ -15,7 +15,8 @@ pub fn a_merge_undoes_a_split()
 #[tactic(auto, using(crate::proofs::MapChanges::changed_nodes))]
 pub fn a_change_adds_and_removes_nodes()
     ensures { (set gained lost : List ℕ) (n : ℕ)
-        → has_node (with_change set gained lost) n ≡ (has_node gained n || (has_node set n && not (has_node lost n))) }
+        → has_node (with_change set gained lost) n
+        ≡ (has_node gained n || (has_node set n && not (has_node lost n))) }
 {}
 
 /// The change between two sets leads from the first to the second.

@@ -19,7 +19,8 @@ abbrev pub epoch_of : Option Image → ℕ
 epoch_of None = 0
 epoch_of (Some image) = image.epoch
 
--- the nearest image at or below an epoch: it is kept or the empty one, and no kept one lies between
+-- the nearest image at or below an epoch: it is kept or the empty one, and no kept one lies between (of the code: no
+-- promise rests on it)
 pub record IsNearest (images : List Image) (e : ℕ) (image : Image) : Type 0 where
   pub among : Contains (empty_image ∷ images) image
   pub below : image.epoch ≤ e

@@ -34,7 +34,7 @@ untold_files = None
 abbrev pub content : Option (List ℕ) → List ℕ
 content file = unwrap_or file []
 
--- the contents of a file, if the store tells its files
+-- the contents of a file, if the store tells its files (of the code: no promise rests on it)
 abbrev pub told_content : Option Files → List ℕ → Option (List ℕ)
 told_content all name = option_map (λ all. content (file_of all name)) all
 

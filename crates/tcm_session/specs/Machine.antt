@@ -56,7 +56,7 @@ commit_reply session id command =
     let committed = commit_of session.log id command in
     record { text = commit_text committed.answer; added = committed.added; followers = session.followers }
 
--- the reply to a commit that is accepted with this entry
+-- the reply to a commit that is accepted with this entry (of the code: no promise rests on it)
 abbrev pub accepted_reply : SessionState → Entry → Reply
 accepted_reply session entry = record { text = ok_text entry.epoch; added = entry ∷ []; followers = session.followers }
 
@@ -81,7 +81,7 @@ abbrev pub made_reply : SessionState → List ℕ → Reply
 made_reply session name =
     record { text = epoch_text (codes "AT") 0; added = []; followers = session.followers ++ new_follower name ∷ [] }
 
--- unless there are too many, or its name is taken
+-- a follower is refused if its name is taken, and else if there are 16 already
 abbrev pub follower_unless_full : SessionState → List ℕ → Reply
 follower_unless_full session name =
     if nat_le most_followers (length session.followers) then only_answers session (no_text (codes "FOLLOWERS-FULL"))
@@ -104,10 +104,11 @@ abbrev pub handed_reply : SessionState → List ℕ → Handed → Reply
 handed_reply session name step =
     record { text = handed_text step.answer; added = []; followers = with_follower session.followers name step.after }
 
--- the image of an epoch, if the history has reached this epoch
+-- the reason that an epoch hasn't come; it shows the last epoch
 abbrev pub no_epoch : List Command → List ℕ
 no_epoch history = codes "EPOCH " ++ decimal (length history)
 
+-- the image of an epoch, if the history has reached this epoch
 abbrev pub image_at : List Command → ℕ → Result Image (List ℕ)
 image_at history epoch =
     if nat_le epoch (length history) then Ok (state_after history epoch) else Err (no_epoch history)

@@ -30,11 +30,12 @@ state_ending e log =
     if nat_le e (length log) then record { status = 0; text = snapshot_line (state_after (commands_of log) e) }
     else record { status = 7; text = no_text (no_epoch (commands_of log)) }
 
--- the log in a file is checked before
+-- the end for the log in a file: its first line that is refused, or else the state
 abbrev pub log_ending : ℕ → Result (List Entry) RefusedLine → Ending
 log_ending e (Ok log) = state_ending e log
 log_ending e (Err refused) = record { status = 3; text = refused_line_text refused }
 
+-- the end for what a load gives: an absent file, one that is too large, or bytes
 abbrev pub file_ending : List ℕ → ℕ → Loaded → Ending
 file_ending name e loaded.Absent = record { status = 7; text = with_feed (codes "NO FILE " ++ name) }
 file_ending name e (loaded.TooLarge size) = record { status = 8; text = too_large_text }

@@ -126,7 +126,8 @@ pub record OnlyAnswers {T : Type 0} (text out out' : List ℕ) (result : Result 
   pub kept : take (length out) out' ≡ out
   pub memory : IfErr result (λ e. e ≡ fault.Memory)
 
--- an entry may follow a log: its epoch is the next, its id is new, and its command is accepted
+-- an entry may follow a log: its epoch is the next, its id is new, and its command is accepted (of the code: no promise
+-- rests on it)
 pub record IsNextEntry (log : List Entry) (entry : Entry) : Type 0 where
   pub epoch : entry.epoch ≡ length log + 1
   pub fresh : entry_with_id log entry.id ≡ None

@@ -94,7 +94,8 @@ fn are_files(names: &[String]) -> bool
 
 /// The files that the words name if they are `replay` and the names of 1 to 64 files. Returns `None` for other words.
 fn replay_words(words: &[String]) -> Option<&[String]>
-    ensures files { spec.IsReplayOf (map string_bytes words.now) (option_map (λ names. map string_bytes names.now) result) }
+    ensures files { spec.IsReplayOf (map string_bytes words.now)
+        (option_map (λ names. map string_bytes names.now) result) }
     ensures few { IfSome result (λ names. length names.now ≤ 64) }
 {
     let (word, names) = words.split_first()?;
@@ -177,7 +178,8 @@ fn finish<K: Sink, D: Store>(
     ensures stopped { OnErr result (Stopped
         (StopsNext (spec.ending_text ending session.old begun.now)
         (entry_lines (entries_added session.old (spec.ending_lines ending begun.now))))
-        (option_copied log.entry) (K.written out.old) (K.written out.new) (D.files store.old) (D.files store.new)) }
+        (option_copied log.entry) (K.written out.old) (K.written out.new)
+        (D.files store.old) (D.files store.new)) }
     ensures unnamed { LeavesStore (option_copied log.entry) store.old store.new result }
 {
     match ending {
@@ -453,7 +455,8 @@ fn answer_last<K: Sink, D: Store>(
     store: &mut D,
 ) -> Result<Status, RunFault>
     ensures writes { WritesSeen
-        (λ seen. last_outcome (map string_bytes words.now) seen (state_line.snapshot_words (map string_bytes words.now)))
+        (λ seen. last_outcome (map string_bytes words.now) seen
+        (state_line.snapshot_words (map string_bytes words.now)))
         (D.files store.old) (K.written out.old) (K.written out.new) result }
     ensures files { D.files store.new ≡ D.files store.old }
     ensures cause { HasRunCause
@@ -566,8 +569,8 @@ fn answer_words<S: Source, K: Sink, D: Store>(
 /// sink runs out of memory. With status 1, 4, 5 or 6, the printed bytes are a prefix of the output of a run without the
 /// fault, and some lines of a script are done. The file `LOG` has then its whole lines and the lines of the entries
 /// that these added, and maybe a part of one entry more; or it is as before, and no line is done. An entry whose answer
-/// is printed, or begun, stands whole in it. No other file changed. `scripts_are_sent_again` says what the same lines
-/// make of such a file.
+/// is printed, or begun, stands whole in it. No other file that the store tells changed; `FileStore` tells none, and
+/// may overwrite `LOG.new`. `scripts_are_sent_again` says what the same lines make of such a file.
 ///
 /// Cost: a run keeps in memory the log, the image of each 256th epoch, the metadata at the last epoch and that of each
 /// follower, the file while it is loaded, and of the current line at most 16,385 bytes, with its answer. A query of an
@@ -613,7 +616,8 @@ pub fn run_surely(
     out: &mut SureSink,
     store: &mut SureStore,
 ) -> Status
-    ensures surely { (result.0 ≡ 1) ⊎ ComesSurely (outcome (map string_bytes words.now) (λ _. store.old) input.old.bytes)
+    ensures surely { (result.0 ≡ 1) ⊎ ComesSurely
+        (outcome (map string_bytes words.now) (λ _. store.old) input.old.bytes)
         out.old out.new store.new result.0 }
     ensures outcome { IsRun (map string_bytes words.now) (λ source. Some source.bytes) input.old input.new
         (Some out.old) (Some out.new) (Some store.old) (Some store.new) result.0 }

@@ -86,7 +86,8 @@ fn end_of<D: Store>(
 ) -> Result<Ending, RunFault>
     requires few { length names.now ≤ 64 }
     requires begins { replay.old ≡ spec.nothing_replayed }
-    ensures ends { IfOk result (λ ending. EndsSo (spec.replay_ending (map string_bytes names.now)) ending (D.files store.old)) }
+    ensures ends { IfOk result (λ ending.
+        EndsSo (spec.replay_ending (map string_bytes names.now)) ending (D.files store.old)) }
     ensures files { D.files store.new ≡ D.files store.old }
     ensures cause { HasRunCause (counts 0 0 (D.faults store.old)) (counts 0 0 (D.faults store.new)) result }
 {
@@ -105,7 +106,8 @@ pub fn replay_files<D: Store>(
     store: &mut D,
 ) -> Result<Ending, RunFault>
     requires few { length names.now ≤ 64 }
-    ensures ends { IfOk result (λ ending. EndsSo (spec.replay_ending (map string_bytes names.now)) ending (D.files store.old)) }
+    ensures ends { IfOk result (λ ending.
+        EndsSo (spec.replay_ending (map string_bytes names.now)) ending (D.files store.old)) }
     ensures files { D.files store.new ≡ D.files store.old }
     ensures cause { HasRunCause (counts 0 0 (D.faults store.old)) (counts 0 0 (D.faults store.new)) result }
 {

@@ -37,7 +37,8 @@ pub fn answer_line<K: Sink, D: Store>(
         (D.files store.old) (D.files store.new)) }
     ensures stopped { OnErr result (Stopped
         (StopsNext (reply session.old line.now).text (entry_lines (reply session.old line.now).added))
-        (option_copied log.entry) (K.written out.old) (K.written out.new) (D.files store.old) (D.files store.new)) }
+        (option_copied log.entry) (K.written out.old) (K.written out.new)
+        (D.files store.old) (D.files store.new)) }
     ensures unnamed { LeavesStore (option_copied log.entry) store.old store.new result }
 {
     let mut text = ByteText::empty(alloc);
@@ -63,7 +64,8 @@ pub fn feed<K: Sink, D: Store>(
         (standing session.new begun.new.items (K.written out.new) (D.files store.new))) }
     ensures stopped { OnErr result (Stopped
         (StopsIn session.old (whole_lines (begun.old.items ++ piece.now)) [])
-        (option_copied log.entry) (K.written out.old) (K.written out.new) (D.files store.old) (D.files store.new)) }
+        (option_copied log.entry) (K.written out.old) (K.written out.new)
+        (D.files store.old) (D.files store.new)) }
     ensures cause { HasRunCause (counts 0 (K.faults out.old) (D.faults store.old))
         (counts 0 (K.faults out.new) (D.faults store.new)) result }
     ensures unnamed { LeavesStore (option_copied log.entry) store.old store.new result }

@@ -1,4 +1,5 @@
-//! Facts about the definitions: the lines of an input, the quorums in answers, and what followers show.
+//! Facts about the definitions: the lines of an input, scripts that are sent again, the quorums in answers, replays, and
+//! what followers show.
 
 ghost use Rattle.std.specs.Prelude.{◌≡◌, ℕ, ◌++◌, [], List, Option, None, Some, Ok, flat_map};
 ghost use Rattle.std.specs.List.{AllByRecursion};
@@ -90,6 +91,7 @@ pub fn scripts_are_sent_again()
 /// entries and images that weren't answered `Full`. It shows the state of the log at the end of the longest prefix of
 /// these without a gap, so the report is the report of this state.
 pub fn replays_show_the_longest_prefix()
-    ensures { (log : List Entry) (names : List (List ℕ)) (seen : ℕ → Files) → IsLog log → AreFilesOf log names seen
+    ensures { (log : List Entry) (names : List (List ℕ)) (seen : ℕ → Files)
+        → IsLog log → AreFilesOf log names seen
         → ComesToPrefix log (taken_of_files names seen) (files_replayed 1 nothing_replayed names seen) }
 {}

@@ -26,7 +26,7 @@ abbrev pub ends_before : RightEnd → Option ℤ → Bool
 ends_before (At right) (Some left) = int_lt right left
 ends_before _ _ = false
 
--- whether a range with this right end has no token past this left end
+-- whether a range with this right end has no token past this left end (of the code: no promise rests on it)
 abbrev pub ends_by : RightEnd → Option ℤ → Bool
 ends_by (At right) (Some left) = int_le right left
 ends_by _ _ = false

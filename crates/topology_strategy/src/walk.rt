@@ -1,8 +1,9 @@
-ghost use Rattle.std.specs.Prelude.{◌≡◌, [], IfOk, OnOk, nat_eq};
+ghost use Rattle.std.specs.Prelude.{◌≡◌, [], IfOk, IsTrue, OnOk, Some, nat_eq};
 ghost use Rattle.std.specs.Set.{is_member};
 ghost use Rattle.cluster_terms.specs.Group.{nodes_of};
 ghost use Rattle.node_directory.specs.Members.{group_of};
 ghost use Rattle.topology_strategy.specs.Walk.{found_after, found_at};
+ghost use Rattle.topology_strategy.specs.Walk as spec;
 
 use cluster_terms::{Memory, NodeId, Pair};
 use node_directory::{Members, Shape, has_rack};
@@ -35,6 +36,16 @@ fn is_taken(taken: &[NodeId], node: NodeId) -> bool
     taken.iter().any(|other| node == *other)
 }
 
+/// Whether this node was passed last.
+fn is_last(last: &Option<NodeId>, node: NodeId) -> bool
+    ensures { IsTrue result → last.now ≡ Some node }
+{
+    match last {
+        Some(other) => *other == node,
+        None => false,
+    }
+}
+
 impl<'a> Walk<'a> {
     /// A new walk in a group of this shape.
     pub fn begin(alloc: Global, shape: Shape) -> Result<Walk<'a>, Memory>
@@ -65,8 +76,18 @@ impl<'a> Walk<'a> {
         Ok(())
     }
 
-    /// Continues the walk along these pairs, until `wanted` nodes are taken. If memory runs out, the walk may have gone
-    /// along some of them.
+    /// Passes a node: meets it if it is in the group.
+    fn pass(&mut self, members: &Members<'a>, node: NodeId) -> Result<(), Memory>
+        ensures { OnOk result (self.new ≡ spec.passed (group_of members.now) node self.old) }
+    {
+        match members.rack_of(node) {
+            Some(rack) => self.meet(node, rack),
+            None => Ok(()),
+        }
+    }
+
+    /// Continues the walk along these pairs, until `wanted` nodes are taken. A node that comes several times in a row
+    /// is looked at once. If memory runs out, the walk may have gone along some of the pairs.
     #[tactic(auto, using(crate::proofs::GroupWalks::found_full))]
     pub fn go_along(
         &mut self,
@@ -77,12 +98,14 @@ impl<'a> Walk<'a> {
         ensures { OnOk result (self.new
             ≡ found_after (group_of members.now) wanted (nodes_of pairs.now) self.old) }
     {
+        let mut last = None;
         for pair in pairs {
             if self.taken.len() >= wanted {
                 return Ok(());
             }
-            if let Some(rack) = members.rack_of(pair.node) {
-                self.meet(pair.node, rack)?;
+            if !is_last(&last, pair.node) {
+                self.pass(members, pair.node)?;
+                last = Some(pair.node);
             }
         }
         Ok(())

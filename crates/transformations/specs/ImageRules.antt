@@ -131,29 +131,33 @@ overlap image s q = list_any (is_shared image s q) (token_rows image)
 abbrev pub overlaps : Image → SeqRow → Bool
 overlaps image s = list_any (λ q. nat_lt q.node s.node && overlap image s q) image.sequences
 
--- ---- the rules
+-- ---- the rules, each with what it shows where it is broken
 
+-- there are too many nodes; their number is shown
 abbrev pub rule_1 : Image → Option ℤ
 rule_1 image = above most_nodes (length image.nodes)
 
+-- a node's id isn't above the one before it; it is shown
 abbrev pub rule_2 : Image → Option ℤ
 rule_2 image = first_bad id_falls [] image.nodes
 
--- a node's id isn't below the next id
+-- a node's id isn't below the next id; it is shown
 abbrev pub rule_3 : Image → Option ℤ
 rule_3 image = option_map (λ row. pos row.id) (find (λ row. nat_le image.next row.id) image.nodes)
 
+-- a node has the name of an earlier one; the later id is shown
 abbrev pub rule_4 : Image → Option ℤ
 rule_4 image = first_bad name_repeats [] image.nodes
 
+-- the epoch is above 65,536; it is shown
 abbrev pub rule_5 : Image → Option ℤ
 rule_5 image = above most_epochs image.epoch
 
--- the next id is 0, or above the epoch plus 1
+-- the next id is 0, or above the epoch plus 1; it is shown
 abbrev pub rule_6 : Image → Option ℤ
 rule_6 image = shown_if ((image.next == 0) || nat_lt (image.epoch + 1) image.next) (pos image.next)
 
--- the tokens of the ring ascend
+-- a token of the ring isn't above the one before it; it is shown
 abbrev pub rule_7 : Image → Option ℤ
 rule_7 image = option_map (λ found. found.1.token) (first_fall by_token 0 image.tokens)
 
@@ -161,38 +165,43 @@ rule_7 image = option_map (λ found. found.1.token) (first_fall by_token 0 image
 abbrev pub rule_8 : Image → Option ℤ
 rule_8 image = option_map (λ p. p.token) (find (λ p. not (is_standing image.nodes p.node)) image.tokens)
 
--- a node has more than 256 tokens
+-- a node has more than 256 tokens; its id is shown
 abbrev pub rule_9 : Image → Option ℤ
 rule_9 image = option_map (λ row. pos row.id) (find (λ row. nat_lt 256 (length (node_tokens image row.id))) image.nodes)
 
+-- there are too many keyspaces; their number is shown
 abbrev pub rule_10 : Image → Option ℤ
 rule_10 image = above most_keyspaces (length image.keyspaces)
 
--- the names of keyspaces ascend; the position is shown
+-- a keyspace's name isn't above the one before it; its position is shown
 abbrev pub rule_11 : Image → Option ℤ
 rule_11 image = option_map (λ found. pos found.0) (first_fall by_name 0 image.keyspaces)
 
--- the nodes of movements ascend
+-- a movement's node isn't above the one before it; it is shown
 abbrev pub rule_12 : Image → Option ℤ
 rule_12 image = option_map (λ found. pos found.1.node) (first_fall by_node 0 image.sequences)
 
--- the node of a movement isn't registered, or has left
+-- the node of a movement isn't registered, or has left; it is shown
 abbrev pub rule_13 : Image → Option ℤ
 rule_13 image = option_map (λ s. pos s.node) (find (λ s. not (is_standing image.nodes s.node)) image.sequences)
 
+-- the pairs of a movement don't fit its kind; its node is shown
 abbrev pub rule_14 : Image → Option ℤ
 rule_14 image = option_map (λ s. pos s.node) (find (λ s. not (fits image s)) image.sequences)
 
+-- a node takes part in two movements; the later one's node is shown
 abbrev pub rule_15 : Image → Option ℤ
 rule_15 image = first_bad node_repeats [] image.sequences
 
+-- a movement brings a token that is in the ring, or that an earlier one puts in; the token is shown
 abbrev pub rule_16 : Image → Option ℤ
 rule_16 image = first_bad (token_repeats image.tokens) [] image.sequences
 
--- there are too many different tokens in the ring and among the pairs that movements put in
+-- there are too many different tokens in the ring and among the pairs that movements put in; their number is shown
 abbrev pub rule_17 : Image → Option ℤ
 rule_17 image = above most_tokens (distinct_count int_eq (tokens_of (widest image)))
 
+-- a movement overlaps one with a lesser node; its own node is shown
 abbrev pub rule_18 : Image → Option ℤ
 rule_18 image = option_map (λ s. pos s.node) (find (overlaps image) image.sequences)
 

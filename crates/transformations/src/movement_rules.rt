@@ -129,8 +129,9 @@ fn brought(row: &SeqRow) -> &[Pair]
 /// The first of these pairs whose token is in the ring or in a set.
 fn first_known(ring: &[Pair], seen: &BTreeSet<i64>, pairs: &[Pair]) -> Option<Token>
     requires { IsStrictlySortedBy by_token ring.now }
-    ensures { result ≡ option_map (λ p. p.token) (find
-        (λ p. list_any (λ q. int_eq q.token p.token) ring.now || contains int_cmp seen.now p.token) pairs.now) }
+    ensures { result ≡ option_map (λ p. p.token)
+        (find (λ p. list_any (λ q. int_eq q.token p.token) ring.now
+        || contains int_cmp seen.now p.token) pairs.now) }
 {
     pairs
         .iter()

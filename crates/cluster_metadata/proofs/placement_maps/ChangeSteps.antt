@@ -11,7 +11,7 @@ use Rattle.transformations.specs.declared.image.Image.{Image}
 use Rattle.transformations.specs.declared.sequence.Goal.TheVariants as goal
 use Rattle.transformations.specs.declared.sequence.Phase.TheVariants as phase
 use Rattle.transformations.specs.declared.sequence.SeqRow.{SeqRow}
-use Rattle.cluster_metadata.specs.Change.{BringsPlan, Follows, changed, in_phase}
+use Rattle.cluster_metadata.specs.Change.{BringsPlan, Follows, HasCuts, changed, in_phase}
 use Rattle.cluster_metadata.specs.MapSteps.{MapSteps, MovesAt, MovesBy, MovesOf, Stays, no_deltas}
 use Rattle.cluster_metadata.specs.declared.change.Change.{Change}
 use Rattle.cluster_metadata.specs.declared.change.Change.TheVariants.{Registered, Unregistered, Begun, Started, Mid, Finished, Ended, BroughtBack}
@@ -68,6 +68,9 @@ module _ (image : Image) (change : Change) (at : ℕ) where
 
     pub begun_deltas : (plan : Plan) → change ≡ Begun at plan rows → BringsPlan image change → HasDeltas (changed image (Begun at plan rows)) plan
     begun_deltas plan is brings = (subst (BringsPlan image) is brings).0
+
+    pub begun_cuts : (plan : Plan) → change ≡ Begun at plan rows → BringsPlan image change → HasCuts (changed image change) plan
+    begun_cuts plan is brings = subst (λ (ch : Change). HasCuts (changed image ch) plan) (sym is) (subst (BringsPlan image) is brings).2
 
     module _ (left : Option LeftRow) (tokens : List Pair) where
       pub finished_at : change ≡ Finished at left tokens rows → Follows image.sequences change → HasAt image.sequences at (λ s. s.phase ≡ phase.Mid)

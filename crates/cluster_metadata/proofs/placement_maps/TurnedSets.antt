@@ -27,10 +27,10 @@ turned_none WritesBack reads writes gained lost none one = λ i. (reads, unchang
 
 module _ (turn : Turn) (delta : List DeltaRow) (at : ℕ) (row : PlacementRow) (changes : List RowChange) where
   -- so no new sets are needed there
-  pub turned_kept : (gained lost : List ℕ) → (gained, lost) ≡ delta_at delta (last_token row.right) → length gained ≡ 0 → length lost ≡ 0 → AddsTurned turn delta at row changes changes
-  turned_kept gained lost shown none one done rest here =
+  pub turned_kept : delta_at delta (last_token row.right) ≡ ([], []) → AddsTurned turn delta at row changes changes
+  turned_kept nothing done rest here =
       let placement : turned turn (row.reads, row.writes) (delta_at delta (last_token row.right)) ≡ (row.reads, row.writes) =
-      ap (turned turn (row.reads, row.writes)) (sym shown) ∙ turned_none turn row.reads row.writes gained lost none one in
+      ap (turned turn (row.reads, row.writes)) nothing ∙ turned_none turn row.reads row.writes [] [] refl refl in
       ap (λ (p : List ℕ × List ℕ). exchanged changes (done ++ (record { right = row.right; reads = p.0; writes = p.1 }) ∷ rest)) (sym placement)
 
   pub turned_added : (c : RowChange) → c.at ≡ at → (c.reads, c.writes) ≡ turned turn (row.reads, row.writes) (delta_at delta (last_token row.right)) → AddsTurned turn delta at row changes (changes ++ c ∷ [])

@@ -27,8 +27,8 @@ const COMMIT: usize = 27;
 
 const PIECE: usize = 7;
 
-/// What a run leaves: its status, the number of answers, and how many bytes of the whole file the file has, unless it is
-/// absent.
+/// What a run leaves: its status, the number of answers, and how many bytes of the whole file the file has, unless it
+/// is absent.
 #[derive(Clone, Copy)]
 struct Left {
     status: u8,

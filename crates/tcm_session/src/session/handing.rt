@@ -38,7 +38,8 @@ impl Session {
         out: &mut ByteText,
     ) -> Result<(), StepFault>
         ensures steps { Alone (follower_named self.old.followers name.now)
-            (on_follower self.old name.now (λ f. deliver_to self.old name.now f (entry_at self.old.log epoch)))
+            (on_follower self.old name.now
+            (λ f. deliver_to self.old name.now f (entry_at self.old.log epoch)))
             self.old self.new out.old out.new result }
     {
         let Some(place) = place_of(&self.followers, name) else {

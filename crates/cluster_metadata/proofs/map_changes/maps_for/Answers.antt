@@ -1,15 +1,15 @@
-use Rattle.std.proofs.Common.{◌≡◌, ℤ, List, length, ap, sym, subst}
+use Rattle.std.proofs.Common.{◌≡◌, ℤ, List, length, ap, sym, subst, ◌∙◌}
 use Rattle.std.specs.List.{AllByRecursion}
 use Rattle.cluster_terms.specs.Arc.{IsToken}
 use Rattle.cluster_terms.specs.Row.{rows_between}
 use Rattle.placement_deltas.specs.declared.plan.Plan.{Plan}
 use Rattle.sequence_plans.specs.Deltas.{gained_by, no_nodes}
 use Rattle.transformations.specs.Rings.{cuts, cuts_among}
-use Rattle.cluster_metadata.proofs.placement_maps.ChangeSteps.{back_at, back_moves, begun_deltas, begun_moves, ended_at, ended_moves, finished_at, finished_moves, mid_at, mid_moves, registered_stays, started_at, started_moves, unregistered_stays}
+use Rattle.cluster_metadata.proofs.placement_maps.ChangeSteps.{back_at, back_moves, begun_cuts, begun_deltas, begun_moves, ended_at, ended_moves, finished_at, finished_moves, mid_at, mid_moves, registered_stays, started_at, started_moves, unregistered_stays}
 use Rattle.cluster_metadata.proofs.placement_maps.EditedMaps.{RecutsAll}
 use Rattle.cluster_metadata.proofs.placement_maps.ExchangedMaps.{made_from}
 use Rattle.cluster_metadata.proofs.placement_maps.TurnedMaps.{back_maps, begin_maps, end_maps, finish_maps, mid_maps, nodes_maps, start_maps}
-use Rattle.cluster_metadata.specs.Change.{changed}
+use Rattle.cluster_metadata.specs.Change.{HasCuts, changed}
 use Rattle.cluster_metadata.specs.MapChanges.{each_exchanged}
 use Rattle.cluster_metadata.specs.Running.{phase_of, plan_of}
 use Rattle.cluster_metadata.specs.Turns.{each_map, turned_rows, undoing}
@@ -33,14 +33,15 @@ returns-in_ok-next-in-Begun c =
     let image = c.args.image.now in
     let change = c.args.change.now in
     let b = c.in-Begun in
-    let cut : cuts (changed image change) ≡ cuts_among image.tokens b.sequences = ap (λ (ch : Change). cuts (changed image ch)) b.is in
+    let own : HasCuts (changed image change) b.plan = begun_cuts image change b.at b.sequences b.plan b.is c.requires.brings in
+    let cut = c.as_slice-cuts.ensures ∙ own.0 in
     let maps = c.args.maps.now in
     let edits = c.in_ok-next-in-Begun.next.items in
     let sets : RecutsAll turn.Keep (rows_between (cuts (changed image change))) maps b.plan.gain edits =
-    subst (λ (ts : List ℤ). RecutsAll turn.Keep (rows_between ts) maps b.plan.gain edits) (sym cut) c.in_ok-next-in-Begun.ensures.maps in
+    subst (λ (ts : List ℤ). RecutsAll turn.Keep (rows_between ts) maps b.plan.gain edits) cut c.in_ok-next-in-Begun.ensures in
     made_from image change (Rows c.in_ok-next-in-Begun.next) maps c.requires.maps
     (begin_maps image (changed image change) maps (gained_by (changed image (Begun b.at b.plan b.sequences)) b.plan.row) no_nodes b.plan.gain edits sets c.requires.maps (begun_deltas image change b.at b.sequences b.plan b.is c.requires.brings).gains
-    (subst (AllByRecursion IsToken) (sym cut) c.in_ok-next-in-Begun.ensures.tokens) (begun_moves image change b.at b.sequences b.plan b.is c.requires.steps))
+    (subst (AllByRecursion IsToken) own.0 own.1) (begun_moves image change b.at b.sequences b.plan b.is c.requires.steps))
 
 pub returns-in_ok-turned_book-in-Started : goal.returns-in_ok-turned_book-in-Started
 returns-in_ok-turned_book-in-Started c =

@@ -11,6 +11,6 @@ returns c =
     let all : take c.loop-at.at rows ≡ rows = take_all c.loop-at.at rows c.loop-at-test.false in
     let whole : take c.loop-at.at rows ++ [] ≡ c.args.map.now = append-nil (take c.loop-at.at rows) ∙ all ∙ c.rows-row-items.ensures.rows in
     ap (exchanged c.loop-at.changes) (sym whole)
-    ∙ c.loop-at.invariant []
+    ∙ c.loop-at.invariant.sets []
     ∙ append-nil (turned_rows c.args.turn (take c.loop-at.at rows) c.args.delta.now)
     ∙ ap (λ (l : List PlacementRow). turned_rows c.args.turn l c.args.delta.now) (all ∙ c.rows-row-items.ensures.rows)

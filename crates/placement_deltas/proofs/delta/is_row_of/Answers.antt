@@ -1,4 +1,4 @@
-use Rattle.std.proofs.Common.{◌≡◌, ◌∙◌, ◌-◌, ◌<◌, ◌≤◌, true, false, int_lt, length, get_or, ap, sym, rules, arith}
+use Rattle.std.proofs.Common.{◌≡◌, ◌∙◌, ◌-◌, ◌<◌, ◌≤◌, true, false, int_lt, length, ap, sym, rules, arith}
 use Rattle.std.proofs.lemmas.List.{get_or_default}
 use Rattle.cluster_terms.specs.Row.{last_token}
 use Rattle.placement_deltas.proofs.DeltaLemmas.{splits_here}

@@ -4,7 +4,7 @@ use crate::tests::calls::rings::cuts_of;
 use crate::tests::calls::sets::set_of;
 use cluster_terms::{RightEnd, Token, TryCopy, rows_between};
 use node_sets::NodeSet;
-use placement_deltas::Delta;
+use placement_deltas::{Delta, Unchanged};
 use std::alloc::Global;
 use std::process::Abort;
 use std::test::Fail;
@@ -157,4 +157,38 @@ fn deltas_between_sets(rt: HostRuntime) -> Result<(), Fail> {
         }
     }
     exchanges(&rt, alloc)
+}
+
+/// The last of the tokens from `t` on at which a delta changes nothing.
+fn last_unchanged(delta: &Delta, t: i64, near: &mut usize) -> Option<i64> {
+    let tokens = delta.unchanged_from(Token::new(t), near)?;
+    Some(tokens.last.value())
+}
+
+/// Whether a token is one of those from `first` up to `last`.
+fn is_in(first: i64, last: i64, t: i64) -> bool {
+    let tokens = Unchanged {
+        first: Token::new(first),
+        last: Token::new(last),
+    };
+    tokens.has(Token::new(t))
+}
+
+#[test]
+fn tokens_at_which_a_delta_changes_nothing(rt: HostRuntime) -> Result<(), Fail> {
+    let alloc = rt.alloc();
+    let (cuts, before, after, _, _) = CASES[0];
+    let delta = delta_of(alloc, cuts, before, after)?;
+    let mut near = 0;
+    assert_eq!(rt; last_unchanged(&delta, -5, &mut near), Some(0));
+    assert_eq!(rt; last_unchanged(&delta, 0, &mut near), Some(0));
+    assert_eq!(rt; last_unchanged(&delta, 1, &mut near), None);
+    assert_eq!(rt; last_unchanged(&delta, 100, &mut near), None);
+    assert_eq!(rt; last_unchanged(&delta, 101, &mut near), Some(i64::MAX));
+    assert_eq!(rt; last_unchanged(&delta, -5, &mut near), Some(0));
+    assert_eq!(rt; is_in(1, 3, 0), false);
+    assert_eq!(rt; is_in(1, 3, 1), true);
+    assert_eq!(rt; is_in(1, 3, 3), true);
+    assert_eq!(rt; is_in(1, 3, 4), false);
+    Ok(())
 }

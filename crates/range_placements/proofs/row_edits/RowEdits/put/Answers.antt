@@ -14,8 +14,14 @@ invariant_of-self-2 c =
       c.in_ok-make_room.ensures.empty,
     )
 
-pub returns : goal.returns
-returns c rows =
+pub returns-clause-rows : goal.returns-clause-rows
+returns-clause-rows c rows =
     ap (λ (l : List RowEdit). edited_rows l 0 rows) c.in_ok-push.ensures.items
     ∙ put_last c.self.inside.edits.items c.self.inside.keep c.args.row rows
     ∙ ap (λ (e : Edits). edited e rows ++ c.args.row ∷ []) c.self.view_is
+
+pub returns-clause-passed : goal.returns-clause-passed
+returns-clause-passed c =
+    ap (λ (l : List RowEdit). rows_passed l 0) c.in_ok-push.ensures.items
+    ∙ put_passes c.self.inside.edits.items c.self.inside.keep c.args.row
+    ∙ ap (λ (e : Edits). rows_passed e.edits e.keep) c.self.view_is
