@@ -1,6 +1,7 @@
 //! Calls that no script makes.
 
 mod directory;
+mod edges;
 mod follower;
 mod log;
 mod reach;

@@ -231,13 +231,13 @@ WritesPrefix-of_append (Some old) (Some new) name bytes gained =
     ]
 
 -- an append wrote a prefix of the bytes, whatever came
-pub WritesPrefix-of_any_append : (old new : Option Files) (name bytes : List ℕ) (before now : ℕ) (r : Result (Unit {0}) WriteFault)
+pub WritesPrefix-of_any_append : (old new : Option Files) (name bytes : List ℕ) (r : Result (Unit {0}) WriteFault)
     → OnOk r (ChangesFile (GainsAll bytes) old new name) → IfErr r (λ fault. OnFailed fault (ChangesFile (GainsPart bytes) old new name))
-    → KeptAtMemory old new before now r → WritesPrefix (told_content old name) (told_content new name) bytes
-WritesPrefix-of_any_append old new name bytes before now (Ok x) gained part kept = WritesPrefix-whole _ _ bytes (Appends-of_append old new name bytes gained)
-WritesPrefix-of_any_append old new name bytes before now (Err write.Failed) gained part kept = WritesPrefix-of_append old new name bytes part
-WritesPrefix-of_any_append old new name bytes before now (Err write.Memory) gained part kept =
-    subst (λ all. WritesPrefix (told_content old name) (told_content all name) bytes) (sym kept.0) (WritesPrefix-refl (told_content old name) bytes)
+    → KeptAtMemory old new r → WritesPrefix (told_content old name) (told_content new name) bytes
+WritesPrefix-of_any_append old new name bytes (Ok x) gained part kept = WritesPrefix-whole _ _ bytes (Appends-of_append old new name bytes gained)
+WritesPrefix-of_any_append old new name bytes (Err write.Failed) gained part kept = WritesPrefix-of_append old new name bytes part
+WritesPrefix-of_any_append old new name bytes (Err write.Memory) gained part kept =
+    subst (λ all. WritesPrefix (told_content old name) (told_content all name) bytes) (sym kept) (WritesPrefix-refl (told_content old name) bytes)
 
 -- no file of another name changed
 pub Keeps-of_others : (old new : Option Files) (name other : List ℕ) → OthersKept old new name → other ≢ name → Keeps (told_content old other) (told_content new other)

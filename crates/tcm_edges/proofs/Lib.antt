@@ -1,4 +1,3 @@
-pub mod CauseLemmas
 pub mod FeedLemmas
 pub mod FileLemmas
 pub mod OwedLemmas

@@ -1,15 +1,15 @@
 -- The loop that writes a whole text.
-use Rattle.std.proofs.Common.{◌≡◌, ℕ, ◌≤◌, ◌++◌, ◌-◌, List, [], Option, take, drop, length, sym, ap, ◌∙◌, subst, take-append-drop}
+use Rattle.std.proofs.Common.{◌≡◌, ℕ, ◌++◌, ◌-◌, List, [], Option, take, drop, length, sym, ap, ◌∙◌, subst, take-append-drop}
 use Rattle.std.specs.Io.KnownBytes.{Appends}
 use Rattle.std.proofs.lemmas.List.{take_rest}
 use Rattle.tcm_edges.specs.Owed.{Owes}
 use Rattle.tcm_edges.specs.Writes.{TellsAlike}
 use Rattle.tcm_edges.proofs.OwedLemmas.{Owes-write}
 
--- what the loop has done: of the text the rest is owed, and the count has not fallen
+-- what the loop has done: of the text the rest is owed, and the count is as before
 pub record Wrote {K : Type 0} (written : K → Option (List ℕ)) (faults : K → ℕ) (begun now : K) (text rest : List ℕ) : Type 0 where
   pub owes : Owes (written begun) (written now) text rest
-  pub later : faults begun ≤ faults now
+  pub count : faults now ≡ faults begun
   pub told : TellsAlike (written begun) (written now)
   pub none : text ≡ [] → (now ≡ begun) × (rest ≡ [])
 

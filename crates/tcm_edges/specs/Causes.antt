@@ -1,5 +1,5 @@
--- Counts of faults, and how a count relates to the answer of a call.
-use Rattle.std.specs.Prelude.{ℕ, ◌+◌, ◌-◌, ◌^◌, ◌≤◌, min, ⊤, Result, IfErr, OnErr}
+-- Counts of faults: what each call makes of the count of its object.
+use Rattle.std.specs.Prelude.{ℕ, ◌+◌, ◌-◌, ◌^◌, min, ⊤, Result, Ok, Err}
 use Rattle.tcm_edges.specs.declared.fault.WriteFault.{WriteFault}
 use Rattle.tcm_edges.specs.declared.fault.WriteFault.TheVariants as write
 use Rattle.tcm_edges.specs.declared.fault.LoadFault.{LoadFault}
@@ -9,14 +9,20 @@ use Rattle.tcm_edges.specs.declared.fault.LoadFault.TheVariants as load
 abbrev pub one_more : ℕ → ℕ
 one_more count = min (count + 1) (2 ^ 64 - 1)
 
--- a count of faults rose; a count that stays at the greatest u64 is also said to rise
-abbrev pub Rose : ℕ → ℕ → Type 0
-Rose before now = one_more before ≤ now
+-- the count after a read: one more if it failed, else the same
+abbrev pub count_read : {T E : Type 0} → Result T E → ℕ → ℕ
+count_read (Ok _) count = count
+count_read (Err _) count = one_more count
 
--- the count does not fall, and if the call returned an error, it rose
-pub record HasCause {T E : Type 0} (before now : ℕ) (result : Result T E) : Type 0 where
-  pub later : before ≤ now
-  pub failed : OnErr result (Rose before now)
+-- the count after a write, or a change of a file: one more if the outside failed, else the same
+abbrev pub count_write : {T : Type 0} → Result T WriteFault → ℕ → ℕ
+count_write (Err write.Failed) count = one_more count
+count_write _ count = count
+
+-- the count after a load
+abbrev pub count_load : {T : Type 0} → Result T LoadFault → ℕ → ℕ
+count_load (Err load.Failed) count = one_more count
+count_load _ count = count
 
 -- P holds if the fault is `Failed`
 abbrev pub OnFailed : WriteFault → Type 0 → Type 0
@@ -28,11 +34,6 @@ abbrev pub OnMemory : WriteFault → Type 0 → Type 0
 OnMemory write.Failed P = ⊤
 OnMemory write.Memory P = P
 
--- the count does not fall, and if the call returned `Failed`, it rose
-pub record HasWriteCause {T : Type 0} (before now : ℕ) (result : Result T WriteFault) : Type 0 where
-  pub later : before ≤ now
-  pub failed : IfErr result (λ fault. OnFailed fault (Rose before now))
-
 -- P holds if the fault of a load is `Failed`
 abbrev pub OnLoadFailed : LoadFault → Type 0 → Type 0
 OnLoadFailed load.Failed P = P
@@ -42,8 +43,3 @@ OnLoadFailed load.Memory P = ⊤
 abbrev pub OnLoadMemory : LoadFault → Type 0 → Type 0
 OnLoadMemory load.Failed P = ⊤
 OnLoadMemory load.Memory P = P
-
--- the count does not fall, and if the call returned `Failed`, it rose
-pub record HasLoadCause {T : Type 0} (before now : ℕ) (result : Result T LoadFault) : Type 0 where
-  pub later : before ≤ now
-  pub failed : IfErr result (λ fault. OnLoadFailed fault (Rose before now))

@@ -1,8 +1,7 @@
 -- Contracts of the calls of a source, a sink and a store, in addition to those of std.
 use Rattle.std.specs.Prelude.{◌≡◌, ℕ, ◌≤◌, List, length, Result, IfErr, IfOk, is_some, Option, None}
 use Rattle.tcm_edges.specs.declared.fault.WriteFault.{WriteFault}
-use Rattle.tcm_edges.specs.declared.fault.LoadFault.{LoadFault}
-use Rattle.tcm_edges.specs.Causes.{OnMemory, OnLoadMemory}
+use Rattle.tcm_edges.specs.Causes.{OnMemory}
 
 -- at least one byte was taken, and at most all bytes
 abbrev pub TakesSome : {E : Type 0} → Result ℕ E → List ℕ → Type 0
@@ -16,10 +15,6 @@ untold = None
 abbrev pub TellsAlike : {A : Type 0} → Option A → Option A → Type 0
 TellsAlike old new = is_some new ≡ is_some old
 
--- if memory ran out, the meaning of an object and its count of faults are as before
-abbrev pub KeptAtMemory : {T A : Type 0} → Option A → Option A → ℕ → ℕ → Result T WriteFault → Type 0
-KeptAtMemory old new before now result = IfErr result (λ fault. OnMemory fault ((new ≡ old) × (now ≡ before)))
-
--- if memory ran out in a load, the count of faults is as before
-abbrev pub KeptAtLoadMemory : {T : Type 0} → ℕ → ℕ → Result T LoadFault → Type 0
-KeptAtLoadMemory before now result = IfErr result (λ fault. OnLoadMemory fault (now ≡ before))
+-- if memory ran out, the meaning of an object is as before
+abbrev pub KeptAtMemory : {T A : Type 0} → Option A → Option A → Result T WriteFault → Type 0
+KeptAtMemory old new result = IfErr result (λ fault. OnMemory fault (new ≡ old))

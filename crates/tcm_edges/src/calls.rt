@@ -1,4 +1,4 @@
-ghost use Rattle.std.specs.Prelude.{◌≡◌, ◌≤◌};
+ghost use Rattle.std.specs.Prelude.{◌≡◌};
 ghost use Rattle.tcm_edges.specs.Calls.{fresh_plan, next_fails, next_keep, passed, failed};
 
 use crate::store_fail::StoreFail;
@@ -46,8 +46,7 @@ impl<F> Calls<F> {
 
     /// Counts a call that failed.
     pub(crate) fn fail(&mut self)
-        ensures counted { self.new ≡ failed self.old }
-        ensures later { self.old.faults ≤ self.new.faults }
+        ensures { self.new ≡ failed self.old }
     {
         self.made = self.made.saturating_add(1);
         self.faults = self.faults.saturating_add(1);

@@ -1,8 +1,8 @@
-ghost use Rattle.std.specs.Prelude.{◌≡◌, ◌≤◌, IfErr, IfOk, IsOkUnless, OnErr, OnOk};
-ghost use Rattle.tcm_edges.specs.Causes.{HasLoadCause, HasWriteCause, OnFailed, OnMemory, OnLoadFailed, OnLoadMemory};
+ghost use Rattle.std.specs.Prelude.{◌≡◌, IfErr, IfOk, IsOkUnless, OnErr, OnOk};
+ghost use Rattle.tcm_edges.specs.Causes.{count_load, count_write, OnFailed, OnMemory, OnLoadFailed, OnLoadMemory};
 ghost use Rattle.tcm_edges.specs.Counted.{with_failure};
 ghost use Rattle.tcm_edges.specs.Files.{untold_files, IsLoad, ChangesFile, OthersKept, GainsAll, GainsPart, IsReplaced, IsOldOrNew};
-ghost use Rattle.tcm_edges.specs.Writes.{KeptAtLoadMemory, KeptAtMemory, TellsAlike};
+ghost use Rattle.tcm_edges.specs.Writes.{KeptAtMemory, TellsAlike};
 
 use crate::fault::{LoadFault, WriteFault};
 use crate::store::{Loaded, Store};
@@ -38,8 +38,7 @@ impl<R> FileStore<R> {
 
     /// Counts a failure.
     fn fail(&mut self)
-        ensures counted { self.new ≡ with_failure self.old }
-        ensures later { self.old.failures ≤ self.new.failures }
+        ensures { self.new ≡ with_failure self.old }
     {
         self.failed = self.failed.saturating_add(1);
     }
@@ -105,8 +104,7 @@ impl<R: Files + AllocGlobal> Store for FileStore<R> {
     fn load(&mut self, name: &str, limit: u64) -> Result<Loaded, LoadFault>
         ensures found { IfOk result (λ loaded. IsLoad untold_files name.now limit loaded) }
         ensures kept { untold_files ≡ untold_files }
-        ensures cause { HasLoadCause self.old.failures self.new.failures result }
-        ensures memory { KeptAtLoadMemory self.old.failures self.new.failures result }
+        ensures cause { self.new.failures ≡ count_load result self.old.failures }
         ensures counted { IfErr result (λ fault. OnLoadFailed fault (self.new ≡ with_failure self.old)) }
         ensures uncounted { OnOk result (self.new ≡ self.old) }
         ensures unchanged { IfErr result (λ fault. OnLoadMemory fault (self.new ≡ self.old)) }
@@ -128,8 +126,8 @@ impl<R: Files + AllocGlobal> Store for FileStore<R> {
         ensures failed { IfErr result (λ fault. OnFailed fault
             (ChangesFile (GainsPart bytes.now) untold_files untold_files name.now)) }
         ensures others { OthersKept untold_files untold_files name.now }
-        ensures cause { HasWriteCause self.old.failures self.new.failures result }
-        ensures memory { KeptAtMemory untold_files untold_files self.old.failures self.new.failures result }
+        ensures cause { self.new.failures ≡ count_write result self.old.failures }
+        ensures memory { KeptAtMemory untold_files untold_files result }
         ensures told { TellsAlike untold_files untold_files }
         ensures sure { IsOkUnless result WriteFault.Failed }
         ensures counted { OnErr result (self.new ≡ with_failure self.old) }
@@ -150,8 +148,8 @@ impl<R: Files + AllocGlobal> Store for FileStore<R> {
         ensures failed { IfErr result (λ fault. OnFailed fault
             (ChangesFile (IsOldOrNew bytes.now) untold_files untold_files name.now)) }
         ensures others { OthersKept untold_files untold_files name.now }
-        ensures cause { HasWriteCause self.old.failures self.new.failures result }
-        ensures memory { KeptAtMemory untold_files untold_files self.old.failures self.new.failures result }
+        ensures cause { self.new.failures ≡ count_write result self.old.failures }
+        ensures memory { KeptAtMemory untold_files untold_files result }
         ensures told { TellsAlike untold_files untold_files }
         ensures counted { IfErr result (λ fault. OnFailed fault (self.new ≡ with_failure self.old)) }
         ensures uncounted { OnOk result (self.new ≡ self.old) }

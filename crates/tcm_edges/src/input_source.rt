@@ -1,7 +1,7 @@
-ghost use Rattle.std.specs.Prelude.{◌≡◌, ◌<◌, length, OnErr, OnOk};
+ghost use Rattle.std.specs.Prelude.{◌≡◌, ◌<◌, length};
 ghost use Rattle.std.specs.Io.{ReadsAtMost};
 ghost use Rattle.std.specs.Io.KnownBytes.{ReadConsumes};
-ghost use Rattle.tcm_edges.specs.Causes.{HasCause, one_more};
+ghost use Rattle.tcm_edges.specs.Causes.{count_read};
 ghost use Rattle.tcm_edges.specs.Writes.{TellsAlike, untold};
 
 use crate::fault::Failed;
@@ -43,12 +43,10 @@ impl<R: Read> Source for InputSource<R> {
         requires { 0 < length buf.old }
         ensures bound { ReadsAtMost result buf.new }
         ensures bytes { ReadConsumes untold untold result buf.new }
-        ensures cause { HasCause self.old.failures self.new.failures result }
+        ensures cause { self.new.failures ≡ count_read result self.old.failures }
         ensures told { TellsAlike untold untold }
         ensures passed { ReadConsumes (R.remaining self.old.inner) (R.remaining self.new.inner)
             result buf.new }
-        ensures counted { OnErr result (self.new.failures ≡ one_more self.old.failures) }
-        ensures uncounted { OnOk result (self.new.failures ≡ self.old.failures) }
     {
         match self.reader.read(buf) {
             Ok(n) => Ok(n),

@@ -1,7 +1,7 @@
 ghost use Rattle.std.specs.Prelude.{◌≡◌, ◌<◌, [], ◌++◌, ◌↔◌, Some, length, IfErr, IfOk, IsErrOf, IsTrue, OnOk};
 ghost use Rattle.std.specs.Io.KnownBytes.{WriteAppends};
 ghost use Rattle.tcm_edges.specs.Calls.{fresh_plan, next_fails, passed, failed};
-ghost use Rattle.tcm_edges.specs.Causes.{HasWriteCause, OnFailed, OnMemory};
+ghost use Rattle.tcm_edges.specs.Causes.{count_write, OnFailed, OnMemory};
 ghost use Rattle.tcm_edges.specs.Writes.{KeptAtMemory, TakesSome, TellsAlike};
 
 use crate::calls::{CallList, Calls};
@@ -58,9 +58,8 @@ impl Sink for MemSink {
         requires { 0 < length bytes.now }
         ensures bound { TakesSome result bytes.now }
         ensures bytes { WriteAppends (Some self.old.bytes) (Some self.new.bytes) result bytes.now }
-        ensures cause { HasWriteCause self.old.plan.faults self.new.plan.faults result }
-        ensures memory { KeptAtMemory (Some self.old.bytes) (Some self.new.bytes)
-            self.old.plan.faults self.new.plan.faults result }
+        ensures cause { self.new.plan.faults ≡ count_write result self.old.plan.faults }
+        ensures memory { KeptAtMemory (Some self.old.bytes) (Some self.new.bytes) result }
         ensures told { TellsAlike (Some self.old.bytes) (Some self.new.bytes) }
         ensures fails { IsErrOf result WriteFault.Failed ↔ IsTrue (next_fails self.old.plan) }
         ensures whole { IfOk result (λ n. n ≡ length bytes.now) }

@@ -2,7 +2,7 @@ ghost use Rattle.std.specs.Prelude.{◌≡◌, ◌<◌, ◌≤◌, ◌++◌, ◌
 ghost use Rattle.std.specs.Io.{ReadsAtMost};
 ghost use Rattle.std.specs.Io.KnownBytes.{ReadConsumes};
 ghost use Rattle.tcm_edges.specs.Calls.{fresh_plan, next_fails, passed, failed};
-ghost use Rattle.tcm_edges.specs.Causes.{HasCause};
+ghost use Rattle.tcm_edges.specs.Causes.{count_read};
 ghost use Rattle.tcm_edges.specs.Feed.{given_len, after_read};
 ghost use Rattle.tcm_edges.specs.Writes.{TellsAlike};
 
@@ -53,7 +53,7 @@ impl Source for MemSource {
         requires { 0 < length buf.old }
         ensures bound { ReadsAtMost result buf.new }
         ensures bytes { ReadConsumes (Some self.old.feed.bytes) (Some self.new.feed.bytes) result buf.new }
-        ensures cause { HasCause self.old.plan.faults self.new.plan.faults result }
+        ensures cause { self.new.plan.faults ≡ count_read result self.old.plan.faults }
         ensures told { TellsAlike (Some self.old.feed.bytes) (Some self.new.feed.bytes) }
         ensures fails { IsErr result ↔ IsTrue (next_fails self.old.plan) }
         ensures count { IfOk result (λ n. n ≡ given_len self.old.feed (length buf.old)) }

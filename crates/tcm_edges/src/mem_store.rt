@@ -1,10 +1,10 @@
 ghost use Rattle.std.specs.Prelude.{◌≡◌, ◌↔◌, Some, IfErr, IfOk, IsErrOf, IsNone, IsSome, IsSomeAnd, MatchOption, None, OnErr, OnOk, take};
 ghost use Rattle.std.specs.FinMap as map;
 ghost use Rattle.tcm_edges.specs.Calls.{fresh_plan, next_keep, passed, failed};
-ghost use Rattle.tcm_edges.specs.Causes.{HasLoadCause, HasWriteCause, OnFailed, OnMemory, OnLoadFailed, OnLoadMemory};
+ghost use Rattle.tcm_edges.specs.Causes.{count_load, count_write, OnFailed, OnMemory, OnLoadFailed, OnLoadMemory};
 ghost use Rattle.tcm_edges.specs.FailingFiles.{after_append, after_failed_append, after_failed_replace};
 ghost use Rattle.tcm_edges.specs.Files.{file_of, loaded_of, IsLoad, ChangesFile, OthersKept, GainsAll, GainsPart, IsReplaced, IsOldOrNew};
-ghost use Rattle.tcm_edges.specs.Writes.{KeptAtLoadMemory, KeptAtMemory, TellsAlike};
+ghost use Rattle.tcm_edges.specs.Writes.{KeptAtMemory, TellsAlike};
 
 use crate::calls::Calls;
 use crate::fault::{LoadFault, WriteFault};
@@ -107,8 +107,7 @@ impl Store for MemStore {
     fn load(&mut self, name: &str, limit: u64) -> Result<Loaded, LoadFault>
         ensures found { IfOk result (λ loaded. IsLoad (Some self.old.files) name.now limit loaded) }
         ensures kept { Some self.new.files ≡ Some self.old.files }
-        ensures cause { HasLoadCause self.old.plan.faults self.new.plan.faults result }
-        ensures memory { KeptAtLoadMemory self.old.plan.faults self.new.plan.faults result }
+        ensures cause { self.new.plan.faults ≡ count_load result self.old.plan.faults }
         ensures fails { IsErrOf result LoadFault.Failed ↔ IsSome (next_keep self.old.plan) }
         ensures answer { IfOk result (λ loaded. loaded ≡ loaded_of (file_of self.old.files name.now) limit) }
         ensures after { OnOk result (self.new ≡ record self.old { plan = passed self.old.plan }) }
@@ -134,9 +133,8 @@ impl Store for MemStore {
         ensures failed { IfErr result (λ fault. OnFailed fault
             (ChangesFile (GainsPart bytes.now) (Some self.old.files) (Some self.new.files) name.now)) }
         ensures others { OthersKept (Some self.old.files) (Some self.new.files) name.now }
-        ensures cause { HasWriteCause self.old.plan.faults self.new.plan.faults result }
-        ensures memory { KeptAtMemory (Some self.old.files) (Some self.new.files)
-            self.old.plan.faults self.new.plan.faults result }
+        ensures cause { self.new.plan.faults ≡ count_write result self.old.plan.faults }
+        ensures memory { KeptAtMemory (Some self.old.files) (Some self.new.files) result }
         ensures told { TellsAlike (Some self.old.files) (Some self.new.files) }
         ensures unlisted { OnOk result (IsNone (next_keep self.old.plan)) }
         ensures listed { IfErr result (λ fault. OnFailed fault (IsSomeAnd (next_keep self.old.plan)
@@ -168,9 +166,8 @@ impl Store for MemStore {
         ensures failed { IfErr result (λ fault. OnFailed fault
             (ChangesFile (IsOldOrNew bytes.now) (Some self.old.files) (Some self.new.files) name.now)) }
         ensures others { OthersKept (Some self.old.files) (Some self.new.files) name.now }
-        ensures cause { HasWriteCause self.old.plan.faults self.new.plan.faults result }
-        ensures memory { KeptAtMemory (Some self.old.files) (Some self.new.files)
-            self.old.plan.faults self.new.plan.faults result }
+        ensures cause { self.new.plan.faults ≡ count_write result self.old.plan.faults }
+        ensures memory { KeptAtMemory (Some self.old.files) (Some self.new.files) result }
         ensures told { TellsAlike (Some self.old.files) (Some self.new.files) }
         ensures unlisted { OnOk result (IsNone (next_keep self.old.plan)) }
         ensures listed { IfErr result (λ fault. OnFailed fault (IsSomeAnd (next_keep self.old.plan)

@@ -1,6 +1,6 @@
-ghost use Rattle.std.specs.Prelude.{◌≡◌, ◌<◌, ◌≤◌, IfSome, take, length, IfOk, IsOkUnless, OnErr, OnOk};
+ghost use Rattle.std.specs.Prelude.{◌≡◌, ◌<◌, ◌≤◌, IfSome, take, length, IfOk, IsOkUnless};
 ghost use Rattle.std.specs.Io.KnownBytes.{Appends, WriteAppends};
-ghost use Rattle.tcm_edges.specs.Causes.{HasWriteCause, one_more};
+ghost use Rattle.tcm_edges.specs.Causes.{count_write};
 ghost use Rattle.tcm_edges.specs.Owed.{WritesPrefix};
 ghost use Rattle.tcm_edges.specs.Writes.{KeptAtMemory, TakesSome, TellsAlike, untold};
 
@@ -64,15 +64,13 @@ impl<W: Write> Sink for OutputSink<W> {
         requires { 0 < length bytes.now }
         ensures bound { TakesSome result bytes.now }
         ensures bytes { WriteAppends untold untold result bytes.now }
-        ensures cause { HasWriteCause self.old.failures self.new.failures result }
-        ensures memory { KeptAtMemory untold untold self.old.failures self.new.failures result }
+        ensures cause { self.new.failures ≡ count_write result self.old.failures }
+        ensures memory { KeptAtMemory untold untold result }
         ensures told { TellsAlike untold untold }
         ensures passed { IfOk result (λ n.
             Appends (W.contents self.old.inner) (W.contents self.new.inner) (take n bytes.now)) }
         ensures part { WritesPrefix (W.contents self.old.inner) (W.contents self.new.inner) bytes.now }
         ensures sure { IsOkUnless result WriteFault.Failed }
-        ensures counted { OnErr result (self.new.failures ≡ one_more self.old.failures) }
-        ensures uncounted { OnOk result (self.new.failures ≡ self.old.failures) }
     {
         match write_out(&mut self.writer, bytes) {
             Some(n) => Ok(n),

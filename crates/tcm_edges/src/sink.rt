@@ -1,6 +1,6 @@
 ghost use Rattle.std.specs.Prelude.{◌≡◌, ℕ, ◌<◌, List, [], Option, length, OnOk};
 ghost use Rattle.std.specs.Io.KnownBytes.{Appends, WriteAppends};
-ghost use Rattle.tcm_edges.specs.Causes.{HasWriteCause};
+ghost use Rattle.tcm_edges.specs.Causes.{count_write};
 ghost use Rattle.tcm_edges.specs.Owed.{WritesPrefix};
 ghost use Rattle.tcm_edges.specs.Writes.{KeptAtMemory, TakesSome, TellsAlike};
 
@@ -21,9 +21,8 @@ pub trait Sink {
         requires { 0 < length bytes.now }
         ensures bound { TakesSome result bytes.now }
         ensures bytes { WriteAppends (written self.old) (written self.new) result bytes.now }
-        ensures cause { HasWriteCause (faults self.old) (faults self.new) result }
-        ensures memory { KeptAtMemory (written self.old) (written self.new)
-            (faults self.old) (faults self.new) result }
+        ensures cause { faults self.new ≡ count_write result (faults self.old) }
+        ensures memory { KeptAtMemory (written self.old) (written self.new) result }
         ensures told { TellsAlike (written self.old) (written self.new) };
 }
 
@@ -32,7 +31,7 @@ pub trait Sink {
 pub fn write_all<K: Sink>(sink: &mut K, bytes: &[u8]) -> Result<(), WriteFault>
     ensures ok { OnOk result (Appends (K.written sink.old) (K.written sink.new) bytes.now) }
     ensures part { WritesPrefix (K.written sink.old) (K.written sink.new) bytes.now }
-    ensures cause { HasWriteCause (K.faults sink.old) (K.faults sink.new) result }
+    ensures cause { K.faults sink.new ≡ count_write result (K.faults sink.old) }
     ensures told { TellsAlike (K.written sink.old) (K.written sink.new) }
     ensures none { bytes.now ≡ [] → sink.new ≡ sink.old }
 {

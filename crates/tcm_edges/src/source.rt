@@ -1,7 +1,7 @@
-ghost use Rattle.std.specs.Prelude.{ℕ, ◌<◌, List, Option, length};
+ghost use Rattle.std.specs.Prelude.{◌≡◌, ℕ, ◌<◌, List, Option, length};
 ghost use Rattle.std.specs.Io.{ReadsAtMost};
 ghost use Rattle.std.specs.Io.KnownBytes.{ReadConsumes};
-ghost use Rattle.tcm_edges.specs.Causes.{HasCause};
+ghost use Rattle.tcm_edges.specs.Causes.{count_read};
 ghost use Rattle.tcm_edges.specs.Writes.{TellsAlike};
 
 use crate::fault::Failed;
@@ -20,6 +20,6 @@ pub trait Source {
         requires { 0 < length buf.old }
         ensures bound { ReadsAtMost result buf.new }
         ensures bytes { ReadConsumes (left self.old) (left self.new) result buf.new }
-        ensures cause { HasCause (faults self.old) (faults self.new) result }
+        ensures cause { faults self.new ≡ count_read result (faults self.old) }
         ensures told { TellsAlike (left self.old) (left self.new) };
 }

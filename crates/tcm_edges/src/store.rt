@@ -1,7 +1,7 @@
 ghost use Rattle.std.specs.Prelude.{◌≡◌, ℕ, Option, IfErr, IfOk, OnOk};
-ghost use Rattle.tcm_edges.specs.Causes.{HasLoadCause, HasWriteCause, OnFailed};
+ghost use Rattle.tcm_edges.specs.Causes.{count_load, count_write, OnFailed};
 ghost use Rattle.tcm_edges.specs.Files.{Files, IsLoad, ChangesFile, OthersKept, GainsAll, GainsPart, IsReplaced, IsOldOrNew};
-ghost use Rattle.tcm_edges.specs.Writes.{KeptAtLoadMemory, KeptAtMemory, TellsAlike};
+ghost use Rattle.tcm_edges.specs.Writes.{KeptAtMemory, TellsAlike};
 
 use crate::fault::{LoadFault, WriteFault};
 use cluster_terms::ByteText;
@@ -31,8 +31,7 @@ pub trait Store {
     fn load(&mut self, name: &str, limit: u64) -> Result<Loaded, LoadFault>
         ensures found { IfOk result (λ loaded. IsLoad (files self.old) name.now limit loaded) }
         ensures kept { files self.new ≡ files self.old }
-        ensures cause { HasLoadCause (faults self.old) (faults self.new) result }
-        ensures memory { KeptAtLoadMemory (faults self.old) (faults self.new) result };
+        ensures cause { faults self.new ≡ count_load result (faults self.old) };
 
     /// Adds bytes at the end of a file, and makes the file if it is absent. No other file changes. After `Failed` the
     /// file is as before or has gained a prefix of the bytes. After `Memory` the files and the count of failures are
@@ -43,9 +42,8 @@ pub trait Store {
         ensures failed { IfErr result (λ fault. OnFailed fault
             (ChangesFile (GainsPart bytes.now) (files self.old) (files self.new) name.now)) }
         ensures others { OthersKept (files self.old) (files self.new) name.now }
-        ensures cause { HasWriteCause (faults self.old) (faults self.new) result }
-        ensures memory { KeptAtMemory (files self.old) (files self.new)
-            (faults self.old) (faults self.new) result }
+        ensures cause { faults self.new ≡ count_write result (faults self.old) }
+        ensures memory { KeptAtMemory (files self.old) (files self.new) result }
         ensures told { TellsAlike (files self.old) (files self.new) };
 
     /// Replaces the contents of a file by these bytes, and makes the file if it is absent. No other file changes. After
@@ -57,8 +55,7 @@ pub trait Store {
         ensures failed { IfErr result (λ fault. OnFailed fault
             (ChangesFile (IsOldOrNew bytes.now) (files self.old) (files self.new) name.now)) }
         ensures others { OthersKept (files self.old) (files self.new) name.now }
-        ensures cause { HasWriteCause (faults self.old) (faults self.new) result }
-        ensures memory { KeptAtMemory (files self.old) (files self.new)
-            (faults self.old) (faults self.new) result }
+        ensures cause { faults self.new ≡ count_write result (faults self.old) }
+        ensures memory { KeptAtMemory (files self.old) (files self.new) result }
         ensures told { TellsAlike (files self.old) (files self.new) };
 }

@@ -1,6 +1,6 @@
 ghost use Rattle.std.specs.Prelude.{◌≡◌, ◌<◌, [], ◌++◌, Some, length, IfOk, IsOkUnless, OnErr, OnOk};
 ghost use Rattle.std.specs.Io.KnownBytes.{WriteAppends};
-ghost use Rattle.tcm_edges.specs.Causes.{HasWriteCause};
+ghost use Rattle.tcm_edges.specs.Causes.{count_write};
 ghost use Rattle.tcm_edges.specs.Writes.{KeptAtMemory, TakesSome, TellsAlike};
 
 use crate::fault::WriteFault;
@@ -60,8 +60,8 @@ impl Sink for SureSink {
         requires { 0 < length bytes.now }
         ensures bound { TakesSome result bytes.now }
         ensures bytes { WriteAppends (Some self.old) (Some self.new) result bytes.now }
-        ensures cause { HasWriteCause 0 0 result }
-        ensures memory { KeptAtMemory (Some self.old) (Some self.new) 0 0 result }
+        ensures cause { 0 ≡ count_write result 0 }
+        ensures memory { KeptAtMemory (Some self.old) (Some self.new) result }
         ensures told { TellsAlike (Some self.old) (Some self.new) }
         ensures whole { IfOk result (λ n. n ≡ length bytes.now) }
         ensures after { OnOk result (self.new ≡ self.old ++ bytes.now) }

@@ -1,7 +1,7 @@
 ghost use Rattle.std.specs.Prelude.{◌≡◌, ◌<◌, ◌≤◌, ◌++◌, Ok, Some, length, take, drop, IfOk};
 ghost use Rattle.std.specs.Io.{ReadsAtMost};
 ghost use Rattle.std.specs.Io.KnownBytes.{ReadConsumes};
-ghost use Rattle.tcm_edges.specs.Causes.{HasCause};
+ghost use Rattle.tcm_edges.specs.Causes.{count_read};
 ghost use Rattle.tcm_edges.specs.Feed.{given_len, after_read};
 ghost use Rattle.tcm_edges.specs.Writes.{TellsAlike};
 
@@ -67,7 +67,7 @@ impl Source for SureSource {
         requires { 0 < length buf.old }
         ensures bound { ReadsAtMost result buf.new }
         ensures bytes { ReadConsumes (Some self.old.bytes) (Some self.new.bytes) result buf.new }
-        ensures cause { HasCause 0 0 result }
+        ensures cause { 0 ≡ count_read result 0 }
         ensures told { TellsAlike (Some self.old.bytes) (Some self.new.bytes) }
         ensures answer { result ≡ Ok (given_len self.old (length buf.old)) }
         ensures given { IfOk result (λ n. buf.new ≡ take n self.old.bytes ++ drop n buf.old) }

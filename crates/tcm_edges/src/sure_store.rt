@@ -1,8 +1,8 @@
 ghost use Rattle.std.specs.Prelude.{◌≡◌, ◌++◌, Some, IfErr, IfOk, IsOkUnless, MatchOption, None, OnErr, OnOk};
 ghost use Rattle.std.specs.FinMap as map;
-ghost use Rattle.tcm_edges.specs.Causes.{HasLoadCause, HasWriteCause, OnFailed};
+ghost use Rattle.tcm_edges.specs.Causes.{count_load, count_write, OnFailed};
 ghost use Rattle.tcm_edges.specs.Files.{file_of, content, loaded_of, IsLoad, ChangesFile, OthersKept, GainsAll, GainsPart, IsReplaced, IsOldOrNew};
-ghost use Rattle.tcm_edges.specs.Writes.{KeptAtLoadMemory, KeptAtMemory, TellsAlike};
+ghost use Rattle.tcm_edges.specs.Writes.{KeptAtMemory, TellsAlike};
 
 use crate::fault::{LoadFault, WriteFault};
 use crate::store::{Loaded, Store};
@@ -102,8 +102,7 @@ impl Store for SureStore {
     fn load(&mut self, name: &str, limit: u64) -> Result<Loaded, LoadFault>
         ensures found { IfOk result (λ loaded. IsLoad (Some self.old) name.now limit loaded) }
         ensures kept { Some self.new ≡ Some self.old }
-        ensures cause { HasLoadCause 0 0 result }
-        ensures memory { KeptAtLoadMemory 0 0 result }
+        ensures cause { 0 ≡ count_load result 0 }
         ensures sure { IsOkUnless result LoadFault.Memory }
         ensures answer { IfOk result (λ loaded. loaded ≡ loaded_of (file_of self.old name.now) limit) }
         ensures unchanged { self.new ≡ self.old }
@@ -126,8 +125,8 @@ impl Store for SureStore {
         ensures failed { IfErr result (λ fault. OnFailed fault
             (ChangesFile (GainsPart bytes.now) (Some self.old) (Some self.new) name.now)) }
         ensures others { OthersKept (Some self.old) (Some self.new) name.now }
-        ensures cause { HasWriteCause 0 0 result }
-        ensures memory { KeptAtMemory (Some self.old) (Some self.new) 0 0 result }
+        ensures cause { 0 ≡ count_write result 0 }
+        ensures memory { KeptAtMemory (Some self.old) (Some self.new) result }
         ensures told { TellsAlike (Some self.old) (Some self.new) }
         ensures sure { IsOkUnless result WriteFault.Memory }
         ensures after { OnOk result (self.new
@@ -145,8 +144,8 @@ impl Store for SureStore {
         ensures failed { IfErr result (λ fault. OnFailed fault
             (ChangesFile (IsOldOrNew bytes.now) (Some self.old) (Some self.new) name.now)) }
         ensures others { OthersKept (Some self.old) (Some self.new) name.now }
-        ensures cause { HasWriteCause 0 0 result }
-        ensures memory { KeptAtMemory (Some self.old) (Some self.new) 0 0 result }
+        ensures cause { 0 ≡ count_write result 0 }
+        ensures memory { KeptAtMemory (Some self.old) (Some self.new) result }
         ensures told { TellsAlike (Some self.old) (Some self.new) }
         ensures sure { IsOkUnless result WriteFault.Memory }
         ensures after { OnOk result (self.new ≡ map.insert self.old name.now bytes.now) }

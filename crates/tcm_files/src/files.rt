@@ -1,8 +1,7 @@
-//! Runs over files, each over objects in memory, and the sources, sinks and stores by themselves.
+//! Runs over files, each over objects in memory.
 
 mod bad_images;
 mod bad_lines;
-mod edges;
 mod faults;
 mod generated;
 mod logs;

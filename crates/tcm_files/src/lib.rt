@@ -1,4 +1,4 @@
-//! Tests alone: runs over files, and the sources, sinks and stores of runs.
+//! Tests alone: runs over files.
 #![tactic(auto)]
 
 #[cfg(test)]

@@ -1,7 +1,8 @@
 -- The ends of a step that hands something to a follower, or makes one.
-use Rattle.std.proofs.Common.{◌≡◌, ℕ, ◌+◌, ◌-◌, ◌<◌, ◌≤◌, Bool, true, false, ◌==◌, if◌then◌else◌, List, [], ◌∷◌, ◌++◌, get_or, set, position, length, Option, None, Some, is_some, Result, Ok, Err, IsErrAnd, IsOk, OnOk, nat_le, codes, decimal, true≢false, refl, sym, ap, ◌∙◌, subst, append-nil, arith}
+use Rattle.std.proofs.Common.{◌≡◌, ℕ, ◌+◌, ◌-◌, ◌<◌, ◌≤◌, Bool, true, false, ◌||◌, ◌==◌, if◌then◌else◌, List, [], ◌∷◌, ◌++◌, get_or, set, position, length, Option, None, Some, is_some, Result, Ok, Err, IsErrAnd, IsOk, OnOk, nat_eq, nat_le, codes, decimal, true≢false, refl, sym, ap, ◌∙◌, subst, append-nil, arith}
 use Rattle.std.specs.List.{Contains, slice_get}
 use Rattle.std.specs.Option.{IfSome}
+use Rattle.std.specs.Set.{is_member}
 use Rattle.std.proofs.lemmas.Bool.{and_parts, eqb-false}
 use Rattle.std.proofs.lemmas.Bool.Decides.{nat_tests}
 use Rattle.std.proofs.lemmas.List.{take_all}
@@ -15,7 +16,7 @@ use Rattle.transformations.specs.declared.image.Image.{Image}
 use Rattle.epoch_log.specs.Epochs.{entry_at}
 use Rattle.snapshot_store.proofs.EntryStates.{is_next}
 use Rattle.follower_log.specs.Follower.{Performs, FollowerState, Handed, hand_entry, hand_image}
-use Rattle.follower_log.specs.Prefix.{IsImageOf, StandsAfter, Taken, nothing_taken}
+use Rattle.follower_log.specs.Prefix.{IsImageOf, StandsAfter, StandsFor, Taken, has_entry, nothing_taken, with_entry, with_image}
 use Rattle.follower_log.specs.declared.fault.FollowerFault.{FollowerFault}
 use Rattle.follower_log.specs.declared.fault.FollowerFault.TheVariants.{Fork, Refused, BadImage, Memory, MemoryAt}
 use Rattle.follower_log.specs.declared.took.Took.{Took}
@@ -28,7 +29,7 @@ use Rattle.script_lang.specs.Texts.{epoch_text, no_text}
 use Rattle.script_lang.specs.declared.script_line.ScriptLine.{ScriptLine}
 use Rattle.script_lang.specs.declared.script_line.ScriptLine.TheVariants.{Commit, Follower, Deliver, Snapshot, Place, Nodes, Quorum, Local}
 use Rattle.tcm_session.specs.Machine.{Reply, SessionState, answer_from, deliver_to, follower_named, follower_reply, follower_unless_full, handed_reply, handed_text, image_at, image_named, made_reply, most_followers, new_follower, no_epoch, on_follower, only_answers, query_text, reply, reply_of, reply_to, snapshot_to, with_follower}
-use Rattle.tcm_session.specs.Steps.{AllFollow, Alone, AnswersHanded, FollowsLog, IsBetween, IsOfOneLog, OnlyAnswers, Stops, StopsAny, handed_by}
+use Rattle.tcm_session.specs.Steps.{AllFollow, Alone, AnswersHanded, FollowsLog, ForgetsNothing, IsBetween, IsOfOneLog, OnlyAnswers, StandsOn, Stops, StopsAny, handed_by}
 use Rattle.tcm_session.specs.declared.fault.StepFault.{StepFault}
 use Rattle.tcm_session.specs.declared.fault.StepFault.TheVariants as step
 use Rattle.tcm_session.specs.declared.followers.NamedFollower.{NamedFollower}
@@ -36,6 +37,48 @@ use Rattle.tcm_session.specs.declared.query.Query.{Query}
 use Rattle.tcm_session.proofs.FollowerLemmas.{all_follow_pushed, all_follow_with, named, named_follows, named_name, placed, unplaced, with_itself, with_named}
 use Rattle.tcm_session.proofs.StepLemmas.{kept_before, replied_nothing}
 use Rattle.tcm_session.proofs.TakenLemmas.{entry_there, epoch_at}
+
+-- ---- what was taken before
+
+-- a follower that stays forgets nothing
+forgets_nothing : (log : List Entry) (f : FollowerState) → ForgetsNothing log f f
+forgets_nothing log f = λ taken stands. record { more = taken; entries = λ e is. is; images = λ e is. is; stands = stands }
+
+-- with one entry or one image more, the others are still taken
+or_right : (b c : Bool) → c ≡ true → (b || c) ≡ true
+or_right true c is = refl
+or_right false c is = is
+
+or_twice : (a b c : Bool) → (a || c) ≡ true → (a || (b || c)) ≡ true
+or_twice true b c is = refl
+or_twice false b c is = or_right b c is
+
+on_with_entry : (log : List Entry) (taken : Taken) (epoch : ℕ) (f : FollowerState) → StandsFor log (with_entry taken epoch) f → StandsOn log taken f
+on_with_entry log taken epoch f stands =
+    record { more = with_entry taken epoch; entries = λ e is. or_right (nat_eq e epoch) (has_entry taken e) is; images = λ e is. is; stands = stands }
+
+on_with_image : (log : List Entry) (taken : Taken) (epoch : ℕ) (f : FollowerState) → StandsFor log (with_image taken epoch) f → StandsOn log taken f
+on_with_image log taken epoch f stands =
+    record { more = with_image taken epoch; entries = λ e is. is; images = λ e is. or_twice (nat_eq e 0) (nat_eq e epoch) (is_member nat_eq taken.images e) is; stands = stands }
+
+-- after what a call leaves nothing is forgotten
+kept_shown : (log : List Entry) (taken after : Taken) (handed : Result Took FollowerFault) (at : FollowerState) → (StandsFor log after at → StandsOn log taken at) → StandsAfter log taken after handed at → StandsOn log taken at
+kept_shown log taken after (Ok (At e)) at on shows = on shows.0
+kept_shown log taken after (Ok (Old e)) at on shows = on shows
+kept_shown log taken after (Ok (Held e)) at on shows = on shows
+kept_shown log taken after (Ok (Full e)) at on shows = forgets_nothing log at taken shows
+kept_shown log taken after (Err (MemoryAt e)) at on shows = on shows
+kept_shown log taken after (Err Memory) at on shows = forgets_nothing log at taken shows
+kept_shown log taken after (Err (Fork e held came)) at on shows = absurd shows
+kept_shown log taken after (Err (Refused e r)) at on shows = absurd shows
+kept_shown log taken after (Err (BadImage bad)) at on shows = absurd shows
+
+-- an entry, or an image, was handed over
+pub entry_kept : (log : List Entry) (epoch : ℕ) (handed : Result Took FollowerFault) (f at : FollowerState) → ((taken : Taken) → StandsFor log taken f → StandsAfter log taken (with_entry taken epoch) handed at) → ForgetsNothing log f at
+entry_kept log epoch handed f at shows = λ taken stands. kept_shown log taken (with_entry taken epoch) handed at (on_with_entry log taken epoch at) (shows taken stands)
+
+pub image_kept : (log : List Entry) (epoch : ℕ) (handed : Result Took FollowerFault) (f at : FollowerState) → ((taken : Taken) → StandsFor log taken f → StandsAfter log taken (with_image taken epoch) handed at) → ForgetsNothing log f at
+image_kept log epoch handed f at shows = λ taken stands. kept_shown log taken (with_image taken epoch) handed at (on_with_image log taken epoch at) (shows taken stands)
 
 -- ---- a line that only answers
 
@@ -48,7 +91,7 @@ stops_here session name f all found =
       at = f.follower;
       is = ap (λ fs. record { log = session.log; followers = fs }) (sym (with_itself session.followers f.name f again));
       between = subst (λ o. IfSome o (λ (g : NamedFollower). IsBetween session.log f.follower g.follower f.follower)) (sym again)
-          (record { from = omega arith; to = omega arith; follows = named_follows session.log session.followers name f all found });
+          (record { from = omega arith; to = omega arith; follows = named_follows session.log session.followers name f all found; keeps = forgets_nothing session.log f.follower });
     }
 
 only_alone : {T : Type 0} (session : SessionState) (handed : Option NamedFollower) (text out out' : List ℕ) (r : Result T StepFault) → StopsAny handed session session.followers session
@@ -106,19 +149,19 @@ one_log_shown log before after (Err (Refused e r)) at shows = absurd shows
 one_log_shown log before after (Err (BadImage bad)) at shows = absurd shows
 
 -- where it stops if memory runs out
-is_between : (log : List Entry) (f at : FollowerState) (step : Handed) (handed : Result Took FollowerFault) → CutsFrom f.image.epoch step → FollowsLog log at → Performs f step handed at → IsBetween log f step.after at
-is_between log f at step handed cuts follows comes = by handed comes
+is_between : (log : List Entry) (f at : FollowerState) (step : Handed) (handed : Result Took FollowerFault) → CutsFrom f.image.epoch step → FollowsLog log at → ForgetsNothing log f at → Performs f step handed at → IsBetween log f step.after at
+is_between log f at step handed cuts follows keeps comes = by handed comes
   where
     there : at ≡ step.after → IsBetween log f step.after at
-    there is = record { from = omega (arith, cuts.up, ap (λ (g : FollowerState). g.image.epoch) is); to = omega (arith, ap (λ (g : FollowerState). g.image.epoch) is); follows = follows }
+    there is = record { from = omega (arith, cuts.up, ap (λ (g : FollowerState). g.image.epoch) is); to = omega (arith, ap (λ (g : FollowerState). g.image.epoch) is); follows = follows; keeps = keeps }
 
     by : (handed : Result Took FollowerFault) → Performs f step handed at → IsBetween log f step.after at
     by (Ok took) comes = there comes.1
     by (Err (Fork e held came)) comes = there comes.1
     by (Err (Refused e r)) comes = there comes.1
     by (Err (BadImage bad)) comes = there comes.1
-    by (Err Memory) comes = record { from = omega (arith, ap (λ (g : FollowerState). g.image.epoch) comes); to = omega (arith, cuts.up, ap (λ (g : FollowerState). g.image.epoch) comes); follows = follows }
-    by (Err (MemoryAt e)) comes = record { from = (cuts.cuts e at comes).0; to = (cuts.cuts e at comes).1; follows = follows }
+    by (Err Memory) comes = record { from = omega (arith, ap (λ (g : FollowerState). g.image.epoch) comes); to = omega (arith, cuts.up, ap (λ (g : FollowerState). g.image.epoch) comes); follows = follows; keeps = keeps }
+    by (Err (MemoryAt e)) comes = record { from = (cuts.cuts e at comes).0; to = (cuts.cuts e at comes).1; follows = follows; keeps = keeps }
 
 -- a result that isn't a fault
 record Took_so (f at : FollowerState) (step : Handed) (handed : Result Took FollowerFault) : Type 0 where
@@ -131,9 +174,9 @@ took_so f at step (Err e) ok comes = absurd (true≢false (sym ok))
 
 pub alone_handed : {T : Type 0} (session session' : SessionState) (name : List ℕ) (f : NamedFollower) (at : FollowerState) (step : Handed) (handed : Result Took FollowerFault) (out out' : List ℕ) (r : Result T StepFault)
     → follower_named session.followers name ≡ Some f → session' ≡ record session { followers = with_follower session.followers name at }
-    → CutsFrom f.follower.image.epoch step → FollowsLog session.log at → Performs f.follower step handed at → AnswersHanded handed out out' r
+    → CutsFrom f.follower.image.epoch step → FollowsLog session.log at → ForgetsNothing session.log f.follower at → Performs f.follower step handed at → AnswersHanded handed out out' r
     → Alone (Some f) (handed_reply session name step) session session' out out' r
-alone_handed session session' name f at step handed out out' (Ok x) found is cuts follows comes answers =
+alone_handed session session' name f at step handed out out' (Ok x) found is cuts follows keeps comes answers =
     let so = took_so f.follower at step handed answers.took comes in
     let log : session.log ≡ session.log ++ [] = sym (append-nil session.log) in
     record {
@@ -144,7 +187,7 @@ alone_handed session session' name f at step handed out out' (Ok x) found is cut
       left = tt;
       memory = tt;
     }
-alone_handed session session' name f at step handed out out' (Err e) found is cuts follows comes answers =
+alone_handed session session' name f at step handed out out' (Err e) found is cuts follows keeps comes answers =
     let called : f.name ≡ name = named_name session.followers name f found in
     let after : follower_named (with_follower session.followers name step.after) f.name ≡ Some (record f { follower = step.after }) =
     ap (follower_named (with_follower session.followers name step.after)) called ∙ with_named session.followers name f step.after found in
@@ -156,7 +199,7 @@ alone_handed session session' name f at step handed out out' (Err e) found is cu
       left = record {
         at = at;
         is = is ∙ ap (λ n. record { log = session.log; followers = with_follower session.followers n at }) (sym called);
-        between = subst (λ o. IfSome o (λ (g : NamedFollower). IsBetween session.log f.follower g.follower at)) (sym after) (is_between session.log f.follower at step handed cuts follows comes);
+        between = subst (λ o. IfSome o (λ (g : NamedFollower). IsBetween session.log f.follower g.follower at)) (sym after) (is_between session.log f.follower at step handed cuts follows keeps comes);
       };
       memory = answers.memory;
     }
@@ -188,14 +231,14 @@ moved_follow session name place f x has all follows =
 
 -- it was handed something, and the line is answered
 pub alone_moved : {T : Type 0} (session : SessionState) (name : List ℕ) (place : ℕ) (f : NamedFollower) (x : FollowerState) (step : Handed) (handed : Result Took FollowerFault) (out out' : List ℕ) (r : Result T StepFault)
-    (reply : FollowerState → Reply) → HasFollower session name place f → reply f.follower ≡ handed_reply session name step → CutsFrom f.follower.image.epoch step → FollowsLog session.log x → Performs f.follower step handed x
+    (reply : FollowerState → Reply) → HasFollower session name place f → reply f.follower ≡ handed_reply session name step → CutsFrom f.follower.image.epoch step → FollowsLog session.log x → ForgetsNothing session.log f.follower x → Performs f.follower step handed x
     → AnswersHanded handed out out' r
     → Alone (follower_named session.followers name) (on_follower session name reply) session (record session { followers = set session.followers place (record f { follower = x }) }) out out' r
-alone_moved session name place f x step handed out out' r reply has is cuts follows comes answers =
+alone_moved session name place f x step handed out out' r reply has is cuts follows keeps comes answers =
     let after : SessionState = record session { followers = set session.followers place (record f { follower = x }) } in
     alone_found session after name out out' r reply f has.found
     (subst (λ a. Alone (Some f) a session after out out' r) (sym is)
-    (alone_handed session after name f x step handed out out' r has.found (ap (λ fs. record { log = session.log; followers = fs }) (has.moved x)) cuts follows comes answers))
+    (alone_handed session after name f x step handed out out' r has.found (ap (λ fs. record { log = session.log; followers = fs }) (has.moved x)) cuts follows keeps comes answers))
 
 -- ---- what is handed over
 
@@ -337,7 +380,7 @@ module _ {T : Type 0} where
           (subst (λ a. Alone {T = T} (Some f) a session session' out out (Err e)) (sym handed)
           (alone_handed session session' name f f.follower (hand_image f.follower image) (Err Memory) out out (Err e) has.found
           (same ∙ ap (λ fs. record { log = session.log; followers = fs }) (sym (with_itself session.followers name f has.found)))
-          (image_from f.follower image) has.follows refl (record { took = tt; text = tt; kept = take_all (length out) out (omega arith); memory = memory })))
+          (image_from f.follower image) has.follows (forgets_nothing session.log f.follower) refl (record { took = tt; text = tt; kept = take_all (length out) out (omega arith); memory = memory })))
 
       by : (fs : List NamedFollower) → session.followers ≡ fs → Alone {T = T} (follower_named session.followers name) (on_follower session name reply) session session' out out (Err e)
       by [] none = absurd (none-some place (ap (position (named name)) (sym none) ∙ at))
@@ -369,7 +412,7 @@ stops_before session name f step all found cuts =
       at = f.follower;
       is = ap (λ fs. record { log = session.log; followers = fs }) (sym (with_itself session.followers f.name f again));
       between = subst (λ o. IfSome o (λ (g : NamedFollower). IsBetween session.log f.follower g.follower f.follower)) (sym after)
-          (record { from = omega arith; to = cuts.up; follows = named_follows session.log session.followers name f all found });
+          (record { from = omega arith; to = cuts.up; follows = named_follows session.log session.followers name f all found; keeps = forgets_nothing session.log f.follower });
     }
 
 stops_delivered : (session : SessionState) (name : List ℕ) (o : Option NamedFollower) (there : Option Entry) → AllFollow session.log session.followers → follower_named session.followers name ≡ o

@@ -1,24 +1,22 @@
 -- Lemmas on what a run leaves in the files.
-use Rattle.std.proofs.Common.{◌≡◌, ◌≢◌, ◌⊎◌, inl, inr, ℕ, Bool, true, false, if◌then◌else◌, nat_le, List, [], ◌∷◌, ◌++◌, length, Option, None, Some, IfSome, option_map, refl, sym, ap, ◌∙◌, subst, append-nil}
+use Rattle.std.proofs.Common.{◌≡◌, ◌≢◌, ◌⊎◌, inl, inr, ℕ, Bool, true, false, if◌then◌else◌, nat_le, List, [], ◌∷◌, ◌++◌, length, Option, None, Some, IfSome, IsOk, Result, Ok, Err, option_map, true≢false, refl, sym, ap, ◌∙◌, subst, append-nil}
 use Rattle.tcm_edges.specs.Files.{ChangesFile, Files, IsLoad, IsOldOrNew, OthersKept, file_of, loaded_of}
 use Rattle.tcm_edges.specs.declared.store.Loaded.TheVariants as loaded
 use Rattle.tcm_edges.proofs.FileLemmas.{file_of-put, file_of-put_other}
 use Rattle.tcm_session.specs.Left.{GainsThese, LeavesFiles, LeavesLog}
 use Rattle.tcm_session.specs.Lines.{open_line}
 use Rattle.tcm_session.specs.Loading.{IsCut}
-use Rattle.tcm_session.specs.LogFiles.{cut_to_lines, lines_part, without_open}
+use Rattle.tcm_session.specs.LogFiles.{cut_to_lines, lines_part, log_of, without_open}
 use Rattle.tcm_session.specs.Machine.{session_over}
-use Rattle.tcm_session.specs.Outcome.{Outcome, named_log}
+use Rattle.tcm_session.specs.Outcome.{Outcome, named_log, outcome_from}
 use Rattle.tcm_session.specs.Stops.{Adds, IsKeptOrCut, LeavesLoaded, LeavesScript}
+use Rattle.transformations.specs.declared.entry.Entry.{Entry}
+use Rattle.tcm_session.specs.declared.refused_line.RefusedLine.{RefusedLine}
 use Rattle.tcm_session.proofs.LinesLemmas.{lines_whole}
-use Rattle.tcm_session.proofs.StopLemmas.{Adds-same, StopsIn-none}
+use Rattle.tcm_session.proofs.RunOutcomes.{script_reads}
+use Rattle.tcm_session.proofs.StopLemmas.{StopsIn-none}
 
 -- ---- before the first line
-
--- a script leaves the files as they are
-pub script_same : (name : Option (List ℕ)) (files : Option Files) (o : Outcome) (ended : ℕ) → LeavesScript name files files o [] ended
-script_same name files o ended =
-    record { added = []; stops = StopsIn-none (session_over o.log) o.lines o.last; adds = Adds-same name files files refl; read_fault = λ four. (refl, refl) }
 
 -- no file changed, and no line was done
 pub files_same : (name : Option (List ℕ)) (files files' : Option Files) (o : Outcome) (printed : List ℕ) (ended : ℕ) → files' ≡ files → (o.reads ≡ true → printed ≡ []) → LeavesFiles name files files' o printed ended
@@ -34,20 +32,31 @@ loaded_same name file None files' o printed ended same none = λ told. (tt, tt)
 loaded_same name file (Some all) files' o printed ended same none = λ told. files_same (Some name) (Some all) files' o printed ended same none
 
 -- the file is as before, or was cut
-pub loaded_cut : (name file : List ℕ) (files files' : Option Files) (o : Outcome) (ended : ℕ) → IsKeptOrCut name file files files' → LeavesLoaded name file files files' o [] ended
-loaded_cut name file None files' o ended left = λ told. (tt, tt)
-loaded_cut name file (Some x) None o ended left = absurd left.0
-loaded_cut name file (Some x) (Some y) o ended left = λ told. (by told left.0, left.1)
+pub loaded_cut : (name file : List ℕ) (files files' : Option Files) (o : Outcome) (ended : ℕ) → (files' ≡ files) ⊎ (o.reads ≡ true) → IsKeptOrCut name file files files' → LeavesLoaded name file files files' o [] ended
+loaded_cut name file files files' o ended (inl same) left = loaded_same name file files files' o [] ended same (λ _. refl)
+loaded_cut name file None files' o ended (inr good) left = λ told. (tt, tt)
+loaded_cut name file (Some x) None o ended (inr good) left = absurd left.0
+loaded_cut name file (Some x) (Some y) o ended (inr good) left = λ told. (by told left.0, left.1)
   where
     by : file_of x name ≡ Some file → (file_of y name ≡ file_of x name) ⊎ (file_of y name ≡ Some (lines_part file)) → LeavesLog o [] ended (file_of x name) (file_of y name)
     by told (inl same) = inl (same, λ _. refl)
     by told (inr cut) =
         inr (record {
+          good = good;
           added = [];
           stops = StopsIn-none (session_over o.log) o.lines o.last;
           gains = inr (cut ∙ sym (ap (option_map lines_part) told), refl);
           read_fault = λ four. (refl, refl);
         })
+
+-- from a log that was found good the input is read
+pub good_reads : (P : Type 0) (name : List ℕ) (all : Files) (file input : List ℕ) → P ⊎ IsOk (log_of file) → P ⊎ ((outcome_from name all file (log_of file) input).reads ≡ true)
+good_reads P name all file input (inl same) = inl same
+good_reads P name all file input (inr good) = inr (by (log_of file) good)
+  where
+    by : (r : Result (List Entry) RefusedLine) → IsOk r → (outcome_from name all file r input).reads ≡ true
+    by (Ok log) good = script_reads (record { log = log; file = Some name; files = cut_to_lines name file all }) input
+    by (Err refused) good = absurd (true≢false (sym good))
 
 -- ---- after the file was loaded and cut
 
@@ -80,7 +89,7 @@ loaded_script name file (Some all) mid files' cut o printed ended left = λ told
     by : file_of all name ≡ Some file → (files' : Option Files) → Adds (Some name) left.added (Some (cut_to_lines name file all)) files' → LeavesFiles (Some name) (Some all) files' o printed ended
     by told None adds = absurd adds.0
     by told (Some new) adds = (
-      inr (record { added = left.added; stops = left.stops; gains = subst (λ f. GainsThese left.added f (file_of new name)) (base told) adds.0; read_fault = left.read_fault }),
+      inr (record { good = left.good; added = left.added; stops = left.stops; gains = subst (λ f. GainsThese left.added f (file_of new name)) (base told) adds.0; read_fault = left.read_fault }),
       λ other apart. adds.1 other apart ∙ cut_others name file all other apart,
     )
 
@@ -90,6 +99,7 @@ absent_script name None files' told o printed ended left = (tt, tt)
 absent_script name (Some all) None told o printed ended left = absurd left.adds.0
 absent_script name (Some all) (Some new) told o printed ended left = (
   inr (record {
+    good = left.good;
     added = left.added;
     stops = left.stops;
     gains = subst (λ f. GainsThese left.added f (file_of new name)) (told ∙ sym (ap (option_map lines_part) told)) left.adds.0;

@@ -3,7 +3,7 @@ use Rattle.std.proofs.Common.{◌≡◌, ℕ, ◌+◌, ◌≤◌, IfErr, IsErrAn
 use Rattle.std.specs.Io.KnownBytes.{Appends, Consumes, Keeps}
 use Rattle.std.proofs.KnownBytes.{Consumes-trans, Consumes-nil, Consumes-kept, Appends-trans, Appends-nil}
 use Rattle.tcm_edges.specs.Files.{Files}
-use Rattle.tcm_session.specs.Faults.{Shows}
+use Rattle.tcm_session.specs.Faults.{counts_after}
 use Rattle.tcm_session.specs.Left.{StopsIn}
 use Rattle.tcm_session.specs.Lines.{HasNoFeed, whole_lines, open_line}
 use Rattle.tcm_session.specs.LogFiles.{Gains, entry_lines}
@@ -128,14 +128,14 @@ StopsAt-none file e most l l' at kept begun =
 -- a piece of which not all lines are done, for no fault of the source
 pub StopsAt-piece : (file : Option (List ℕ)) (e : RunFault) (most : ℕ) (l l' : Option (List ℕ)) (at : Standing) (w' : Option (List ℕ)) (f' : Option Files) (bytes : List ℕ) (before after : Counts)
     → before.source ≡ 0 → after.source ≡ 0
-    → Consumes l l' bytes → length bytes ≤ most → Stopped (StopsIn at.session (lines_ended at bytes) []) file at.written w' at.files f' → Shows e before after → StopsAt file e most l l' at w' f'
-StopsAt-piece file e most l l' at w' f' bytes before after none none' consumed fits stopped shown =
+    → Consumes l l' bytes → length bytes ≤ most → Stopped (StopsIn at.session (lines_ended at bytes) []) file at.written w' at.files f' → after ≡ counts_after e before → StopsAt file e most l l' at w' f'
+StopsAt-piece file e most l l' at w' f' bytes before after none none' consumed fits stopped cause =
     record {
       bytes = bytes;
       consumed = consumed;
       bounded = fits;
       stopped = Stopped-map (StopsIn at.session (lines_ended at bytes) []) (StopsThere (e ≡ fault.Source) at.session (lines_ended at bytes)) file at.written w' at.files f'
-          (λ printed added s. record { stops = s; all = λ is. absurd (not_source e before after none none' shown is) }) stopped;
+          (λ printed added s. record { stops = s; all = λ is. absurd (not_source e before after none none' cause is) }) stopped;
     }
 
 -- ---- the loop over reads

@@ -4,9 +4,9 @@ use Rattle.tcm_edges.proofs.OwedLemmas.{WritesPrefix-refl}
 use Rattle.tcm_edges.specs.Files.{Files, IsLoad, file_of, loaded_of}
 use Rattle.tcm_edges.specs.declared.store.Loaded.{Loaded}
 use Rattle.tcm_edges.specs.declared.store.Loaded.TheVariants as loaded
-use Rattle.tcm_session.specs.Counts.{Counts, NoneFell}
+use Rattle.tcm_session.specs.Counts.{Counts}
 use Rattle.tcm_session.specs.Endings.{IsReplayOf, status_by}
-use Rattle.tcm_session.specs.Faults.{HasRunCause, Shows}
+use Rattle.tcm_session.specs.Faults.{counts_after, counts_by}
 use Rattle.tcm_session.specs.Generated.{gen_numbers}
 use Rattle.tcm_session.specs.Outcome.{Outcome, ended_outcome, gen_status, gen_text, is_commit, is_replay, last_outcome, log_file, named_log, other_outcome, outcome, replay_outcome, replayed_files, snapshot_outcome, unread_outcome}
 use Rattle.transformations.specs.History.{state_after}
@@ -169,8 +169,7 @@ last_unread words files w w' before after r is writes status =
 pub nothing_written : {T : Type 0} (text : List ℕ) (w : Option (List ℕ)) (before : Counts) (r : Result T RunFault) → IsErrAnd r (λ e. e ≡ fault.Memory) → Writes text w w before before r
 nothing_written text w before (Ok x) is = absurd is
 nothing_written text w before (Err e) is =
-    let none : NoneFell before before = record { source = omega arith; sink = omega arith; store = omega arith } in
-    record { whole = tt; part = WritesPrefix-refl w text; cause = record { later = none; shown = subst (λ e. Shows e before before) (sym is) tt } }
+    record { whole = tt; part = WritesPrefix-refl w text; cause = ap (λ f. counts_after f before) (sym is) }
 
 -- the files that the first load finds
 held_first : (files : Option Files) (seen : ℕ → Files) → AreSeen files seen → MayHold files (seen 0)
@@ -193,7 +192,7 @@ unread_others words seen = by (is_replay words)
     by false = last (snapshot_words words)
 
 pub runs_others : {S : Type 0} (words : List (List ℕ)) (left : S → Option (List ℕ)) (input : S) (w w' : Option (List ℕ)) (files files' : Option Files) (before after : Counts) → before.source ≡ 0 → after.source ≡ 0 → (r : Result Status RunFault)
-    → is_commit words ≡ false → WritesSeen (other_outcome words) files w w' r → HasRunCause before after r → IfOk r (λ s. IsEnd s.0) → files' ≡ files
+    → is_commit words ≡ false → WritesSeen (other_outcome words) files w w' r → after ≡ counts_by r before → IfOk r (λ s. IsEnd s.0) → files' ≡ files
     → RunsSeen (outcome words) (LeavesFiles (named_log words) files files') left input input w w' files files' (status_by r)
 runs_others {S} words left input w w' files files' before after none none' r other writes cause ended kept = record {
   seen = writes.seen;
@@ -216,11 +215,11 @@ runs_others {S} words left input w w' files files' before after none none' r oth
     leaves : (printed : List ℕ) (status : ℕ) → LeavesFiles (named_log words) files files' all printed status
     leaves printed status = named_files words None files files' (ap (λ b. if b then log_file words else None) other) all printed status kept
 
-    by : (r : Result Status RunFault) → WritesLast o w w' r → HasRunCause before after r → IfOk r (λ s. IsEnd s.0)
+    by : (r : Result Status RunFault) → WritesLast o w w' r → after ≡ counts_by r before → IfOk r (λ s. IsEnd s.0)
         → RunsFor (λ _. unread_outcome o.status o.last (writes.seen 0)) (LeavesFiles (named_log words) files files') left input input w w' files' (status_by r)
     by (Ok s) last cause ended =
         let final : IsFinal o.status = subst IsFinal last.status (final_end s.0 ended).1 in
         runs_unread o.status o.last (writes.seen 0) (LeavesFiles (named_log words) files files') left input w w' files' before after none none' (Ok s) final held
         (record { whole = last.whole; part = last.part; cause = cause }) last.status leaves
     by (Err e) last cause ended =
-        runs_unread_err o.status o.last (writes.seen 0) (LeavesFiles (named_log words) files files') left input w w' files' before after none none' e last.part cause.shown leaves
+        runs_unread_err o.status o.last (writes.seen 0) (LeavesFiles (named_log words) files files') left input w w' files' before after none none' e last.part cause leaves

@@ -1,23 +1,25 @@
 -- From the parts of a run to what it prints, reads and leaves.
-use Rattle.std.proofs.Common.{◌≡◌, ℕ, ◌+◌, ◌≤◌, ◌≢◌, IsErrAnd, IfErr, IfOk, inl, inr, ◌⊎◌, Bool, if◌then◌else◌, ◌||◌, ◌==◌, List, [], ◌++◌, length, Option, None, Some, IfSome, Result, Ok, Err, true, false, true≢false, refl, sym, ap, ◌∙◌, subst, length-append, arith}
+use Rattle.std.proofs.Common.{◌≡◌, ℕ, ◌+◌, ◌<◌, ◌≤◌, ◌≢◌, IsErrAnd, IfErr, IfOk, inl, inr, ◌⊎◌, if◌then◌else◌, ◌||◌, ◌==◌, List, [], ◌++◌, length, Option, None, Some, IfSome, Result, Ok, Err, true, false, true≢false, refl, sym, ap, ◌∙◌, subst, length-append, arith}
 use Rattle.std.specs.Io.KnownBytes.{Appends, Consumes}
 use Rattle.std.proofs.KnownBytes.{Appends-nil, Appends-trans, Consumes-nil, Keeps-refl}
+use Rattle.std.proofs.lemmas.Bool.{eq-eqb}
+use Rattle.std.proofs.lemmas.Bool.Decides.{eqb_tells, leb_tells}
 use Rattle.std.proofs.Transfers.{starts_with_of_append, starts_with_of_eq}
 use Rattle.tcm_edges.specs.Files.{Files, IsLoad}
 use Rattle.tcm_edges.specs.declared.store.Loaded.{Loaded}
 use Rattle.tcm_edges.specs.Owed.{WritesPrefix}
 use Rattle.transformations.specs.declared.entry.Entry.{Entry}
-use Rattle.tcm_session.specs.Counts.{Counts}
+use Rattle.tcm_session.specs.Counts.{Counts, counts}
 use Rattle.tcm_session.specs.Endings.{IsCommitOf, ending_lines, ending_status, ending_text, fault_status, status_by}
 use Rattle.tcm_edges.specs.declared.fault.LoadFault.{LoadFault}
 use Rattle.tcm_edges.specs.declared.fault.LoadFault.TheVariants as load
-use Rattle.tcm_session.specs.Faults.{HasRunCause, Shows, of_load}
+use Rattle.tcm_session.specs.Faults.{counts_after, counts_by, of_load}
 use Rattle.tcm_session.specs.Left.{StopsNext}
 use Rattle.tcm_session.specs.Lines.{whole_lines}
 use Rattle.tcm_session.specs.LogFiles.{Gains, cut_to_lines, entry_lines, log_of, refused_line_text}
 use Rattle.tcm_session.specs.Machine.{answers, entries_added, session_over}
 use Rattle.tcm_session.specs.Outcome.{Outcome, Start, commit_outcome, input_limit, is_commit, log_file, named_log, outcome, outcome_from, outcome_loaded, printed_by, script_outcome, unread_outcome}
-use Rattle.tcm_session.specs.Run.{ComesSurely, ComesTo, HasStatus, IsFinal, IsRun, IsStatus, ReadsFor}
+use Rattle.tcm_session.specs.Run.{ComesSurely, ComesTo, HasStatus, IsFinal, IsRun, IsStatus, ReadsFor, more_if}
 use Rattle.tcm_session.specs.Runs.{IsEnd, MayHold, ReadsTo, RunsFor, RunsOn, RunsSeen, Standing, StopsAt, Writes}
 use Rattle.tcm_session.specs.Stops.{LeavesScript, Stopped}
 use Rattle.tcm_session.specs.declared.fault.RunFault.{RunFault}
@@ -117,20 +119,30 @@ fault_6 fault.Store is = refl
 
 -- ---- the ends of runs
 
--- five of nine tests
-of_nine : (a b c d e f g h i : Bool) → (a || c || d || h || i) ≡ true → (a || b || c || d || e || f || g || h || i) ≡ true
-of_nine true b c d e f g h i is = refl
-of_nine false true c d e f g h i is = refl
-of_nine false false true d e f g h i is = refl
-of_nine false false false true e f g h i is = refl
-of_nine false false false false true f g h i is = refl
-of_nine false false false false false true g h i is = refl
-of_nine false false false false false false true h i is = refl
-of_nine false false false false false false false h i is = is
+-- a status that isn't n
+other_status : (status n : ℕ) → status ≢ n → (status == n) ≡ false
+other_status status n apart =
+    elim (eqb_tells status n) [
+      | inl same ↦ absurd (apart same.1)
+      | inr other ↦ other.0
+    ]
+
+-- a status of a run that no fault ends is at most 8
+end_within : (status : ℕ) → IsEnd status → status ≤ 8
+end_within status is =
+    elim (leb_tells status 8) [
+      | inl low ↦ low.1
+      | inr high ↦ absurd (true≢false (sym is ∙ none high.1))
+    ]
+  where
+    none : 8 < status → ((status == 0) || (status == 2) || (status == 3) || (status == 7) || (status == 8)) ≡ false
+    none high =
+        let no : (n : ℕ) → n ≤ 8 → (status == n) ≡ false = λ n low. other_status status n (λ same. omega (arith, high, low, same)) in
+        (λ i. no 0 (omega arith) i || no 2 (omega arith) i || no 3 (omega arith) i || no 7 (omega arith) i || no 8 (omega arith) i)
 
 pub final_end : (status : ℕ) → IsEnd status → IsStatus status × IsFinal status
 final_end status is = (
-  of_nine (status == 0) (status == 1) (status == 2) (status == 3) (status == 4) (status == 5) (status == 6) (status == 7) (status == 8) is,
+  end_within status is,
   record {
     memory = λ e. true≢false (sym (subst IsEnd e is));
     source = λ e. true≢false (sym (subst IsEnd e is));
@@ -166,7 +178,7 @@ module _ {S : Type 0} (start : Start) (left : S → Option (List ℕ)) (input in
           past_limit = λ is _. absurd (fault_not_8 e is);
           unread = λ no. absurd (true≢false (sym (script_reads start given) ∙ no));
         };
-        leaves = λ not_final. record { added = stopped.added; stops = stopped.stops.stops; adds = stopped.adds; read_fault = λ four. stopped.stops.none (fault_4 e four) };
+        leaves = λ not_final. record { good = script_reads start given; added = stopped.added; stops = stopped.stops.stops; adds = stopped.adds; read_fault = λ four. stopped.stops.none (fault_4 e four) };
       }
 
 -- a fault that a `?` passes on
@@ -200,11 +212,11 @@ module _ {S : Type 0} (start : Start) (left : S → Option (List ℕ)) (input in
   most_read end.PastLimit reads = omega (arith, length-append reads.bytes reads.past, reads.ends.0, reads.ends.1)
 
   -- of what is due last a prefix is written
-  pub runs_part : (e : RunFault) → Shows e before after
+  pub runs_part : (e : RunFault) → after ≡ counts_after e before
       → Stopped (StopsNext (ending_text ending at'.session at'.begun) (entry_lines (entries_added at'.session (ending_lines ending at'.begun)))) start.file at'.written w' at'.files f'
       → RunsFor (script_outcome start) (LeavesScript start.file f f') left input input' w w' f' (fault_status e)
-  runs_part e shown stopped =
-      let never : e ≡ fault.Source → ⊥ = not_source e before after none none' shown in
+  runs_part e cause stopped =
+      let never : e ≡ fault.Source → ⊥ = not_source e before after none none' cause in
       let is = ended start (left input) (left input') w f at' ending reads in
       script_stopped start left input input' w w' f f' e is.input (reads.bytes ++ reads.past) is.told
       (ended_stopped (e ≡ fault.Source) start ending (left input) (left input') w w' f f' at' reads is never stopped)
@@ -269,14 +281,14 @@ module _ {S : Type 0} (status : ℕ) (last : List ℕ) (all : Files) (Left : Out
         unread = λ _. (refl, not_4);
       }
 
-  pub runs_unread_err : (e : RunFault) → WritesPrefix w w' last → Shows e before after → ((printed : List ℕ) (ended : ℕ) → Left (unread_outcome status last all) printed ended)
+  pub runs_unread_err : (e : RunFault) → WritesPrefix w w' last → after ≡ counts_after e before → ((printed : List ℕ) (ended : ℕ) → Left (unread_outcome status last all) printed ended)
       → RunsFor (λ _. unread_outcome status last all) Left left input input w w' f' (fault_status e)
-  runs_unread_err e part shown leaves =
+  runs_unread_err e part cause leaves =
       record {
         given = rest_of (left input);
         told = told_rest (left input);
         comes = comes_part (unread_outcome status last all) w w' f' (fault_status e) (fault_not_final e) part;
-        reads = reads_nothing (fault_status e) (λ four. not_source e before after none none' shown (fault_4 e four));
+        reads = reads_nothing (fault_status e) (λ four. not_source e before after none none' cause (fault_4 e four));
         leaves = λ not_final. leaves part.owes.front (fault_status e);
       }
 
@@ -291,57 +303,26 @@ module _ {S : Type 0} (status : ℕ) (last : List ℕ) (all : Files) (Left : Out
         reads = reads_nothing status final.source;
         leaves = λ not_final. absurd (not_final final);
       })
-  runs_unread (Err e) final held writes is leaves = runs_unread_err e writes.part writes.cause.shown leaves
+  runs_unread (Err e) final held writes is leaves = runs_unread_err e writes.part writes.cause leaves
 
 -- ---- what a status shows
 
-pub shows_status : (before after : Counts) (r : Result Status RunFault) → HasRunCause before after r → IfOk r (λ s. IsEnd s.0) → HasStatus before after (status_by r)
+pub shows_status : (before after : Counts) (r : Result Status RunFault) → after ≡ counts_by r before → IfOk r (λ s. IsEnd s.0) → HasStatus before after (status_by r)
 shows_status before after (Ok s) cause is =
     let final = final_end s.0 is in
     record {
       is = final.0;
-      later = cause.later;
-      source_cause = λ four. absurd (final.1.source four);
-      sink_cause = λ five. absurd (final.1.sink five);
-      store_cause = λ six. absurd (final.1.store six);
-      complete = λ a b c. inr final.1;
+      source = ap (λ (c : Counts). c.source) cause ∙ ap (λ b. more_if b before.source) (sym (other_status s.0 4 final.1.source));
+      sink = ap (λ (c : Counts). c.sink) cause ∙ ap (λ b. more_if b before.sink) (sym (other_status s.0 5 final.1.sink));
+      store = ap (λ (c : Counts). c.store) cause ∙ ap (λ b. more_if b before.store) (sym (other_status s.0 6 final.1.store));
     }
-shows_status before after (Err fault.Memory) cause is =
-    record {
-      is = refl;
-      later = cause.later;
-      source_cause = λ e. absurd (omega arith);
-      sink_cause = λ e. absurd (omega arith);
-      store_cause = λ e. absurd (omega arith);
-      complete = λ a b c. inl refl;
-    }
-shows_status before after (Err fault.Source) cause is =
-    record {
-      is = refl;
-      later = cause.later;
-      source_cause = λ e. cause.shown;
-      sink_cause = λ e. absurd (omega arith);
-      store_cause = λ e. absurd (omega arith);
-      complete = λ a b c. absurd (a cause.shown);
-    }
-shows_status before after (Err fault.Sink) cause is =
-    record {
-      is = refl;
-      later = cause.later;
-      source_cause = λ e. absurd (omega arith);
-      sink_cause = λ e. cause.shown;
-      store_cause = λ e. absurd (omega arith);
-      complete = λ a b c. absurd (b cause.shown);
-    }
-shows_status before after (Err fault.Store) cause is =
-    record {
-      is = refl;
-      later = cause.later;
-      source_cause = λ e. absurd (omega arith);
-      sink_cause = λ e. absurd (omega arith);
-      store_cause = λ e. cause.shown;
-      complete = λ a b c. absurd (c cause.shown);
-    }
+shows_status before after (Err e) cause is = subst (λ c. HasStatus before c (fault_status e)) (sym cause) (by e)
+  where
+    by : (e : RunFault) → HasStatus before (counts_after e before) (fault_status e)
+    by fault.Memory = record { is = omega arith; source = refl; sink = refl; store = refl }
+    by fault.Source = record { is = omega arith; source = refl; sink = refl; store = refl }
+    by fault.Sink = record { is = omega arith; source = refl; sink = refl; store = refl }
+    by fault.Store = record { is = omega arith; source = refl; sink = refl; store = refl }
 
 -- a status of 6 is a fault of the store
 pub not_6 : (r : Result Status RunFault) → IfOk r (λ s. IsEnd s.0) → IfErr r (λ e. e ≢ fault.Store) → status_by r ≢ 6
@@ -355,7 +336,7 @@ memory_not_source e = cc
 
 -- a fault comes before anything is read or written
 pub runs_early : {S : Type 0} (Left : Outcome → List ℕ → ℕ → Type 0) (left : S → Option (List ℕ)) (input : S) (w : Option (List ℕ)) (outcome_of : List ℕ → Outcome) (f' : Option Files) (e : RunFault) → e ≢ fault.Source
-    → ((o : Outcome) (ended : ℕ) → Left o [] ended) → RunsFor outcome_of Left left input input w w f' (fault_status e)
+    → ((given : List ℕ) (ended : ℕ) → Left (outcome_of given) [] ended) → RunsFor outcome_of Left left input input w w f' (fault_status e)
 runs_early Left left input w outcome_of f' e other leaves =
     let given = rest_of (left input) in
     let not_4 : fault_status e ≢ 4 = λ four. other (fault_4 e four) in
@@ -374,7 +355,7 @@ runs_early Left left input w outcome_of f' e other leaves =
         past_limit = λ is _. absurd (fault_not_8 e is);
         unread = λ _. (refl, not_4);
       };
-      leaves = λ not_final. leaves (outcome_of given) (fault_status e);
+      leaves = λ not_final. leaves given (fault_status e);
     }
 
 module _ {S : Type 0} (Left : Outcome → List ℕ → ℕ → Type 0) (left : S → Option (List ℕ)) (input input' : S) (w w' : Option (List ℕ)) where
@@ -443,6 +424,17 @@ pub named_file : (words : List (List ℕ)) (file : Option (List ℕ)) → is_com
 named_file words file e is = ap (λ b. if b then log_file words else None) e ∙ is
 
 -- ---- over objects that never fail
+
+-- where no count changes, the status names no fault of the outside
+uncounted : (status n : ℕ) → 0 ≡ more_if (status == n) 0 → status ≢ n
+uncounted status n is same = (let one : 0 ≡ more_if true 0 = is ∙ ap (λ b. more_if b 0) (eq-eqb status n same) in omega (arith, one))
+
+pub ends_surely : (status : ℕ) → HasStatus (counts 0 0 0) (counts 0 0 0) status → (status ≡ 1) ⊎ IsFinal status
+ends_surely status has =
+    elim (eqb_tells status 1) [
+      | inl one ↦ inl one.1
+      | inr other ↦ inr (record { memory = other.1; source = uncounted status 4 has.source; sink = uncounted status 5 has.sink; store = uncounted status 6 has.store })
+    ]
 
 pub comes_surely : {S : Type 0} (words : List (List ℕ)) (left : S → Option (List ℕ)) (input input' : S) (bytes w w' : List ℕ) (all all' : Files) (status : ℕ) → left input ≡ Some bytes
     → IsRun words left input input' (Some w) (Some w') (Some all) (Some all') status → (status ≡ 1) ⊎ IsFinal status → (status ≡ 1) ⊎ ComesSurely (outcome words (λ _. all) bytes) w w' all' status

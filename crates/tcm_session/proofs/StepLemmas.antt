@@ -1,7 +1,7 @@
 -- The ends of a step.
-use Rattle.std.proofs.Common.{◌≡◌, ◌≢◌, ℕ, ◌≤◌, Bool, true, false, if◌then◌else◌, List, [], ◌∷◌, ◌++◌, length, take, Option, None, Result, Ok, Err, Some, OnOk, IfErr, MatchResult, refl, sym, ap, ◌∙◌, subst, append-nil, length-append, arith}
+use Rattle.std.proofs.Common.{◌≡◌, ◌≢◌, ℕ, Bool, true, false, if◌then◌else◌, List, [], ◌∷◌, ◌++◌, length, take, Option, None, Result, Ok, Err, Some, OnOk, IfErr, MatchResult, refl, sym, ap, ◌∙◌, subst, append-nil, length-append, arith}
 use Rattle.std.proofs.Math.Seq.{take-append_seam}
-use Rattle.tcm_edges.specs.Causes.{OnFailed, OnMemory, Rose}
+use Rattle.tcm_edges.specs.Causes.{OnFailed, OnMemory}
 use Rattle.tcm_edges.specs.Files.{ChangesFile, Files, GainsAll, GainsPart, OthersKept}
 use Rattle.tcm_edges.specs.Writes.{TellsAlike}
 use Rattle.tcm_edges.specs.declared.fault.WriteFault.{WriteFault}
@@ -24,7 +24,7 @@ use Rattle.wire_json.specs.declared.line.ReadLineFault.{ReadLineFault}
 use Rattle.wire_json.specs.declared.line.ReadLineFault.TheVariants as read
 use Rattle.script_lang.specs.Texts.{no_text, ok_text, refusal_text}
 use Rattle.snapshot_store.specs.Images.{AreOf}
-use Rattle.tcm_session.specs.Faults.{of_append}
+use Rattle.tcm_session.specs.Faults.{count_after, count_by, of_append}
 use Rattle.tcm_session.specs.LogFiles.{Gains, entry_lines, entry_read, next_entry}
 use Rattle.tcm_session.specs.Machine.{Reply, SessionState, accepted_reply, commit_text, replied}
 use Rattle.tcm_session.specs.Steps.{Alone, AllFollow, IsNextEntry, Leaves, LeavesSession, Notes, OnlyAnswers, Steps}
@@ -44,6 +44,11 @@ replied_nothing session reply none stay =
     let log : session.log ≡ session.log ++ reply.added = sym (ap (λ es. session.log ++ es) none ∙ append-nil session.log) in
     (λ i. record { log = log i; followers = sym stay i })
 
+-- without memory the store doesn't count a fault
+same_count : (e : StepFault) (count : ℕ) → e ≡ step.Memory → count ≡ count_after e count
+same_count step.Memory count is = refl
+same_count step.Store count is = absurd (cc)
+
 pub steps_only : {T : Type 0} (reply : Reply) (name : Option (List ℕ)) (session : SessionState) (out out' : List ℕ) (files : Option Files) (count : ℕ) (r : Result T StepFault)
     → reply.added ≡ [] → reply.followers ≡ session.followers → OnlyAnswers reply.text out out' r → Steps None reply name session session out out' files files count count r
 steps_only reply name session out out' files count (Ok x) none stay only =
@@ -54,7 +59,7 @@ steps_only reply name session out out' files count (Ok x) none stay only =
       file = subst (λ es. Gains name (entry_lines es) files files) (sym none) (Gains-nil name files);
       left = tt;
       fault = tt;
-      later = omega arith;
+      count = refl;
     }
 steps_only reply name session out out' files count (Err e) none stay only =
     record {
@@ -63,8 +68,8 @@ steps_only reply name session out out' files count (Err e) none stay only =
       next = tt;
       file = tt;
       left = subst (λ f. LeavesSession f None session reply.followers session) (sym only.memory) refl;
-      fault = subst (λ f. Leaves f name reply.added files files count count) (sym only.memory) refl;
-      later = omega arith;
+      fault = subst (λ f. Leaves f name reply.added files files) (sym only.memory) refl;
+      count = same_count e count only.memory;
     }
 
 -- a step that uses no file
@@ -78,7 +83,7 @@ steps_alone handed reply name session session' out out' files count (Ok x) alone
       file = subst (λ es. Gains name (entry_lines es) files files) (sym alone.added) (Gains-nil name files);
       left = tt;
       fault = tt;
-      later = omega arith;
+      count = refl;
     }
 steps_alone handed reply name session session' out out' files count (Err e) alone =
     record {
@@ -87,8 +92,8 @@ steps_alone handed reply name session session' out out' files count (Err e) alon
       next = tt;
       file = tt;
       left = subst (λ f. LeavesSession f handed session reply.followers session') (sym alone.memory) alone.left;
-      fault = subst (λ f. Leaves f name reply.added files files count count) (sym alone.memory) refl;
-      later = omega arith;
+      fault = subst (λ f. Leaves f name reply.added files files) (sym alone.memory) refl;
+      count = same_count e count alone.memory;
     }
 
 -- ---- an entry that is noted
@@ -112,27 +117,26 @@ gained_line name entry line files files' is changes others told =
     (Gains-of_append name line files files' (λ none. entry_line_some entry (sym is ∙ none)) changes others told)
 
 -- an append that failed
-pub leaves_append : (fault : WriteFault) (name : List ℕ) (entry : Entry) (line : List ℕ) (files files' : Option Files) (before after : ℕ) → line ≡ entry_line entry
-    → OnFailed fault (ChangesFile (GainsPart line) files files' name) → OthersKept files files' name → OnMemory fault ((files' ≡ files) × (after ≡ before)) → OnFailed fault (Rose before after)
-    → Leaves (of_append fault) (Some name) (entry ∷ []) files files' before after
-leaves_append write.Failed name entry line files files' before after is part others memory rose =
+pub leaves_append : (fault : WriteFault) (name : List ℕ) (entry : Entry) (line : List ℕ) (files files' : Option Files) → line ≡ entry_line entry
+    → OnFailed fault (ChangesFile (GainsPart line) files files' name) → OthersKept files files' name → OnMemory fault (files' ≡ files)
+    → Leaves (of_append fault) (Some name) (entry ∷ []) files files'
+leaves_append write.Failed name entry line files files' is part others memory =
     record {
       adds = λ none. cons_some none;
-      rose = rose;
       part = subst (λ t. ChangesFile (GainsPart t) files files' name) (is ∙ sym (one_line_of entry)) part;
       others = others;
     }
   where
     cons_some : entry ∷ [] ≡ [] → ⊥
     cons_some none = cc
-leaves_append write.Memory name entry line files files' before after is part others memory rose = memory.0
+leaves_append write.Memory name entry line files files' is part others memory = memory
 
 -- the ends of a step whose answer is added and whose entry is noted, or not
 pub notes_of : {T : Type 0} (entry : Entry) (name : Option (List ℕ)) (log log' : List Entry) (out out' : List ℕ) (files files' : Option Files) (before after : ℕ) (r : Result T StepFault)
     → out' ≡ out ++ ok_text entry.epoch → MatchResult r (λ _. log' ≡ log ++ entry ∷ []) (λ _. log' ≡ log) → OnOk r (Gains name (entry_line entry) files files')
-    → IfErr r (λ e. Leaves e name (entry ∷ []) files files' before after) → before ≤ after
+    → IfErr r (λ e. Leaves e name (entry ∷ []) files files') → after ≡ count_by r before
     → Notes entry name log log' out out' files files' before after r
-notes_of entry name log log' out out' files files' before after (Ok x) added noted gained fault later =
+notes_of entry name log log' out out' files files' before after (Ok x) added noted gained fault count =
     record {
       text = added;
       kept = kept_before out (ok_text entry.epoch) out' added;
@@ -140,9 +144,9 @@ notes_of entry name log log' out out' files files' before after (Ok x) added not
       file = subst (λ t. Gains name t files files') (sym (one_line_of entry)) gained;
       err = tt;
       fault = tt;
-      later = later;
+      count = count;
     }
-notes_of entry name log log' out out' files files' before after (Err e) added noted gained fault later =
+notes_of entry name log log' out out' files files' before after (Err e) added noted gained fault count =
     record {
       text = tt;
       kept = kept_before out (ok_text entry.epoch) out' added;
@@ -150,7 +154,7 @@ notes_of entry name log log' out out' files files' before after (Err e) added no
       file = tt;
       err = noted;
       fault = fault;
-      later = later;
+      count = count;
     }
 
 -- a step that notes an entry
@@ -165,7 +169,7 @@ steps_noted session entry name log' out out' files files' before after (Ok x) no
       file = notes.file;
       left = tt;
       fault = tt;
-      later = notes.later;
+      count = notes.count;
     }
 steps_noted session entry name log' out out' files files' before after (Err e) notes =
     let same : record { log = log'; followers = session.followers } ≡ session = ap (λ log. record { log = log; followers = session.followers }) notes.err in
@@ -176,7 +180,7 @@ steps_noted session entry name log' out out' files files' before after (Err e) n
       file = tt;
       left = by e same;
       fault = notes.fault;
-      later = notes.later;
+      count = notes.count;
     }
   where
     by : (e : StepFault) → record { log = log'; followers = session.followers } ≡ session → LeavesSession e None session session.followers (record { log = log'; followers = session.followers })

@@ -92,10 +92,10 @@ record LeavesPart (name : Option (List ℕ)) (text : List ℕ) (files files' : O
   of : StartsWith text part
   adds : Adds name part files files'
 
-leaves_part : (e : StepFault) (name : Option (List ℕ)) (added : List Entry) (files files' : Option Files) (before after : ℕ) → Leaves e name added files files' before after → LeavesPart name (entry_lines added) files files'
-leaves_part fault.Memory name added files files' before after same = record { part = []; of = refl; adds = Adds-same name files files' same }
-leaves_part fault.Store None added files files' before after left = absurd left
-leaves_part fault.Store (Some name) added files files' before after left = by files files' left.part left.others
+leaves_part : (e : StepFault) (name : Option (List ℕ)) (added : List Entry) (files files' : Option Files) → Leaves e name added files files' → LeavesPart name (entry_lines added) files files'
+leaves_part fault.Memory name added files files' same = record { part = []; of = refl; adds = Adds-same name files files' same }
+leaves_part fault.Store None added files files' left = absurd left
+leaves_part fault.Store (Some name) added files files' left = by files files' left.part left.others
   where
     text : List ℕ
     text = entry_lines added
@@ -112,10 +112,10 @@ leaves_part fault.Store (Some name) added files files' before after left = by fi
         }
 
 -- a step failed: nothing of the answer is printed
-pub stopped_step : (text : List ℕ) (name : Option (List ℕ)) (w : Option (List ℕ)) (e : StepFault) (added : List Entry) (files files' : Option Files) (before after : ℕ) → Leaves e name added files files' before after
+pub stopped_step : (text : List ℕ) (name : Option (List ℕ)) (w : Option (List ℕ)) (e : StepFault) (added : List Entry) (files files' : Option Files) → Leaves e name added files files'
     → Stopped (StopsNext text (entry_lines added)) name w w files files'
-stopped_step text name w e added files files' before after left =
-    let it = leaves_part e name added files files' before after left in
+stopped_step text name w e added files files' left =
+    let it = leaves_part e name added files files' left in
     record {
       printed = [];
       added = it.part;

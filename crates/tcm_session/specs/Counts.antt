@@ -1,5 +1,5 @@
 -- The counts of faults of the outside.
-use Rattle.std.specs.Prelude.{ℕ, ◌≤◌}
+use Rattle.std.specs.Prelude.{ℕ}
 
 -- the counts of the source, the sink and the store
 pub record Counts : Type 0 where
@@ -9,9 +9,3 @@ pub record Counts : Type 0 where
 
 abbrev pub counts : ℕ → ℕ → ℕ → Counts
 counts source sink store = record { source = source; sink = sink; store = store }
-
--- no count fell
-pub record NoneFell (before after : Counts) : Type 0 where
-  pub source : before.source ≤ after.source
-  pub sink : before.sink ≤ after.sink
-  pub store : before.store ≤ after.store

@@ -1,11 +1,11 @@
 -- The faults that end a step or a run early (of the code: no promise rests on these).
-use Rattle.std.specs.Prelude.{Result, IfErr, ⊤}
-use Rattle.tcm_edges.specs.Causes.{Rose}
+use Rattle.std.specs.Prelude.{ℕ, Result, Ok, Err}
+use Rattle.tcm_edges.specs.Causes.{one_more}
 use Rattle.tcm_edges.specs.declared.fault.LoadFault.{LoadFault}
 use Rattle.tcm_edges.specs.declared.fault.LoadFault.TheVariants as load
 use Rattle.tcm_edges.specs.declared.fault.WriteFault.{WriteFault}
 use Rattle.tcm_edges.specs.declared.fault.WriteFault.TheVariants as write
-use Rattle.tcm_session.specs.Counts.{Counts, NoneFell}
+use Rattle.tcm_session.specs.Counts.{Counts}
 use Rattle.tcm_session.specs.declared.fault.RunFault.{RunFault}
 use Rattle.tcm_session.specs.declared.fault.RunFault.TheVariants as run
 use Rattle.tcm_session.specs.declared.fault.StepFault.{StepFault}
@@ -30,14 +30,22 @@ abbrev pub of_load : LoadFault → RunFault
 of_load load.Failed = run.Store
 of_load load.Memory = run.Memory
 
--- a fault of the source, the sink or the store shows that its count rose; running out of memory shows nothing
-abbrev pub Shows : RunFault → Counts → Counts → Type 0
-Shows run.Memory before after = ⊤
-Shows run.Source before after = Rose before.source after.source
-Shows run.Sink before after = Rose before.sink after.sink
-Shows run.Store before after = Rose before.store after.store
+-- the count of the store's faults after a step: one more if the store failed, else the same
+abbrev pub count_after : StepFault → ℕ → ℕ
+count_after step.Memory count = count
+count_after step.Store count = one_more count
 
--- the counts never fall, and a fault comes only if its count rose
-pub record HasRunCause {T : Type 0} (before after : Counts) (result : Result T RunFault) : Type 0 where
-  pub later : NoneFell before after
-  pub shown : IfErr result (λ e. Shows e before after)
+abbrev pub count_by : {T : Type 0} → Result T StepFault → ℕ → ℕ
+count_by (Ok _) count = count
+count_by (Err fault) count = count_after fault count
+
+-- the counts after a run, or a part of one: one more if a fault of the source, the sink or the store ended it
+abbrev pub counts_after : RunFault → Counts → Counts
+counts_after run.Memory before = before
+counts_after run.Source before = record before { source = one_more before.source }
+counts_after run.Sink before = record before { sink = one_more before.sink }
+counts_after run.Store before = record before { store = one_more before.store }
+
+abbrev pub counts_by : {T : Type 0} → Result T RunFault → Counts → Counts
+counts_by (Ok _) before = before
+counts_by (Err fault) before = counts_after fault before

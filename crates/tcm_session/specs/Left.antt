@@ -43,8 +43,10 @@ abbrev pub GainsThese : List ℕ → Option (List ℕ) → Option (List ℕ) →
 GainsThese bytes old new = (new ≡ Some (content old ++ bytes)) ⊎ ((new ≡ old) × (bytes ≡ []))
 
 -- the file is cut to its whole lines, and has gained what the lines of the outcome added before the fault; at status 4,
--- a failed read, no part of an answer is printed, and no part of an entry added
+-- a failed read, no part of an answer is printed, and no part of an entry added; only a log that was found good, after
+-- which the input is read, is cut
 pub record Grows (o : Outcome) (printed : List ℕ) (status : ℕ) (file file' : Option (List ℕ)) : Type 0 where
+  pub good : o.reads ≡ true
   pub added : List ℕ
   pub stops : StopsIn (session_over o.log) o.lines o.last printed added
   pub gains : GainsThese added (option_map lines_part file) file'

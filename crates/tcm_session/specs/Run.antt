@@ -1,12 +1,12 @@
 -- The promises of a run about its words, its input, the files, the bytes that it prints and its status.
-use Rattle.std.specs.Prelude.{◌≡◌, ◌≢◌, ℕ, ◌+◌, ◌≤◌, true, false, IsTrue, ◌==◌, ◌||◌, List, ◌++◌, length, Option, IfSome, ◌⊎◌}
+use Rattle.std.specs.Prelude.{◌≡◌, ◌≢◌, ℕ, ◌+◌, ◌≤◌, Bool, true, false, if◌then◌else◌, ◌==◌, List, ◌++◌, length, Option, IfSome}
 use Rattle.std.specs.Io.{StartsWith}
 use Rattle.std.specs.Io.KnownBytes.{Appends, Consumes, IsAtEnd}
-use Rattle.tcm_edges.specs.Causes.{Rose}
+use Rattle.tcm_edges.specs.Causes.{one_more}
 use Rattle.tcm_edges.specs.Files.{Files}
 use Rattle.transformations.specs.Log.{IsLog}
 use Rattle.transformations.specs.declared.entry.Entry.{Entry}
-use Rattle.tcm_session.specs.Counts.{Counts, NoneFell}
+use Rattle.tcm_session.specs.Counts.{Counts}
 use Rattle.tcm_session.specs.Left.{LeavesFiles}
 use Rattle.tcm_session.specs.Lines.{whole_lines}
 use Rattle.tcm_session.specs.Machine.{answers, session_over}
@@ -15,12 +15,11 @@ use Rattle.tcm_session.specs.ReplayPrefix.{AreFilesOf, ReportsPrefix, taken_of_f
 use Rattle.tcm_session.specs.Shown.{PrintsMeeting}
 use Rattle.tcm_session.specs.Taken.{FollowersShow}
 
--- the statuses: the end of the input, of a replay, of a state or of a summary, out of memory, the usage line, a line of
--- a file that is refused, a fault of the source, of the sink or of the store, a file or an epoch that is absent, an
--- input or a file that is too large
+-- the statuses, 0 to 8: the end of the input, of a replay, of a state or of a summary, out of memory, the usage line, a
+-- line of a file that is refused, a fault of the source, of the sink or of the store, a file or an epoch that is absent,
+-- an input or a file that is too large
 abbrev pub IsStatus : ℕ → Type 0
-IsStatus status =
-    IsTrue ((status == 0) || (status == 1) || (status == 2) || (status == 3) || (status == 4) || (status == 5) || (status == 6) || (status == 7) || (status == 8))
+IsStatus status = status ≤ 8
 
 -- the status of a run that came to its end: memory didn't run out, and neither source, sink nor store failed
 pub record IsFinal (status : ℕ) : Type 0 where
@@ -91,15 +90,17 @@ pub record IsRun {S : Type 0} (words : List (List ℕ)) (left : S → Option (Li
       → ReplaysLog words given.seen log comes.printed status
   pub leaves : (IsFinal status → ⊥) → LeavesFiles (named_log words) files files' (outcome words given.seen given.input) comes.printed status
 
--- the meaning of a status, by the counts of faults before the run and after it
+-- the count of faults after a run: one more if its status says so, else the same
+abbrev pub more_if : Bool → ℕ → ℕ
+more_if failed count = if failed then one_more count else count
+
+-- the meaning of a status, by the counts of faults before the run and after it: the run ends at its first fault, and
+-- its status says where that came from
 pub record HasStatus (before after : Counts) (status : ℕ) : Type 0 where
   pub is : IsStatus status
-  pub later : NoneFell before after
-  pub source_cause : status ≡ 4 → Rose before.source after.source
-  pub sink_cause : status ≡ 5 → Rose before.sink after.sink
-  pub store_cause : status ≡ 6 → Rose before.store after.store
-  -- if no count rises, the run came to its end or memory ran out
-  pub complete : (Rose before.source after.source → ⊥) → (Rose before.sink after.sink → ⊥) → (Rose before.store after.store → ⊥) → (status ≡ 1) ⊎ IsFinal status
+  pub source : after.source ≡ more_if (status == 4) before.source
+  pub sink : after.sink ≡ more_if (status == 5) before.sink
+  pub store : after.store ≡ more_if (status == 6) before.store
 
 -- a run over objects that never fail, and that found memory
 pub record ComesSurely (o : Outcome) (written written' : List ℕ) (files' : Files) (ended : ℕ) : Type 0 where

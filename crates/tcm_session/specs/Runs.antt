@@ -4,7 +4,7 @@ use Rattle.std.specs.Io.KnownBytes.{Appends, Consumes, IsAtEnd}
 use Rattle.tcm_edges.specs.Files.{Files}
 use Rattle.tcm_edges.specs.Owed.{WritesPrefix}
 use Rattle.tcm_session.specs.Counts.{Counts}
-use Rattle.tcm_session.specs.Faults.{HasRunCause}
+use Rattle.tcm_session.specs.Faults.{counts_by}
 use Rattle.tcm_session.specs.Lines.{HasNoFeed, whole_lines, open_line}
 use Rattle.tcm_session.specs.LogFiles.{Gains, entry_lines}
 use Rattle.tcm_session.specs.Machine.{SessionState, answers, entries_added, session_after}
@@ -94,7 +94,7 @@ pub record ReadsTo (file : Option (List ℕ)) (ending : ReadEnd) (left left' : O
 pub record Writes {T : Type 0} (text : List ℕ) (written written' : Option (List ℕ)) (before after : Counts) (result : Result T RunFault) : Type 0 where
   pub whole : OnOk result (Appends written written' text)
   pub part : WritesPrefix written written' text
-  pub cause : HasRunCause before after result
+  pub cause : after ≡ counts_by result before
 
 -- a run that was given some input: it comes to the outcome of this input, reads as the outcome says, and leaves this if
 -- a fault ends it

@@ -1,19 +1,19 @@
 -- The ends of a step.
 use Rattle.std.specs.List.{AllByRecursion}
 use Rattle.follower_log.specs.Follower.{FollowerState}
-use Rattle.follower_log.specs.Prefix.{StandsFor, Taken}
+use Rattle.follower_log.specs.Prefix.{StandsFor, Taken, has_entry, is_base}
 use Rattle.follower_log.specs.declared.fault.FollowerFault.{FollowerFault}
 use Rattle.follower_log.specs.declared.fault.FollowerFault.TheVariants as follower_fault
 use Rattle.follower_log.specs.declared.took.Took.{Took}
 use Rattle.script_lang.specs.declared.script_line.ScriptLine.{ScriptLine}
 use Rattle.script_lang.specs.declared.script_line.ScriptLine.TheVariants.{Deliver, Snapshot}
-use Rattle.std.specs.Prelude.{◌≡◌, ◌≢◌, ℕ, ◌+◌, ◌≤◌, List, [], ◌∷◌, ◌++◌, length, take, Option, None, Some, Result, Err, IsOk, OnOk, OnErr, IfErr, IfSome, IsOkAnd, IsTrue}
-use Rattle.tcm_edges.specs.Causes.{Rose}
+use Rattle.std.specs.Prelude.{◌≡◌, ◌≢◌, ℕ, ◌+◌, ◌≤◌, true, List, [], ◌∷◌, ◌++◌, length, take, Option, None, Some, Result, Err, IsOk, OnOk, OnErr, IfErr, IfSome, IsOkAnd, IsTrue}
 use Rattle.tcm_edges.specs.Files.{ChangesFile, Files, GainsPart, OthersKept}
 use Rattle.transformations.specs.History.{commit_refusal, is_command}
 use Rattle.transformations.specs.Log.{commands_of, entry_with_id}
 use Rattle.transformations.specs.declared.entry.Entry.{Entry}
 use Rattle.script_lang.specs.Texts.{ok_text}
+use Rattle.tcm_session.specs.Faults.{count_by}
 use Rattle.tcm_session.specs.LogFiles.{Gains, entry_lines}
 use Rattle.tcm_session.specs.Machine.{Reply, SessionState, follower_named, handed_text, replied, with_follower}
 use Rattle.tcm_session.specs.declared.fault.StepFault.{StepFault}
@@ -21,20 +21,19 @@ use Rattle.tcm_session.specs.declared.fault.StepFault.TheVariants as fault
 use Rattle.tcm_session.specs.declared.followers.NamedFollower.{NamedFollower}
 use Rattle.tcm_session.specs.declared.refused_line.Cause.{Cause}
 
--- the store failed: the line adds an entry, and the count of faults rose in this step; the file gained a prefix of the
--- entry's line, or nothing, and no other file changed
-pub record StoreFailed (name : List ℕ) (added : List Entry) (files files' : Option Files) (before after : ℕ) : Type 0 where
+-- the store failed: the line adds an entry; the file gained a prefix of the entry's line, or nothing, and no other file
+-- changed
+pub record StoreFailed (name : List ℕ) (added : List Entry) (files files' : Option Files) : Type 0 where
   pub adds : added ≢ []
-  pub rose : Rose before after
   pub part : ChangesFile (GainsPart (entry_lines added)) files files' name
   pub others : OthersKept files files' name
 
 -- what a fault leaves of a step that is to add these entries: if memory ran out, the files are as before; the store
 -- fails only if a log file is named
-abbrev pub Leaves : StepFault → Option (List ℕ) → List Entry → Option Files → Option Files → ℕ → ℕ → Type 0
-Leaves fault.Memory name added files files' before after = files' ≡ files
-Leaves fault.Store None added files files' before after = ⊥
-Leaves fault.Store (Some name) added files files' before after = StoreFailed name added files files' before after
+abbrev pub Leaves : StepFault → Option (List ℕ) → List Entry → Option Files → Option Files → Type 0
+Leaves fault.Memory name added files files' = files' ≡ files
+Leaves fault.Store None added files files' = ⊥
+Leaves fault.Store (Some name) added files files' = StoreFailed name added files files'
 
 -- a follower follows a log: it stands for the log, and for something that it took from it
 pub record FollowsLog (log : List Entry) (follower : FollowerState) : Type 0 where
@@ -50,11 +49,24 @@ handed_by session (Some (Deliver name epoch)) = follower_named session.followers
 handed_by session (Some (Snapshot name epoch)) = follower_named session.followers name
 handed_by session _ = None
 
--- a follower follows the log, no further back than one follower and no further on than another
+-- a follower stands for a log and for all that was taken from it, and maybe for more
+pub record StandsOn (log : List Entry) (taken : Taken) (follower : FollowerState) : Type 0 where
+  pub more : Taken
+  pub entries : (epoch : ℕ) → has_entry taken epoch ≡ true → has_entry more epoch ≡ true
+  pub images : (epoch : ℕ) → is_base taken epoch ≡ true → is_base more epoch ≡ true
+  pub stands : StandsFor log more follower
+
+-- what one follower took, another took, too: none of it is forgotten
+abbrev pub ForgetsNothing : List Entry → FollowerState → FollowerState → Type 0
+ForgetsNothing log before at = (taken : Taken) → StandsFor log taken before → StandsOn log taken at
+
+-- a follower follows the log, no further back than one follower and no further on than another; it forgets nothing that
+-- the first one took
 pub record IsBetween (log : List Entry) (before due at : FollowerState) : Type 0 where
   pub from : before.image.epoch ≤ at.image.epoch
   pub to : at.image.epoch ≤ due.image.epoch
   pub follows : FollowsLog log at
+  pub keeps : ForgetsNothing log before at
 
 -- a session in which one follower is elsewhere: between where it was and where it was to come
 pub record Stops (f : NamedFollower) (session : SessionState) (due : List NamedFollower) (session' : SessionState) : Type 0 where
@@ -80,8 +92,8 @@ pub record Steps {T : Type 0} (handed : Option NamedFollower) (reply : Reply) (n
   pub next : OnOk result (session' ≡ replied session reply)
   pub file : OnOk result (Gains name (entry_lines reply.added) files files')
   pub left : IfErr result (λ e. LeavesSession e handed session reply.followers session')
-  pub fault : IfErr result (λ e. Leaves e name reply.added files files' before after)
-  pub later : before ≤ after
+  pub fault : IfErr result (λ e. Leaves e name reply.added files files')
+  pub count : after ≡ count_by result before
 
 -- a step that adds no entry and uses no file, and so fails only if memory runs out (of the code: no promise rests on
 -- it)
@@ -101,8 +113,8 @@ pub record Notes {T : Type 0} (entry : Entry) (name : Option (List ℕ)) (log lo
   pub grown : OnOk result (log' ≡ log ++ entry ∷ [])
   pub file : OnOk result (Gains name (entry_lines (entry ∷ [])) files files')
   pub err : OnErr result (log' ≡ log)
-  pub fault : IfErr result (λ e. Leaves e name (entry ∷ []) files files' before after)
-  pub later : before ≤ after
+  pub fault : IfErr result (λ e. Leaves e name (entry ∷ []) files files')
+  pub count : after ≡ count_by result before
 
 -- what a follower was handed is of the log of its session: a fork, a refusal and a bad image don't come (of the code:
 -- no promise rests on it, nor on the next)

@@ -1,5 +1,5 @@
 -- Where a fault stops a run (of the code: no promise rests on these).
-use Rattle.std.specs.Prelude.{◌≡◌, ◌⊎◌, ℕ, List, [], Option, Some, None, IfSome}
+use Rattle.std.specs.Prelude.{◌≡◌, ◌⊎◌, ℕ, true, List, [], Option, Some, None, IfSome}
 use Rattle.std.specs.Io.KnownBytes.{Appends}
 use Rattle.tcm_edges.specs.Files.{ChangesFile, Files, OthersKept, file_of}
 use Rattle.tcm_session.specs.Left.{GainsThese, LeavesFiles, StopsIn}
@@ -27,6 +27,7 @@ pub record StopsThere (P : Type 0) (session : SessionState) (lines : List (List 
 
 -- a script that stops has added to the file what the lines added before the fault
 pub record LeavesScript (name : Option (List ℕ)) (files files' : Option Files) (o : Outcome) (printed : List ℕ) (status : ℕ) : Type 0 where
+  pub good : o.reads ≡ true
   pub added : List ℕ
   pub stops : StopsIn (session_over o.log) o.lines o.last printed added
   pub adds : Adds name added files files'

@@ -1,9 +1,10 @@
 //! Adds entries to the log, and their lines to its file.
 
-ghost use Rattle.std.specs.Prelude.{◌≡◌, ◌+◌, ◌≤◌, ◌∷◌, ◌++◌, [], length, None, Some, OnOk, IfErr, MatchResult};
+ghost use Rattle.std.specs.Prelude.{◌≡◌, ◌+◌, ◌∷◌, ◌++◌, [], length, None, Some, OnOk, IfErr, MatchResult};
 ghost use Rattle.std.specs.Option.{option_copied};
 ghost use Rattle.transformations.specs.Log.{entry_with_id};
 ghost use Rattle.wire_json.specs.Texts as wire;
+ghost use Rattle.tcm_session.specs.Faults.{count_by};
 ghost use Rattle.tcm_session.specs.LogFiles.{Gains};
 ghost use Rattle.tcm_session.specs.Steps.{Leaves, Notes};
 
@@ -41,9 +42,8 @@ fn keep_in_file<D: Store>(
     ensures log { MatchResult result (λ _. log.new ≡ log.old ++ entry ∷ []) (λ _. log.new ≡ log.old) }
     ensures file { OnOk result
         (Gains (Some name.now) (wire.entry_line entry) (D.files store.old) (D.files store.new)) }
-    ensures fault { IfErr result (λ e. Leaves e (Some name.now) (entry ∷ [])
-        (D.files store.old) (D.files store.new) (D.faults store.old) (D.faults store.new)) }
-    ensures later { D.faults store.old ≤ D.faults store.new }
+    ensures fault { IfErr result (λ e. Leaves e (Some name.now) (entry ∷ []) (D.files store.old) (D.files store.new)) }
+    ensures count { D.faults store.new ≡ count_by result (D.faults store.old) }
 {
     let line = entry_line(alloc, &entry)?;
     keep(log, entry)?;

@@ -1,12 +1,12 @@
 //! Runs the program: the words after its name, a script as input, and the printed answers.
 
-ghost use Rattle.std.specs.Prelude.{◌≡◌, ◌≢◌, ◌≤◌, ◌⊎◌, false, not, [], length, None, Some, Ok, map, string_bytes, OnErr, OnOk, IfErr, IfOk, IfSome, IsTrue};
+ghost use Rattle.std.specs.Prelude.{◌≡◌, ◌≢◌, ◌≤◌, ◌⊎◌, false, not, [], length, None, Some, Ok, map, string_bytes, IsOk, OnErr, OnOk, IfErr, IfOk, IfSome, IsTrue};
 ghost use Rattle.std.specs.List.{list_all};
 ghost use Rattle.std.specs.Option.{option_copied, option_map};
 ghost use Rattle.std.specs.Str.{bytes_eq};
 ghost use Rattle.tcm_session.specs.Counts.{counts};
 ghost use Rattle.tcm_session.specs.Endings as spec;
-ghost use Rattle.tcm_session.specs.Faults.{HasRunCause};
+ghost use Rattle.tcm_session.specs.Faults.{counts_by};
 ghost use Rattle.tcm_session.specs.Generated.{summary};
 ghost use Rattle.tcm_session.specs.Generated as generated;
 ghost use Rattle.tcm_session.specs.LogFiles.{Gains, entry_lines, log_of};
@@ -206,9 +206,8 @@ fn run_script<S: Source, K: Sink, D: Store>(
         (LeavesScript (option_copied log.entry) (D.files store.old) (D.files store.new))
         S.left input.old input.new (K.written out.old) (K.written out.new)
         (D.files store.old) (D.files store.new) (spec.status_by result) }
-    ensures cause { HasRunCause
-        (counts (S.faults input.old) (K.faults out.old) (D.faults store.old))
-        (counts (S.faults input.new) (K.faults out.new) (D.faults store.new)) result }
+    ensures cause { counts (S.faults input.new) (K.faults out.new) (D.faults store.new)
+        ≡ counts_by result (counts (S.faults input.old) (K.faults out.old) (D.faults store.old)) }
     ensures ended { IfOk result (λ status. IsEnd status.0) }
     ensures unnamed { LeavesStore (option_copied log.entry) store.old store.new result }
 {
@@ -231,9 +230,8 @@ fn commit<S: Source, K: Sink, D: Store>(
         (LeavesScript (option_copied log.entry) (D.files store.old) (D.files store.new))
         S.left input.old input.new (K.written out.old) (K.written out.new)
         (D.files store.old) (D.files store.new) (spec.status_by result) }
-    ensures cause { HasRunCause
-        (counts (S.faults input.old) (K.faults out.old) (D.faults store.old))
-        (counts (S.faults input.new) (K.faults out.new) (D.faults store.new)) result }
+    ensures cause { counts (S.faults input.new) (K.faults out.new) (D.faults store.new)
+        ≡ counts_by result (counts (S.faults input.old) (K.faults out.old) (D.faults store.old)) }
     ensures ended { IfOk result (λ status. IsEnd status.0) }
     ensures unnamed { LeavesStore (option_copied log.entry) store.old store.new result }
 {
@@ -263,7 +261,8 @@ fn cut_file<D: Store>(name: &str, file: &[u8], size: usize, store: &mut D) -> Re
     requires { IsLinesPart size file.now }
     ensures cut { OnOk result (IsCut name.now file.now (D.files store.old) (D.files store.new)) }
     ensures stopped { OnErr result (IsKeptOrCut name.now file.now (D.files store.old) (D.files store.new)) }
-    ensures cause { HasRunCause (counts 0 0 (D.faults store.old)) (counts 0 0 (D.faults store.new)) result }
+    ensures cause { counts 0 0 (D.faults store.new)
+        ≡ counts_by result (counts 0 0 (D.faults store.old)) }
 {
     if size < file.len() {
         match store.replace(name, &file[..size]) {
@@ -287,8 +286,10 @@ fn take_log<D: Store>(
     ensures taken { IfOk result (λ refused.
         TakesFile refused name.now file session.new.log (D.files store.old) (D.files store.new)) }
     ensures stopped { OnErr result (IsKeptOrCut name.now file (D.files store.old) (D.files store.new)) }
+    ensures good { OnErr result ((D.files store.new ≡ D.files store.old) ⊎ IsOk (log_of file)) }
     ensures over { OnOk result (session.new ≡ session_over session.new.log) }
-    ensures cause { HasRunCause (counts 0 0 (D.faults store.old)) (counts 0 0 (D.faults store.new)) result }
+    ensures cause { counts 0 0 (D.faults store.new)
+        ≡ counts_by result (counts 0 0 (D.faults store.old)) }
 {
     match load_lines(session, file.as_slice())? {
         Loading::Refused(refused) => Ok(Some(refused)),
@@ -315,9 +316,8 @@ fn resume<S: Source, K: Sink, D: Store>(
         (LeavesLoaded name.now file (D.files store.old) (D.files store.new))
         S.left input.old input.new (K.written out.old) (K.written out.new)
         (D.files store.old) (D.files store.new) (spec.status_by result) }
-    ensures cause { HasRunCause
-        (counts (S.faults input.old) (K.faults out.old) (D.faults store.old))
-        (counts (S.faults input.new) (K.faults out.new) (D.faults store.new)) result }
+    ensures cause { counts (S.faults input.new) (K.faults out.new) (D.faults store.new)
+        ≡ counts_by result (counts (S.faults input.old) (K.faults out.old) (D.faults store.old)) }
     ensures ended { IfOk result (λ status. IsEnd status.0) }
 {
     match take_log(session, name, file, store)? {
@@ -339,9 +339,8 @@ fn commit_from<S: Source, K: Sink, D: Store>(
         (LeavesLoaded name.now file (D.files store.old) (D.files store.new))
         S.left input.old input.new (K.written out.old) (K.written out.new)
         (D.files store.old) (D.files store.new) (spec.status_by result) }
-    ensures cause { HasRunCause
-        (counts (S.faults input.old) (K.faults out.old) (D.faults store.old))
-        (counts (S.faults input.new) (K.faults out.new) (D.faults store.new)) result }
+    ensures cause { counts (S.faults input.new) (K.faults out.new) (D.faults store.new)
+        ≡ counts_by result (counts (S.faults input.old) (K.faults out.old) (D.faults store.old)) }
     ensures ended { IfOk result (λ status. IsEnd status.0) }
 {
     let mut session = Session::empty(alloc)?;
@@ -362,9 +361,8 @@ fn commit_to<S: Source, K: Sink, D: Store>(
         (LeavesFiles (Some name.now) (D.files store.old) (D.files store.new))
         S.left input.old input.new (K.written out.old) (K.written out.new)
         (D.files store.old) (D.files store.new) (spec.status_by result) }
-    ensures cause { HasRunCause
-        (counts (S.faults input.old) (K.faults out.old) (D.faults store.old))
-        (counts (S.faults input.new) (K.faults out.new) (D.faults store.new)) result }
+    ensures cause { counts (S.faults input.new) (K.faults out.new) (D.faults store.new)
+        ≡ counts_by result (counts (S.faults input.old) (K.faults out.old) (D.faults store.old)) }
     ensures ended { IfOk result (λ status. IsEnd status.0) }
 {
     match store.load(name, FILE_LIMIT)? {
@@ -386,9 +384,8 @@ fn replay<K: Sink, D: Store>(
     ensures writes { WritesSeen (outcomes.replay_outcome (map string_bytes names.now)) (D.files store.old)
         (K.written out.old) (K.written out.new) result }
     ensures files { D.files store.new ≡ D.files store.old }
-    ensures cause { HasRunCause
-        (counts 0 (K.faults out.old) (D.faults store.old))
-        (counts 0 (K.faults out.new) (D.faults store.new)) result }
+    ensures cause { counts 0 (K.faults out.new) (D.faults store.new)
+        ≡ counts_by result (counts 0 (K.faults out.old) (D.faults store.old)) }
     ensures ended { IfOk result (λ status. IsEnd status.0) }
 {
     let ending = replay_files(alloc, names, store)?;
@@ -407,9 +404,8 @@ fn snapshot<K: Sink, D: Store>(
     ensures writes { WritesSeen (outcomes.snapshot_outcome (name.now, epoch)) (D.files store.old)
         (K.written out.old) (K.written out.new) result }
     ensures files { D.files store.new ≡ D.files store.old }
-    ensures cause { HasRunCause
-        (counts 0 (K.faults out.old) (D.faults store.old))
-        (counts 0 (K.faults out.new) (D.faults store.new)) result }
+    ensures cause { counts 0 (K.faults out.new) (D.faults store.new)
+        ≡ counts_by result (counts 0 (K.faults out.old) (D.faults store.old)) }
     ensures ended { IfOk result (λ status. IsEnd status.0) }
 {
     let ending = show_state(alloc, name, epoch, store)?;
@@ -459,9 +455,8 @@ fn answer_last<K: Sink, D: Store>(
         (state_line.snapshot_words (map string_bytes words.now)))
         (D.files store.old) (K.written out.old) (K.written out.new) result }
     ensures files { D.files store.new ≡ D.files store.old }
-    ensures cause { HasRunCause
-        (counts 0 (K.faults out.old) (D.faults store.old))
-        (counts 0 (K.faults out.new) (D.faults store.new)) result }
+    ensures cause { counts 0 (K.faults out.new) (D.faults store.new)
+        ≡ counts_by result (counts 0 (K.faults out.old) (D.faults store.old)) }
     ensures ended { IfOk result (λ status. IsEnd status.0) }
     ensures unnamed { state_line.snapshot_words (map string_bytes words.now) ≡ None
         → (store.new ≡ store.old) × IfErr result (λ e. e ≢ fault.Store) }
@@ -482,9 +477,8 @@ fn answer_others<K: Sink, D: Store>(
     ensures writes { WritesSeen (other_outcome (map string_bytes words.now)) (D.files store.old)
         (K.written out.old) (K.written out.new) result }
     ensures files { D.files store.new ≡ D.files store.old }
-    ensures cause { HasRunCause
-        (counts 0 (K.faults out.old) (D.faults store.old))
-        (counts 0 (K.faults out.new) (D.faults store.new)) result }
+    ensures cause { counts 0 (K.faults out.new) (D.faults store.new)
+        ≡ counts_by result (counts 0 (K.faults out.old) (D.faults store.old)) }
     ensures ended { IfOk result (λ status. IsEnd status.0) }
     ensures unnamed { is_replay (map string_bytes words.now) ≡ false
         → state_line.snapshot_words (map string_bytes words.now) ≡ None
@@ -508,9 +502,8 @@ fn answer_words<S: Source, K: Sink, D: Store>(
         (LeavesFiles (named_log (map string_bytes words.now)) (D.files store.old) (D.files store.new))
         S.left input.old input.new (K.written out.old) (K.written out.new)
         (D.files store.old) (D.files store.new) (spec.status_by result) }
-    ensures cause { HasRunCause
-        (counts (S.faults input.old) (K.faults out.old) (D.faults store.old))
-        (counts (S.faults input.new) (K.faults out.new) (D.faults store.new)) result }
+    ensures cause { counts (S.faults input.new) (K.faults out.new) (D.faults store.new)
+        ≡ counts_by result (counts (S.faults input.old) (K.faults out.old) (D.faults store.old)) }
     ensures ended { IfOk result (λ status. IsEnd status.0) }
     ensures unnamed { names_file (map string_bytes words.now) ≡ false
         → (store.new ≡ store.old) × IfErr result (λ e. e ≢ fault.Store) }
@@ -556,21 +549,23 @@ fn answer_words<S: Source, K: Sink, D: Store>(
 /// - 3: a line of the log file, or of a file that is replayed, is refused. Nothing was read from the input, no file was
 ///   changed, and `REFUSED`, the number of the file among the words, the number of the line and the first cause were
 ///   printed, and nothing else; after the cause `FORK` also the lines of the two entries.
-/// - 4: the source failed: its count of faults rose in this run. Exactly the answers to the lines that end among the
-///   bytes read were printed. Only `commit`, with or without a file, gives this status.
-/// - 5: the sink failed: its count of faults rose in this run.
-/// - 6: the store failed: its count of faults rose in this run. Only words that name a file give this status.
+/// - 4: the source failed. Exactly the answers to the lines that end among the bytes read were printed. Only `commit`,
+///   with or without a file, gives this status.
+/// - 5: the sink failed.
+/// - 6: the store failed. Only words that name a file give this status.
 /// - 7: a file that is to be replayed, or whose state is to be shown, is absent, and `NO FILE` and its name were
 ///   printed; or E is past the last epoch of the log, and `NO EPOCH` and the last epoch were printed.
 /// - 8: byte 536,870,913 of the input was read, and the lines that end before it were answered; or a file has more than
 ///   536,870,912 bytes, and no input was read. Then `TOO-LARGE 536870912` was printed.
 ///
-/// A run ends at its first fault. If the text for status 0, 2, 3, 7 or 8 can't be written, the status is 5, or 1 if the
-/// sink runs out of memory. With status 1, 4, 5 or 6, the printed bytes are a prefix of the output of a run without the
-/// fault, and some lines of a script are done. The file `LOG` has then its whole lines and the lines of the entries
-/// that these added, and maybe a part of one entry more; or it is as before, and no line is done. An entry whose answer
-/// is printed, or begun, stands whole in it. No other file that the store tells changed; `FileStore` tells none, and
-/// may overwrite `LOG.new`. `scripts_are_sent_again` says what the same lines make of such a file.
+/// A run ends at its first fault: at status 4, 5 or 6 the source, the sink or the store counts one fault more than
+/// before, and no other count of faults changes at any status. If the text for status 0, 2, 3, 7 or 8 can't be written,
+/// the status is 5, or 1 if the sink runs out of memory. With status 1, 4, 5 or 6, the printed bytes are a prefix of
+/// the output of a run without the fault, and some lines of a script are done. The file `LOG` has then its whole lines
+/// and the lines of the entries that these added, and maybe a part of one entry more; or it is as before, and no line
+/// is done. It changes only once it was found good. An entry whose answer is printed, or begun, stands whole in it. No
+/// other file that the store tells changed; `FileStore` tells none, and may overwrite `LOG.new`.
+/// `scripts_are_sent_again` says what the same lines make of such a file.
 ///
 /// Cost: a run keeps in memory the log, the image of each 256th epoch, the metadata at the last epoch and that of each
 /// follower, the file while it is loaded, and of the current line at most 16,385 bytes, with its answer. A query of an
@@ -593,7 +588,7 @@ pub fn run<S: Source, K: Sink, D: Store>(
     ensures outcome { IsRun (map string_bytes words.now) S.left input.old input.new
         (K.written out.old) (K.written out.new) (D.files store.old) (D.files store.new) result.0 }
 
-    // The faults that the status shows.
+    // The run ends at its first fault, and its status says where this came from.
     ensures status { HasStatus
         (counts (S.faults input.old) (K.faults out.old) (D.faults store.old))
         (counts (S.faults input.new) (K.faults out.new) (D.faults store.new)) result.0 }

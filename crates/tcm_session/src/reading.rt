@@ -4,7 +4,7 @@ ghost use Rattle.std.specs.Prelude.{◌≡◌, ◌<◌, length, vec_len, IfOk, I
 ghost use Rattle.std.specs.Io.KnownBytes.{Keeps};
 ghost use Rattle.std.specs.Option.{option_copied};
 ghost use Rattle.tcm_session.specs.Counts.{counts};
-ghost use Rattle.tcm_session.specs.Faults.{HasRunCause};
+ghost use Rattle.tcm_session.specs.Faults.{counts_by};
 ghost use Rattle.tcm_session.specs.Outcome.{input_limit};
 ghost use Rattle.tcm_session.specs.Runs.{IsBegun, LeavesStore, ReadsOnce, ReadsPast, ReadsTo, StopsAt, standing};
 ghost use Rattle.tcm_session.specs.declared.fault.RunFault.TheVariants as fault;
@@ -51,9 +51,8 @@ fn read_piece<S: Source, K: Sink, D: Store>(
         (S.left input.old) (S.left input.new)
         (standing session.old begun.old.items (K.written out.old) (D.files store.old))
         (K.written out.new) (D.files store.new)) }
-    ensures cause { HasRunCause
-        (counts (S.faults input.old) (K.faults out.old) (D.faults store.old))
-        (counts (S.faults input.new) (K.faults out.new) (D.faults store.new)) result }
+    ensures cause { counts (S.faults input.new) (K.faults out.new) (D.faults store.new)
+        ≡ counts_by result (counts (S.faults input.old) (K.faults out.old) (D.faults store.old)) }
     ensures unnamed { LeavesStore (option_copied log.entry) store.old store.new result }
 {
     let count = input.read(buffer)?;
@@ -74,7 +73,8 @@ fn zeros(alloc: Global, len: usize) -> Result<Vec<u8>, RunFault>
 fn read_past<S: Source>(input: &mut S) -> Result<ReadEnd, RunFault>
     ensures ok { IfOk result (λ ending. ReadsPast ending (S.left input.old) (S.left input.new)) }
     ensures err { OnErr result (Keeps (S.left input.old) (S.left input.new)) }
-    ensures cause { HasRunCause (counts (S.faults input.old) 0 0) (counts (S.faults input.new) 0 0) result }
+    ensures cause { counts (S.faults input.new) 0 0
+        ≡ counts_by result (counts (S.faults input.old) 0 0) }
 {
     let mut byte = [0u8; 1];
     match input.read(&mut byte)? {
@@ -104,9 +104,8 @@ pub fn read_script<S: Source, K: Sink, D: Store>(
         (S.left input.old) (S.left input.new)
         (standing session.old begun.old.items (K.written out.old) (D.files store.old))
         (K.written out.new) (D.files store.new)) }
-    ensures cause { HasRunCause
-        (counts (S.faults input.old) (K.faults out.old) (D.faults store.old))
-        (counts (S.faults input.new) (K.faults out.new) (D.faults store.new)) result }
+    ensures cause { counts (S.faults input.new) (K.faults out.new) (D.faults store.new)
+        ≡ counts_by result (counts (S.faults input.old) (K.faults out.old) (D.faults store.old)) }
     ensures unnamed { LeavesStore (option_copied log.entry) store.old store.new result }
 {
     let mut buffer = zeros(alloc, PIECE)?;

@@ -4,7 +4,7 @@ ghost use Rattle.std.specs.Prelude.{◌≡◌, ◌+◌, ◌≤◌, length, map, 
 ghost use Rattle.transformations.specs.History.{is_command, most_epochs};
 ghost use Rattle.wire_json.specs.Reading as reading;
 ghost use Rattle.tcm_session.specs.Counts.{counts};
-ghost use Rattle.tcm_session.specs.Faults.{HasRunCause};
+ghost use Rattle.tcm_session.specs.Faults.{counts_by};
 ghost use Rattle.tcm_session.specs.Lines.{whole_lines};
 ghost use Rattle.tcm_session.specs.Replay as spec;
 ghost use Rattle.tcm_session.specs.Replays.{FoundMemory, GrowsBy, HandsFile, HandsFiles, HasRoom, IsFew, LeadsTo};
@@ -218,7 +218,8 @@ fn hand_file<D: Store>(
         HandsFile ended file name.now (D.files store.old) replay.old replay.new) }
     ensures grows { GrowsBy 536870912 replay.old replay.new }
     ensures files { D.files store.new ≡ D.files store.old }
-    ensures cause { HasRunCause (counts 0 0 (D.faults store.old)) (counts 0 0 (D.faults store.new)) result }
+    ensures cause { counts 0 0 (D.faults store.new)
+        ≡ counts_by result (counts 0 0 (D.faults store.old)) }
 {
     let loaded = store.load(name, FILE_LIMIT)?;
     Ok(hand_loaded(alloc, replay, file, name, loaded)?)
@@ -237,7 +238,8 @@ pub fn hand_files<D: Store>(
     ensures hands { IfOk result (λ ended.
         HandsFiles ended (map string_bytes names.now) (D.files store.old) replay.new) }
     ensures files { D.files store.new ≡ D.files store.old }
-    ensures cause { HasRunCause (counts 0 0 (D.faults store.old)) (counts 0 0 (D.faults store.new)) result }
+    ensures cause { counts 0 0 (D.faults store.new)
+        ≡ counts_by result (counts 0 0 (D.faults store.old)) }
 {
     let mut file = 1;
     let mut rest = names;

@@ -3,7 +3,7 @@
 ghost use Rattle.std.specs.Prelude.{◌≡◌, ◌≤◌, ◌∷◌, ◌++◌, [], codes, decimal, flat_map, length, map, string_bytes, take, IfOk, OnOk};
 ghost use Rattle.script_lang.specs.Texts as texts;
 ghost use Rattle.tcm_session.specs.Counts.{counts};
-ghost use Rattle.tcm_session.specs.Faults.{HasRunCause};
+ghost use Rattle.tcm_session.specs.Faults.{counts_by};
 ghost use Rattle.tcm_session.specs.Replay as spec;
 ghost use Rattle.tcm_session.specs.Replays.{EndsSo};
 
@@ -89,7 +89,8 @@ fn end_of<D: Store>(
     ensures ends { IfOk result (λ ending.
         EndsSo (spec.replay_ending (map string_bytes names.now)) ending (D.files store.old)) }
     ensures files { D.files store.new ≡ D.files store.old }
-    ensures cause { HasRunCause (counts 0 0 (D.faults store.old)) (counts 0 0 (D.faults store.new)) result }
+    ensures cause { counts 0 0 (D.faults store.new)
+        ≡ counts_by result (counts 0 0 (D.faults store.old)) }
 {
     match hand_files(alloc, replay, names, store)? {
         Some(ending) => Ok(ending),
@@ -109,7 +110,8 @@ pub fn replay_files<D: Store>(
     ensures ends { IfOk result (λ ending.
         EndsSo (spec.replay_ending (map string_bytes names.now)) ending (D.files store.old)) }
     ensures files { D.files store.new ≡ D.files store.old }
-    ensures cause { HasRunCause (counts 0 0 (D.faults store.old)) (counts 0 0 (D.faults store.new)) result }
+    ensures cause { counts 0 0 (D.faults store.new)
+        ≡ counts_by result (counts 0 0 (D.faults store.old)) }
 {
     let mut replay = Replay::empty(alloc)?;
     let ended = end_of(alloc, &mut replay, names, store);

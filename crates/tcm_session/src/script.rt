@@ -3,7 +3,7 @@
 ghost use Rattle.std.specs.Prelude.{◌≡◌, ◌++◌, [], OnErr, OnOk};
 ghost use Rattle.std.specs.Option.{option_copied};
 ghost use Rattle.tcm_session.specs.Counts.{counts};
-ghost use Rattle.tcm_session.specs.Faults.{HasRunCause};
+ghost use Rattle.tcm_session.specs.Faults.{counts_by};
 ghost use Rattle.tcm_session.specs.Left.{StopsIn, StopsNext};
 ghost use Rattle.tcm_session.specs.Lines.{whole_lines};
 ghost use Rattle.tcm_session.specs.LogFiles.{Gains, entry_lines};
@@ -66,8 +66,8 @@ pub fn feed<K: Sink, D: Store>(
         (StopsIn session.old (whole_lines (begun.old.items ++ piece.now)) [])
         (option_copied log.entry) (K.written out.old) (K.written out.new)
         (D.files store.old) (D.files store.new)) }
-    ensures cause { HasRunCause (counts 0 (K.faults out.old) (D.faults store.old))
-        (counts 0 (K.faults out.new) (D.faults store.new)) result }
+    ensures cause { counts 0 (K.faults out.new) (D.faults store.new)
+        ≡ counts_by result (counts 0 (K.faults out.old) (D.faults store.old)) }
     ensures unnamed { LeavesStore (option_copied log.entry) store.old store.new result }
 {
     let mut rest = piece;

@@ -8,6 +8,7 @@ ghost use Rattle.transformations.specs.History.{commit_refusal, empty_image, ima
 ghost use Rattle.transformations.specs.Log.{commands_of, entry_with_id, repeated};
 ghost use Rattle.cluster_metadata.specs.Permission.{AdmitsUnless};
 ghost use Rattle.tcm_session.specs.Generated.{epoch_of};
+ghost use Rattle.tcm_session.specs.Faults.{count_by};
 ghost use Rattle.tcm_session.specs.LogFiles.{Gains, entry_lines};
 ghost use Rattle.tcm_session.specs.Machine.{accepted_reply, commit_reply, commit_text, follower_named, reply, reply_to, session_next, session_over};
 ghost use Rattle.tcm_session.specs.Steps.{IsNextEntry, Leaves, LeavesSession, OnlyAnswers, Steps, handed_by};
@@ -181,8 +182,8 @@ impl Session {
         ensures left { IfErr result (λ e. LeavesSession e (handed_by self.old (line_of line.now))
             self.old (reply self.old line.now).followers self.new) }
         ensures fault { IfErr result (λ e. Leaves e (option_copied log.entry) (reply self.old line.now).added
-            (D.files store.old) (D.files store.new) (D.faults store.old) (D.faults store.new)) }
-        ensures later { D.faults store.old ≤ D.faults store.new }
+            (D.files store.old) (D.files store.new)) }
+        ensures count { D.faults store.new ≡ count_by result (D.faults store.old) }
         ensures unnamed { option_copied log.entry ≡ None → store.new ≡ store.old }
     {
         let said = parse_line(self.alloc, line)?;

@@ -2,7 +2,7 @@
 
 ghost use Rattle.std.specs.Prelude.{◌≡◌, [], map, option_map, string_bytes, IfOk};
 ghost use Rattle.tcm_session.specs.Counts.{counts};
-ghost use Rattle.tcm_session.specs.Faults.{HasRunCause};
+ghost use Rattle.tcm_session.specs.Faults.{counts_by};
 ghost use Rattle.tcm_session.specs.LogFiles.{log_of};
 ghost use Rattle.tcm_session.specs.Machine.{session_over};
 ghost use Rattle.tcm_session.specs.Replays.{EndsSo};
@@ -99,7 +99,8 @@ pub fn show_state<D: Store>(
     ensures ends { IfOk result (λ ending.
         EndsSo (spec.snapshot_ending name.now epoch) ending (D.files store.old)) }
     ensures files { D.files store.new ≡ D.files store.old }
-    ensures cause { HasRunCause (counts 0 0 (D.faults store.old)) (counts 0 0 (D.faults store.new)) result }
+    ensures cause { counts 0 0 (D.faults store.new)
+        ≡ counts_by result (counts 0 0 (D.faults store.old)) }
 {
     let loaded = store.load(name, FILE_LIMIT)?;
     Ok(once_loaded(alloc, name, epoch, loaded)?)

@@ -1,4 +1,4 @@
-use Rattle.std.proofs.Common.{◌∙◌, ap, arith, length, le_trans}
+use Rattle.std.proofs.Common.{◌∙◌, ap, arith, length}
 use Rattle.tcm_edges.proofs.WriteLoop.{Owes-taken}
 use Rattle.tcm_edges.proofs.sink.write_all.Goals as goal
 
@@ -7,7 +7,7 @@ loop-rest-preserved g c =
     let was = c.loop-rest.invariant in
     record {
       owes = Owes-taken _ _ _ _ _ _ was.owes c.in_ok-taken.ensures.bytes;
-      later = le_trans was.later c.write.ensures.cause.later;
+      count = c.in_ok-taken.ensures.cause ∙ was.count;
       told = c.write.ensures.told ∙ was.told;
       none = λ e. let empty = ap length (was.none e).1 in absurd (omega (arith, empty, c.in_ok-taken.ensures.bound.0, c.in_ok-taken.ensures.bound.1));
     }

@@ -9,7 +9,7 @@ pub returns-in_err-load-clause-runs : goal.returns-in_err-load-clause-runs
 returns-in_err-load-clause-runs g c =
     runs_err_on _ _ _ _ _ _ _ _ _ c.from_residual.result _ c.from_residual.ensures.1
     (runs_unloaded _ _ c.args.input.now _ _ _ _ _ _ _
-    (λ all held. runs_early _ _ c.args.input.now _ _ _ _ (load_not_source c.in_err-load.field-0.0) (λ o ended. files_same (Some c.args.name.now) _ _ o _ ended c.in_err-load.ensures.kept (λ _. refl))))
+    (λ all held. runs_early _ _ c.args.input.now _ _ _ _ (load_not_source c.in_err-load.field-0.0) (λ given ended. files_same (Some c.args.name.now) _ _ _ _ ended c.in_err-load.ensures.kept (λ _. refl))))
 
 pub returns-in-Absent-clause-runs : goal.returns-in-Absent-clause-runs
 returns-in-Absent-clause-runs g c =

@@ -2,7 +2,7 @@ use Rattle.std.proofs.Common.{sym, refl, subst, true≢false}
 use Rattle.tcm_session.specs.LogFiles.{cut_to_lines}
 use Rattle.tcm_session.specs.Runs.{MayHold}
 use Rattle.tcm_session.proofs.CutLemmas.{held_cut, taken_log, taken_refused}
-use Rattle.tcm_session.proofs.LeftLemmas.{loaded_cut, loaded_same, loaded_script}
+use Rattle.tcm_session.proofs.LeftLemmas.{good_reads, loaded_cut, loaded_same, loaded_script}
 use Rattle.tcm_session.proofs.RunCauses.{not_source}
 use Rattle.tcm_session.proofs.RunLemmas.{final_end, runs_early, runs_err, runs_left, runs_refused, runs_resumed, runs_unread}
 use Rattle.tcm_session.proofs.program.resume.Goals as goal
@@ -10,7 +10,8 @@ use Rattle.tcm_session.proofs.program.resume.Goals as goal
 pub returns-in_err-refused-clause-runs : goal.returns-in_err-refused-clause-runs
 returns-in_err-refused-clause-runs g c = λ all held.
     runs_err _ _ _ _ _ _ _ _ c.from_residual.result _ c.from_residual.ensures.1
-    (runs_early _ _ c.args.input.now _ _ _ _ (not_source _ _ _ refl refl c.in_err-refused.ensures.cause.shown) (λ o ended. loaded_cut _ _ _ _ o ended c.in_err-refused.ensures.stopped))
+    (runs_early _ _ c.args.input.now _ _ _ _ (not_source _ _ _ refl refl c.in_err-refused.ensures.cause)
+    (λ given ended. loaded_cut _ _ _ _ _ ended (good_reads _ c.args.name.now all c.args.file given c.in_err-refused.ensures.good) c.in_err-refused.ensures.stopped))
 
 pub returns-in-Some-clause-runs : goal.returns-in-Some-clause-runs
 returns-in-Some-clause-runs g c = λ all held.

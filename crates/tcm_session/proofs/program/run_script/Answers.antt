@@ -12,7 +12,7 @@ returns-in_err-finish-clause-runs g c = λ all held.
     let reads = rw (c.new-begun.ensures.items, c.requires) at c.in_ok-ending.ensures.ok in
     let stopped = rw c.as_slice.ensures.value at c.in_err-finish.ensures.stopped in
     runs_err _ _ _ _ _ _ _ _ c.from_residual-in_err-finish.result _ c.from_residual-in_err-finish.ensures.1
-    (runs_part (record { log = _; file = _; files = all }) _ _ _ _ _ _ _ _ c.in_ok-ending.ending reads _ _ refl refl _ c.in_err-finish.ensures.writes.cause.shown stopped)
+    (runs_part (record { log = _; file = _; files = all }) _ _ _ _ _ _ _ _ c.in_ok-ending.ending reads _ _ refl refl _ c.in_err-finish.ensures.writes.cause stopped)
 
 pub returns-clause-runs : goal.returns-clause-runs
 returns-clause-runs g c = λ all held.

@@ -9,4 +9,4 @@ returns-in_err-count-clause-err g c =
 pub returns-in_err-feed-clause-err : goal.returns-in_err-feed-clause-err
 returns-in_err-feed-clause-err g c =
     at_fault _ c.from_residual-in_err-feed.result _ c.from_residual-in_err-feed.ensures.1
-    (StopsAt-piece _ _ _ _ _ _ _ _ _ _ _ refl refl c.in_ok-count.ensures.bytes.0 (omega (arith, length-take c.in_ok-count.count c.read.new.buf, c.in_ok-count.ensures.bound)) c.in_err-feed.ensures.stopped c.in_err-feed.ensures.cause.shown)
+    (StopsAt-piece _ _ _ _ _ _ _ _ _ _ _ refl refl c.in_ok-count.ensures.bytes.0 (omega (arith, length-take c.in_ok-count.count c.read.new.buf, c.in_ok-count.ensures.bound)) c.in_err-feed.ensures.stopped c.in_err-feed.ensures.cause)

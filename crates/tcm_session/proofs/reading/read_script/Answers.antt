@@ -1,7 +1,7 @@
 use Rattle.std.proofs.Common.{◌+◌, ◌≤◌, length-take, refl, arith, ◌∙◌}
 use Rattle.std.proofs.KnownBytes.{Keeps-refl}
 use Rattle.tcm_session.specs.Outcome.{input_limit}
-use Rattle.tcm_session.proofs.RunCauses.{HasRunCause-passed, NoneFell-refl, NoneFell-trans}
+use Rattle.tcm_session.proofs.RunCauses.{counts_passed}
 use Rattle.tcm_session.proofs.ReadLemmas.{ReadsSoFar-begun, ReadsSoFar-more, ReadsSoFar-none, ReadsSoFar-none_more, ReadsSoFar-stop, ReadsTo-end, StopsAt-none, at_fault}
 use Rattle.tcm_session.proofs.reading.read_script.Goals as goal
 
@@ -11,7 +11,7 @@ loop-taken-init g c =
       reads = ReadsSoFar-none _ _ _ c.requires.begun;
       limit = omega arith;
       buffer = c.in_ok-buffer.ensures.len;
-      later = NoneFell-refl _;
+      counted = refl;
       unnamed = λ _. refl;
     }
 
@@ -30,8 +30,8 @@ returns-in_err-count-clause-err g c =
 
 pub returns-in_err-count-clause-cause : goal.returns-in_err-count-clause-cause
 returns-in_err-count-clause-cause g c =
-    HasRunCause-passed c.in_err-count.field-0.0 c.from_residual-in_err-count.result _ _ _ c.loop-taken.invariant.later c.in_err-count.ensures.cause.later
-    c.in_err-count.ensures.cause.shown c.from_residual-in_err-count.ensures.1
+    counts_passed c.in_err-count.field-0.0 c.from_residual-in_err-count.result _ _ _ c.loop-taken.invariant.counted c.in_err-count.ensures.cause
+    c.from_residual-in_err-count.ensures.1
 
 pub returns-then-count-eq0-clause-ok : goal.returns-then-count-eq0-clause-ok
 returns-then-count-eq0-clause-ok g c =
@@ -45,7 +45,7 @@ loop-taken-preserved g c =
       reads = ReadsSoFar-more _ _ _ _ _ _ c.loop-taken.invariant.reads _ _ _ _ c.in_ok-count.ensures.ok;
       limit = limit;
       buffer = c.loop-taken.invariant.buffer;
-      later = NoneFell-trans _ _ _ c.loop-taken.invariant.later c.in_ok-count.ensures.cause.later;
+      counted = c.in_ok-count.ensures.cause ∙ c.loop-taken.invariant.counted;
       unnamed = λ none. (c.in_ok-count.ensures.unnamed none).0 ∙ c.loop-taken.invariant.unnamed none;
     }
 

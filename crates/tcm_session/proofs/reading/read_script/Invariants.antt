@@ -1,6 +1,6 @@
 use Rattle.std.proofs.Common.{◌-◌, ◌≡◌, ◌≤◌, None, vec_len}
 use Rattle.std.specs.Option.{option_copied}
-use Rattle.tcm_session.specs.Counts.{NoneFell, counts}
+use Rattle.tcm_session.specs.Counts.{counts}
 use Rattle.tcm_session.specs.Runs.{standing}
 use Rattle.tcm_session.proofs.ReadLemmas.{ReadsSoFar}
 use Rattle.tcm_session.proofs.reading.read_script.Given as goal
@@ -16,8 +16,8 @@ invariant-loop-taken g l =
           (standing l.session l.begun.items (written l.out) (files l.store));
       limit : l.taken ≤ 536870912;
       buffer : vec_len l.buffer ≡ 65536;
-      later : NoneFell (counts (g.S.Source.faults l.initial.input) (g.K.Sink.faults l.initial.out) (g.D.Store.faults l.initial.store))
-          (counts (g.S.Source.faults l.input) (g.K.Sink.faults l.out) (g.D.Store.faults l.store));
+      counted : counts (g.S.Source.faults l.input) (g.K.Sink.faults l.out) (g.D.Store.faults l.store)
+          ≡ counts (g.S.Source.faults l.initial.input) (g.K.Sink.faults l.initial.out) (g.D.Store.faults l.initial.store);
       unnamed : option_copied l.log ≡ None → l.store ≡ l.initial.store;
     }
 

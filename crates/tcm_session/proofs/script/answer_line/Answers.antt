@@ -4,7 +4,7 @@ use Rattle.tcm_session.proofs.StopLemmas.{on_fault, stopped_step, stopped_write}
 use Rattle.tcm_session.proofs.script.answer_line.Goals as goal
 
 pub returns-in_err-step-clause-stopped : goal.returns-in_err-step-clause-stopped
-returns-in_err-step-clause-stopped g c = on_fault _ c.from_residual.result (stopped_step _ _ _ _ _ _ _ _ _ c.in_err-step.ensures.fault)
+returns-in_err-step-clause-stopped g c = on_fault _ c.from_residual.result (stopped_step _ _ _ _ _ _ _ c.in_err-step.ensures.fault)
 
 pub returns-in_err-write_all-clause-stopped : goal.returns-in_err-write_all-clause-stopped
 returns-in_err-write_all-clause-stopped g c =

@@ -1,11 +1,11 @@
-use Rattle.std.proofs.Common.{◌≡◌, ◌++◌, ◌∙◌, refl, arith}
+use Rattle.std.proofs.Common.{◌≡◌, ◌++◌, ◌∙◌, refl}
 use Rattle.tcm_session.specs.Runs.{kept_of}
 use Rattle.tcm_session.proofs.PieceLoop.{Feeds-begin, Feeds-end, Feeds-line, Feeds-part, Feeds-stop}
 use Rattle.tcm_session.proofs.StopLemmas.{on_fault}
 use Rattle.tcm_session.proofs.script.feed.Goals as goal
 
 pub loop-line-init : goal.loop-line-init
-loop-line-init g c = record { feeds = Feeds-begin _ _ _ c.requires.begun; sink_later = omega arith; store_later = omega arith; unnamed = λ _. refl }
+loop-line-init g c = record { feeds = Feeds-begin _ _ _ c.requires.begun; counted = refl; unnamed = λ _. refl }
 
 pub returns-in_err-keep_begun-clause-stopped : goal.returns-in_err-keep_begun-clause-stopped
 returns-in_err-keep_begun-clause-stopped g c = on_fault _ c.from_residual.result (Feeds-stop _ _ _ _ _ c.loop-line.invariant.feeds)
@@ -25,8 +25,7 @@ loop-line-preserved g c =
     let gained = rw kept at c.in_ok-answer_line.ensures.file in
     record {
       feeds = Feeds-line _ _ _ _ _ _ c.in-Some.more.now c.loop-line.invariant.feeds c.in-Some.ensures.some.1 c.in-Some.ensures.some.0 _ c.clear.ensures.items wrote next gained;
-      sink_later = omega (arith, c.loop-line.invariant.sink_later, c.answer_line.ensures.writes.cause.later.sink);
-      store_later = omega (arith, c.loop-line.invariant.store_later, c.answer_line.ensures.writes.cause.later.store);
+      counted = c.in_ok-answer_line.ensures.writes.cause ∙ c.loop-line.invariant.counted;
       unnamed = λ none. (c.answer_line.ensures.unnamed none).0 ∙ c.loop-line.invariant.unnamed none;
     }
 

@@ -1,5 +1,6 @@
-use Rattle.std.proofs.Common.{◌≡◌, ◌≤◌, length, None}
+use Rattle.std.proofs.Common.{◌≡◌, length, None}
 use Rattle.std.specs.Option.{option_copied}
+use Rattle.tcm_session.specs.Counts.{counts}
 use Rattle.tcm_session.specs.Runs.{standing}
 use Rattle.tcm_session.proofs.PieceLoop.{Feeds}
 use Rattle.tcm_session.proofs.script.feed.Given as goal
@@ -11,8 +12,7 @@ invariant-loop-line g l =
     record {
       feeds : Feeds (option_copied l.log) (standing l.initial.session l.initial.begun.items (written l.initial.out) (files l.initial.store)) l.piece
           (standing l.session l.begun.items (written l.out) (files l.store)) l.rest;
-      sink_later : g.K.Sink.faults l.initial.out ≤ g.K.Sink.faults l.out;
-      store_later : g.D.Store.faults l.initial.store ≤ g.D.Store.faults l.store;
+      counted : counts 0 (g.K.Sink.faults l.out) (g.D.Store.faults l.store) ≡ counts 0 (g.K.Sink.faults l.initial.out) (g.D.Store.faults l.initial.store);
       unnamed : option_copied l.log ≡ None → l.store ≡ l.initial.store;
     }
 

@@ -6,7 +6,7 @@ use Rattle.follower_log.proofs.CutLemmas.{entry_from}
 use Rattle.tcm_session.specs.Machine.{SessionState, deliver_to, follower_named, no_epoch, on_follower}
 use Rattle.tcm_session.specs.Steps.{Alone, OnlyAnswers}
 use Rattle.tcm_session.proofs.FollowerLemmas.{named, unplaced}
-use Rattle.tcm_session.proofs.HandedLemmas.{alone_missing, alone_moved, alone_turned, entry_of, follows_shown, has_follower, moved_follow, no_epoch_of, one_log_shown}
+use Rattle.tcm_session.proofs.HandedLemmas.{alone_missing, alone_moved, alone_turned, entry_kept, entry_of, follows_shown, has_follower, moved_follow, no_epoch_of, one_log_shown}
 use Rattle.tcm_session.proofs.session.Session.deliver.Goals as goal
 
 pub returns-in_default : goal.returns-in_default
@@ -67,9 +67,10 @@ returns c =
     let has = has_follower s name c.in-Some.place f _ c.self.invariant.2 at c.index_mut-named.ensures.value in
     let entry = entry_of s.log c.args.epoch c.in-Some-entry.entry.now c.self.invariant.1 (sym c.in-Some-entry.ensures.entry) in
     let follows = follows_shown s.log has.follows.taken _ c.deliver.result c.deliver.new.self (c.deliver.ensures.shows s.log has.follows.taken c.self.invariant.1 entry.among has.follows.stands) in
+    let keeps = entry_kept s.log c.in-Some-entry.entry.now.epoch c.deliver.result f.follower c.deliver.new.self (λ taken stands. c.deliver.ensures.shows s.log taken c.self.invariant.1 entry.among stands) in
     let after : SessionState = record s { followers = set s.followers c.in-Some.place (record f { follower = c.deliver.new.self }) } in
     record {
       steps = subst (λ (s : SessionState). Alone (follower_named s.followers name) (on_follower s name (λ f. deliver_to s name f (entry_at s.log c.args.epoch))) s after c.args.out.now c.answer_handed.new.out c.answer_handed.result) c.self.view_is
           (alone_moved s name c.in-Some.place f c.deliver.new.self _ c.deliver.result _ _ c.answer_handed.result (λ f. deliver_to s name f (entry_at s.log c.args.epoch)) has
-          (ap (deliver_to s name f.follower) (sym c.in-Some-entry.ensures.entry)) (entry_from f.follower c.in-Some-entry.entry.now) follows c.deliver.ensures.step c.answer_handed.ensures);
+          (ap (deliver_to s name f.follower) (sym c.in-Some-entry.ensures.entry)) (entry_from f.follower c.in-Some-entry.entry.now) follows keeps c.deliver.ensures.step c.answer_handed.ensures);
     }

@@ -6,7 +6,7 @@ use Rattle.follower_log.proofs.CutLemmas.{image_from}
 use Rattle.tcm_session.specs.Machine.{SessionState, follower_named, image_at, no_epoch, on_follower, snapshot_to}
 use Rattle.tcm_session.specs.Steps.{Alone, OnlyAnswers}
 use Rattle.tcm_session.proofs.FollowerLemmas.{named, unplaced}
-use Rattle.tcm_session.proofs.HandedLemmas.{alone_missing, alone_moved, alone_turned, alone_unhanded, follows_shown, has_follower, image_come, image_of_log, image_past, moved_follow, no_epoch_of, one_log_shown}
+use Rattle.tcm_session.proofs.HandedLemmas.{alone_missing, alone_moved, alone_turned, alone_unhanded, follows_shown, has_follower, image_come, image_kept, image_of_log, image_past, moved_follow, no_epoch_of, one_log_shown}
 use Rattle.tcm_session.proofs.session.Session.snapshot.Goals as goal
 
 pub returns-in_default : goal.returns-in_default
@@ -79,9 +79,11 @@ returns c =
     let is = c.in_ok-image.ensures ∙ ap (λ (t : SessionState). state_after (commands_of t.log) c.args.epoch) (sym c.self.view_is) in
     let follows = follows_shown s.log has.follows.taken _ c.snapshot.result c.snapshot.new.self
     (c.snapshot.ensures.shows s.log has.follows.taken c.self.invariant.1 (image_of_log s.log c.args.epoch c.in_ok-image.image within is) has.follows.stands) in
+    let keeps = image_kept s.log c.in_ok-image.image.epoch c.snapshot.result f.follower c.snapshot.new.self
+    (λ taken stands. c.snapshot.ensures.shows s.log taken c.self.invariant.1 (image_of_log s.log c.args.epoch c.in_ok-image.image within is) stands) in
     let after : SessionState = record s { followers = set s.followers c.in-Some.place (record f { follower = c.snapshot.new.self }) } in
     record {
       steps = subst (λ (s : SessionState). Alone (follower_named s.followers name) (on_follower s name (λ f. snapshot_to s name f (image_at (commands_of s.log) c.args.epoch))) s after c.args.out.now c.answer_handed.new.out c.answer_handed.result) c.self.view_is
           (alone_moved s name c.in-Some.place f c.snapshot.new.self _ c.snapshot.result _ _ c.answer_handed.result (λ f. snapshot_to s name f (image_at (commands_of s.log) c.args.epoch)) has
-          (ap (snapshot_to s name f.follower) (image_come s.log c.args.epoch c.in_ok-image.image within is)) (image_from f.follower c.in_ok-image.image) follows c.snapshot.ensures.step c.answer_handed.ensures);
+          (ap (snapshot_to s name f.follower) (image_come s.log c.args.epoch c.in_ok-image.image within is)) (image_from f.follower c.in_ok-image.image) follows keeps c.snapshot.ensures.step c.answer_handed.ensures);
     }

@@ -1,6 +1,5 @@
 //! Sources, sinks and stores: those in memory, and those over readers, writers and files.
 
-use crate::files::running::calls_of;
 use cluster_terms::ByteText;
 use std::alloc::Global;
 use std::fs;
@@ -9,10 +8,17 @@ use std::process::Abort;
 use std::rt::Files;
 use std::test::Fail;
 use tcm_edges::{
-    Failed, FileStore, InputSource, LoadFault, Loaded, MemSink, MemSource, MemStore, OutputSink,
-    Sink, Source, Store, StoreFail, StoreFailList, SureSink, SureSource, SureStore, WriteFault,
-    write_all,
+    CallList, Failed, FileStore, InputSource, LoadFault, Loaded, MemSink, MemSource, MemStore,
+    OutputSink, Sink, Source, Store, StoreFail, StoreFailList, SureSink, SureSource, SureStore,
+    WriteFault, write_all,
 };
+
+/// A list of one call.
+fn calls_of(alloc: Global, call: u64) -> Result<CallList, Fail> {
+    let mut calls = CallList::empty(alloc);
+    calls.push(call).map_err(|_| "memory")?;
+    Ok(calls)
+}
 
 /// A reader of two bytes that fails at every read after the first.
 #[derive(Drop)]
