@@ -92,11 +92,21 @@ fn sinks<A: Abort>(rt: &A, alloc: Global) -> Result<(), Fail> {
     write_all(&mut sure, b"")?;
     write_all(&mut sure, b"cde")?;
     assert_eq!(rt; sure.bytes(), b"abcde".as_slice());
+    Ok(())
+}
+
+/// Writes to a sink whose second write fails.
+fn failing_sinks<A: Abort>(rt: &A, alloc: Global) -> Result<(), Fail> {
     let mut listed = MemSink::new(alloc, calls_of(alloc, 2)?);
-    for want in [Ok(2), Err(WriteFault::Failed), Ok(2)] {
-        assert_eq!(rt; listed.write(b"ab"), want);
+    for want in &[Ok(2), Err(WriteFault::Failed), Ok(2)] {
+        assert_eq!(rt; listed.write(b"ab"), *want);
     }
     assert_eq!(rt; listed.bytes(), b"abab".as_slice());
+    Ok(())
+}
+
+/// Writes to a writer that has too little room, and to one that holds its bytes until it is flushed.
+fn writers<A: Abort>(rt: &A) -> Result<(), Fail> {
     let mut room = [0; 3];
     let mut full = OutputSink::new(room.as_mut_slice());
     assert_eq!(rt; write_all(&mut full, b"abcde"), Err(WriteFault::Failed));
@@ -107,6 +117,9 @@ fn sinks<A: Abort>(rt: &A, alloc: Global) -> Result<(), Fail> {
     Ok(())
 }
 
+/// Files of a store, and their bytes.
+const STORED: [(&str, &str); 3] = [("log", "abc"), ("snapshot", "z"), ("empty", "")];
+
 fn stores<A: Abort>(rt: &A, alloc: Global) -> Result<(), Fail> {
     let mut store = SureStore::new(alloc);
     store.append("log", b"ab")?;
@@ -114,14 +127,16 @@ fn stores<A: Abort>(rt: &A, alloc: Global) -> Result<(), Fail> {
     store.replace("snapshot", b"xy")?;
     store.replace("snapshot", b"z")?;
     store.put("empty", b"")?;
-    for (name, want) in [
-        ("log", b"abc".as_slice()),
-        ("snapshot", b"z".as_slice()),
-        ("empty", b"".as_slice()),
-    ] {
-        assert!(rt; store.file(name) == Some(want), "{name}");
+    for row in &STORED {
+        let (name, want) = *row;
+        assert!(rt; store.file(name) == Some(want.as_bytes()), "{name}");
     }
     assert!(rt; store.file("other").is_none());
+    loads(rt, &mut store)
+}
+
+/// Loads a file that is absent, one that is too large and one that isn't.
+fn loads<A: Abort>(rt: &A, store: &mut SureStore) -> Result<(), Fail> {
     assert!(rt; matches!(store.load("other", 9)?, Loaded::Absent));
     assert!(rt; matches!(store.load("log", 2)?, Loaded::TooLarge(3)));
     let loaded = store.load("log", 3)?;
@@ -142,6 +157,32 @@ fn fails_of(alloc: Global, fails: &[(u64, u64)]) -> Result<StoreFailList, Fail> 
     Ok(list)
 }
 
+/// What an append or a replacement comes to.
+const FAILED: Result<(), WriteFault> = Err(WriteFault::Failed);
+
+/// Appends: the file, the bytes, what the call comes to, and the bytes of the file then, unless it is absent.
+const APPENDS: [(&str, &str, Result<(), WriteFault>, Option<&str>); 4] = [
+    ("log", "b", Ok(()), Some("ab")),
+    ("log", "cde", FAILED, Some("abcd")),
+    ("new", "x", FAILED, None),
+    ("new", "xy", FAILED, Some("xy")),
+];
+
+/// Replacements of the file `log` by `z`: what the call comes to, and the bytes of the file then.
+const REPLACEMENTS: [(Result<(), WriteFault>, &str); 3] = [
+    (FAILED, "abcd"),
+    (FAILED, "z"),
+    (Ok(()), "z"),
+];
+
+/// Whether a file has these bytes, or is absent.
+fn has(store: &MemStore, name: &str, wanted: Option<&str>) -> bool {
+    match wanted {
+        Some(text) => store.file(name) == Some(text.as_bytes()),
+        None => store.file(name).is_none(),
+    }
+}
+
 fn failing_stores<A: Abort>(rt: &A, alloc: Global) -> Result<(), Fail> {
     let fails = fails_of(
         alloc,
@@ -149,23 +190,15 @@ fn failing_stores<A: Abort>(rt: &A, alloc: Global) -> Result<(), Fail> {
     )?;
     let mut store = MemStore::new(alloc, fails);
     store.put("log", b"a")?;
-    let failed = Err(WriteFault::Failed);
-    for (name, bytes, want, file) in [
-        ("log", b"b".as_slice(), Ok(()), Some(b"ab".as_slice())),
-        ("log", b"cde".as_slice(), failed, Some(b"abcd".as_slice())),
-        ("new", b"x".as_slice(), failed, None),
-        ("new", b"xy".as_slice(), failed, Some(b"xy".as_slice())),
-    ] {
-        assert_eq!(rt; store.append(name, bytes), want);
-        assert!(rt; store.file(name) == file, "{name}");
+    for row in &APPENDS {
+        let (name, text, wanted, after) = *row;
+        assert_eq!(rt; store.append(name, text.as_bytes()), wanted);
+        assert!(rt; has(&store, name, after), "{name}");
     }
-    for (want, file) in [
-        (failed, b"abcd".as_slice()),
-        (failed, b"z".as_slice()),
-        (Ok(()), b"z".as_slice()),
-    ] {
-        assert_eq!(rt; store.replace("log", b"z"), want);
-        assert!(rt; store.file("log") == Some(file));
+    for row in &REPLACEMENTS {
+        let (wanted, after) = *row;
+        assert_eq!(rt; store.replace("log", b"z"), wanted);
+        assert!(rt; has(&store, "log", Some(after)));
     }
     assert!(rt; matches!(store.load("log", 1), Err(LoadFault::Failed)));
     assert!(rt; matches!(store.load("log", 0)?, Loaded::TooLarge(1)));
@@ -192,33 +225,43 @@ fn real_files<R: Abort + AllocGlobal + Files>(rt: &R, folder: &str) -> Result<()
     store.append(name, b"ab")?;
     store.append(name, b"c")?;
     assert!(rt; matches!(store.load(name, 2)?, Loaded::TooLarge(3)));
-    for bytes in [b"abcd".as_slice(), b"xyz".as_slice()] {
-        store.replace(name, bytes)?;
-        let loaded = store.load(name, 4)?;
-        assert!(rt; matches!(&loaded, Loaded::Bytes(text) if text.as_slice() == bytes));
+    for text in &["abcd", "xyz"] {
+        is_replaced(rt, &mut store, name, text)?;
     }
-    for name in [folder, "/dev/null/log"] {
-        assert!(rt;
-            matches!(store.load(name, 9), Err(LoadFault::Failed)),
-            "{name}"
-        );
-        assert_eq!(rt;
-            store.append(name, b"ab"),
-            Err(WriteFault::Failed),
-            "{name}"
-        );
-    }
-    assert_eq!(rt;
-        store.replace("/dev/null/log", b"ab"),
-        Err(WriteFault::Failed)
-    );
+    is_no_file(rt, &mut store, folder);
+    is_no_file(rt, &mut store, "/dev/null/log");
+    assert_eq!(rt; store.replace("/dev/null/log", b"ab"), FAILED);
     Ok(())
+}
+
+/// Replaces a file, and loads it.
+fn is_replaced<A: Abort, D: Store>(
+    rt: &A,
+    store: &mut D,
+    name: &str,
+    text: &str,
+) -> Result<(), Fail> {
+    store.replace(name, text.as_bytes())?;
+    let loaded = store.load(name, 4)?;
+    assert!(rt; matches!(&loaded, Loaded::Bytes(bytes) if bytes.as_slice() == text.as_bytes()));
+    Ok(())
+}
+
+/// Loads and appends, where there can't be a file.
+fn is_no_file<A: Abort, D: Store>(rt: &A, store: &mut D, name: &str) {
+    assert!(rt;
+        matches!(store.load(name, 9), Err(LoadFault::Failed)),
+        "{name}"
+    );
+    assert_eq!(rt; store.append(name, b"ab"), FAILED, "{name}");
 }
 
 #[test]
 fn objects_of_the_outside(rt: HostRuntime) -> Result<(), Fail> {
     sources(&rt, rt.alloc())?;
     sinks(&rt, rt.alloc())?;
+    failing_sinks(&rt, rt.alloc())?;
+    writers(&rt)?;
     stores(&rt, rt.alloc())?;
     failing_stores(&rt, rt.alloc())
 }
