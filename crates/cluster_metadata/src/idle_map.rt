@@ -69,7 +69,8 @@ pub fn idle_map<L: Ledger>(
     let cuts = cuts(alloc, image)?;
     let ranges = rows_between(alloc, cuts.as_slice())?;
     let ring = Ring::from_distinct(alloc, image.tokens.as_slice())?;
-    let placer = Placer::new(alloc, &ring, directory, replication)?;
-    let rows = rows_once(alloc, &placer, ranges.as_slice(), walks)?;
+    let ranges = ranges.as_slice();
+    let placer = Placer::new(alloc, &ring, directory, replication, ranges.len())?;
+    let rows = rows_once(alloc, &placer, ranges, walks)?;
     Ok(PlacementMap::from_rows(rows))
 }

@@ -54,8 +54,15 @@ impl<'a> MapBasis<'a> {
         requires { IsMapBasis self.now }
         ensures { IfOk result (λ map. map ≡ placement_rows self.now.image.now replication.now) }
     {
-        let placers = Placers::new(self.alloc, &self.rings, self.directory, replication)?;
-        let rows = placers.rows(self.alloc, self.ranges.as_slice(), walks)?;
+        let ranges = self.ranges.as_slice();
+        let placers = Placers::new(
+            self.alloc,
+            &self.rings,
+            self.directory,
+            replication,
+            ranges.len(),
+        )?;
+        let rows = placers.rows(self.alloc, ranges, walks)?;
         Ok(PlacementMap::from_rows(rows))
     }
 }

@@ -2,12 +2,15 @@
 
 ghost use Rattle.std.specs.Prelude.{◌≡◌, [], ◌∷◌, ◌++◌, IfOk, OnOk};
 ghost use Rattle.std.specs.List.{AllByRecursion, Contains};
-ghost use Rattle.token_ring.specs.Ranges.{AreCutOut, HaveTokens};
+ghost use Rattle.std.specs.List.Sorted.{IsStrictlySortedBy};
+ghost use Rattle.std.specs.Ordering.{int_cmp};
+ghost use Rattle.token_ring.specs.Ranges.{AreCutOut, HaveTokens, IsRangeList};
 ghost use Rattle.transformations.specs.Ranges.{in_ranges};
 ghost use Rattle.transformations.specs.Rings as spec;
 ghost use Rattle.transformations.specs.Valid.{IsSound};
 ghost use Rattle.sequence_plans.specs.DeltaParts.{AreBooks, AreExact};
 ghost use Rattle.sequence_plans.specs.MovementPlacers.{PlacesMovement};
+ghost use Rattle.sequence_plans.specs.NearCuts.{near_cuts};
 
 use crate::movement_rings::{MovementPlacers, MovementRings};
 use crate::near_cuts::near_cuts;
@@ -36,8 +39,8 @@ pub struct DeltaBooks {
     pub lose: DeltaBook,
 }
 
-/// The deltas of a movement under one replication. Makes two walks for each row between cuts that is in its ranges. The
-/// rest costs two binary searches in the cuts for each range, and about k log m for m ranges with k cuts near them.
+/// The deltas of a movement under one replication, whose ranges have these cuts near them. Makes two walks for each row
+/// between cuts that is in the ranges. The rest costs about k log m for m ranges with k cuts near them.
 fn deltas_under<L: Ledger>(
     alloc: Global,
     image: &Image,
@@ -45,24 +48,25 @@ fn deltas_under<L: Ledger>(
     replication: &Replication,
     placers: &MovementPlacers,
     ranges: &RangeList,
-    cuts: &[Token],
+    near: &[Token],
     walks: &mut Steps<L>,
 ) -> Result<Deltas, Memory>
     requires sound { IsSound image.now }
     requires moves { Contains image.now.sequences row.now }
     requires placers { PlacesMovement image.now row.now replication.now placers.now }
     requires ranges { HaveTokens (in_ranges image.now replication.now row.now) ranges.now }
+    requires list { IsRangeList ranges.now }
     requires bounds { AreCutOut (spec.cuts image.now) ranges.now }
-    requires cuts { cuts.now ≡ spec.cuts image.now }
+    requires near { near.now ≡ near_cuts (spec.cuts image.now) ranges.now }
+    requires ascending { IsStrictlySortedBy int_cmp near.now }
     ensures { IfOk result (AreExact image.now row.now replication.now) }
 {
-    let near = near_cuts(alloc, cuts, ranges.as_slice())?;
-    let rows = rows_between(alloc, &near)?;
+    let rows = rows_between(alloc, near)?;
     let sets = RowSets::of_rows(alloc, placers, ranges, rows.as_slice(), walks)?;
     Ok(Deltas {
-        gain: Delta::between(alloc, &near, &sets.none, &sets.gained)?,
-        swap: Delta::between(alloc, &near, &sets.before, &sets.after)?,
-        lose: Delta::between(alloc, &near, &sets.lost, &sets.none)?,
+        gain: Delta::between(alloc, near, &sets.none, &sets.gained)?,
+        swap: Delta::between(alloc, near, &sets.before, &sets.after)?,
+        lose: Delta::between(alloc, near, &sets.lost, &sets.none)?,
     })
 }
 
@@ -129,7 +133,8 @@ impl DeltaBooks {
             replication,
             ranges,
         } in ranges {
-            let placers = rings.placers(alloc, image, row, dir, replication)?;
+            let near = near_cuts(alloc, cuts, ranges.as_slice())?;
+            let placers = rings.placers(alloc, image, row, dir, replication, near.len())?;
             let deltas = deltas_under(
                 alloc,
                 image,
@@ -137,7 +142,7 @@ impl DeltaBooks {
                 replication,
                 &placers,
                 ranges,
-                cuts,
+                &near,
                 walks,
             )?;
             books.push(replication, deltas)?;

@@ -39,8 +39,8 @@ impl MovementRings {
         })
     }
 
-    /// The placers of a replication on these rings. The directory must hold the nodes of the image. Fails only if
-    /// memory runs out.
+    /// The placers of a replication on these rings, for a number of tokens. The directory must hold the nodes of the
+    /// image. Fails only if memory runs out.
     pub fn placers<'a>(
         &'a self,
         alloc: Global,
@@ -48,14 +48,15 @@ impl MovementRings {
         row: &SeqRow,
         dir: &'a Directory,
         replication: &'a Replication,
+        tokens: usize,
     ) -> Result<MovementPlacers<'a>, Memory>
         requires rings { AreMovementRings image.now row.now self.now }
         requires nodes { dir.now.rows ≡ image.now.nodes }
         ensures { IfOk result (PlacesMovement image.now row.now replication.now) }
     {
         Ok(MovementPlacers {
-            before: Placer::new(alloc, &self.before, dir, replication)?,
-            after: Placer::new(alloc, &self.after, dir, replication)?,
+            before: Placer::new(alloc, &self.before, dir, replication, tokens)?,
+            after: Placer::new(alloc, &self.after, dir, replication, tokens)?,
         })
     }
 }

@@ -7,34 +7,48 @@ use node_sets::NodeSet;
 use std::alloc::Global;
 use std::sync::ledger::Ledger;
 use token_ring::Ring;
-use topology_strategy::CountedRing;
+use topology_strategy::{CountedRing, DividedRing};
+
+/// A ring is divided by datacenters if it has at most this many pairs for each token to be placed. With more pairs, the
+/// division costs more than it saves in the walks.
+const PAIRS_FOR_TOKEN: usize = 32;
 
 /// A ring, with the strategy that places replicas on it.
 #[derive(Drop)]
 pub enum Placer<'a> {
     /// SimpleStrategy, with its factor.
     Simple(&'a Ring, Rf),
-    /// NetworkTopologyStrategy, with its datacenters counted.
+    /// NetworkTopologyStrategy, with its datacenters counted, for few tokens.
     Topology(CountedRing<'a>),
+    /// NetworkTopologyStrategy, with the tokens of its datacenters apart, for many tokens.
+    Divided(DividedRing<'a>),
 }
 
 impl<'a> Placer<'a> {
-    /// The placer of a replication on a ring. Fails only if memory runs out.
+    /// The placer of a replication on a ring. The number of tokens to be placed decides what costs least: the replicas
+    /// are the same for any number. Fails only if memory runs out.
     ///
-    /// Cost: for NetworkTopologyStrategy, one pass over the ring for each datacenter that the replication names.
+    /// Cost: for NetworkTopologyStrategy, one pass over the ring for each datacenter that the replication names. For
+    /// many tokens it is a whole pass, with a look-up in the directory for each pair.
     pub fn new(
         alloc: Global,
         ring: &'a Ring,
         dir: &'a Directory,
         replication: &'a Replication,
+        tokens: usize,
     ) -> Result<Placer<'a>, Memory>
         ensures { IfOk result (PlacesOn ring.now dir.now.rows replication.now) }
     {
         match replication {
             Replication::Simple(rf) => Ok(Placer::Simple(ring, *rf)),
             Replication::Topology(factors) => {
-                let counted = CountedRing::new(alloc, ring, dir, factors)?;
-                Ok(Placer::Topology(counted))
+                if ring.pairs().len() / PAIRS_FOR_TOKEN <= tokens {
+                    let divided = DividedRing::new(alloc, ring, dir, factors)?;
+                    Ok(Placer::Divided(divided))
+                } else {
+                    let counted = CountedRing::new(alloc, ring, dir, factors)?;
+                    Ok(Placer::Topology(counted))
+                }
             }
         }
     }
@@ -52,6 +66,7 @@ impl<'a> Placer<'a> {
         match self {
             Placer::Simple(ring, rf) => simple_strategy::replicas(alloc, ring, *rf, at, walks),
             Placer::Topology(counted) => counted.replicas(at, walks),
+            Placer::Divided(divided) => divided.replicas(at, walks),
         }
     }
 }

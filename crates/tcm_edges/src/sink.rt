@@ -11,7 +11,8 @@ pub trait Sink {
     /// The bytes written, if the sink tells them.
     ghost written: { Self → Option (List ℕ) };
 
-    /// The count of failures.
+    /// The count of failures. A call that returns `Failed` adds one, at most up to the greatest `u64`; no other call
+    /// does.
     ghost faults: { Self → ℕ };
 
     /// Writes a prefix of a piece, which is not empty, and returns its length, at least 1. On an error the bytes that

@@ -11,7 +11,8 @@ pub trait Source {
     /// The bytes still to come, if the source tells them.
     ghost left: { Self → Option (List ℕ) };
 
-    /// The count of failures.
+    /// The count of failures. A call that returns `Failed` adds one, at most up to the greatest `u64`; no other call
+    /// does.
     ghost faults: { Self → ℕ };
 
     /// Reads the next bytes into the front of a buffer, which is not empty, and returns their number. It is 0 if and

@@ -22,7 +22,8 @@ pub trait Store {
     /// The bytes of each file by name, if the store tells them.
     ghost files: { Self → Option Files };
 
-    /// The count of failures.
+    /// The count of failures. A call that returns `Failed` adds one, at most up to the greatest `u64`; no other call
+    /// does.
     ghost faults: { Self → ℕ };
 
     /// Returns the bytes of the file with this name if there are at most `limit`, and otherwise only their number. No

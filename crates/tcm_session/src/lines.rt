@@ -5,6 +5,7 @@ ghost use Rattle.tcm_session.specs.Lines.{HasNoFeed};
 ghost use Rattle.tcm_session.specs.Runs.{IsBegun, kept_of};
 
 use cluster_terms::Memory;
+use memchr::memchr;
 
 /// The most bytes that are kept of a line that has begun: one more than a line may have, so a line that is too long
 /// stays too long.
@@ -15,7 +16,7 @@ pub fn cut_line(bytes: &[u8]) -> Option<(&[u8], &[u8])>
     ensures none { IfNone result (HasNoFeed bytes.now) }
     ensures some { IfSome result (λ cut. HasNoFeed cut.0.now × (bytes.now ≡ cut.0.now ++ 10 ∷ cut.1.now)) }
 {
-    let at = bytes.iter().position(|byte| *byte == b'\n')?;
+    let at = memchr(b'\n', bytes)?;
     Some((&bytes[..at], &bytes[at + 1..]))
 }
 

@@ -18,6 +18,9 @@ use cluster_terms::ByteText;
 use std::alloc::Global;
 use tcm_edges::{Sink, Store, write_all};
 
+/// The bytes for which the text of an answer has room at once. Most answers have fewer.
+const ANSWER_ROOM: usize = 64;
+
 /// Answers a line, and writes the answer to `out` at once. At a fault, a prefix of the answer may be written, and a
 /// prefix of the line of its entry may be in the file: all of this line, if any byte of the answer is written.
 pub fn answer_line<K: Sink, D: Store>(
@@ -41,7 +44,7 @@ pub fn answer_line<K: Sink, D: Store>(
         (D.files store.old) (D.files store.new)) }
     ensures unnamed { LeavesStore (option_copied log.entry) store.old store.new result }
 {
-    let mut text = ByteText::empty(alloc);
+    let mut text = ByteText::from_vec(Vec::with_capacity(alloc, ANSWER_ROOM)?);
     session.step(line, log, store, &mut text)?;
     write_all(out, text.as_slice())?;
     Ok(())

@@ -1,4 +1,6 @@
 pub mod CountSteps
 pub mod GroupWalks
 pub mod MappedLists
+pub mod RackedLemmas
 pub mod TopologyPlacement
+pub mod WithinLemmas

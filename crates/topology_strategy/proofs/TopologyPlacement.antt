@@ -23,7 +23,7 @@ module _ (nodes : List NodeRow) (ps : List Pair) (x : ℤ) (i : ℕ) (ring : IsR
   abbrev walk : List ℕ
   walk = nodes_of (drop i ps) ++ nodes_of (take i ps)
 
-  taken_there : (g : Group) (v : ℕ) → has (taken_along walk g (shape_of (nodes_of ps) g)) v ≡ is_replica g x ps v
+  pub taken_there : (g : Group) (v : ℕ) → has (taken_along walk g (shape_of (nodes_of ps) g)) v ≡ is_replica g x ps v
   taken_there g v =
       ap (λ ns. has (taken_along ns g (shape_of (nodes_of ps) g)) v) (sym (nodes_of-append (drop i ps) (take i ps)))
       ∙ has-taken_along g (nodes_of ps) (nodes_of (walk_from i ps)) v

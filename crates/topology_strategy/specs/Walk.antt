@@ -43,6 +43,12 @@ abbrev pub found_after : Group → ℕ → List ℕ → Found → Found
 found_after g wanted [] found = found
 found_after g wanted (n ∷ ns) found = found_after g wanted ns (found_with wanted n (g.rack_of n) found)
 
+-- the walk after several nodes of the group are met, which have these racks (of the code: no promise rests on it)
+abbrev pub found_among : ℕ → List ℕ → List (List ℕ) → Found → Found
+found_among wanted [] racks found = found
+found_among wanted (n ∷ ns) [] found = found
+found_among wanted (n ∷ ns) (rack ∷ racks) found = found_among wanted ns racks (found_with wanted n (Some rack) found)
+
 -- the nodes that a walk along ns takes in a group of this shape
 abbrev pub taken_along : List ℕ → Group → Shape → List ℕ
 taken_along ns g shape = (found_after g shape.wanted ns (record { taken = []; racks = []; repeats = shape.spare })).taken

@@ -18,8 +18,8 @@ use token_ring::Ring;
 /// A ring, the registered nodes, and the datacenters that are to have replicas, with the counts of their nodes and
 /// racks in the ring.
 ///
-/// The counts are the same at every token of a ring. To place many tokens, make this value once: then each token costs
-/// only its walks.
+/// The counts are the same at every token of a ring. To place several tokens, make this value once: then each token
+/// costs only its walks. For many tokens a [`DividedRing`](crate::DividedRing) costs less.
 #[derive(Drop)]
 pub struct CountedRing<'a> {
     ring: &'a Ring,

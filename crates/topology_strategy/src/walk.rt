@@ -1,8 +1,9 @@
-ghost use Rattle.std.specs.Prelude.{◌≡◌, [], IfOk, IsTrue, OnOk, Some, nat_eq};
+ghost use Rattle.std.specs.Prelude.{◌≡◌, [], length, IfOk, IsTrue, OnOk, Some, nat_eq};
 ghost use Rattle.std.specs.Set.{is_member};
 ghost use Rattle.cluster_terms.specs.Group.{nodes_of};
 ghost use Rattle.node_directory.specs.Members.{group_of};
-ghost use Rattle.topology_strategy.specs.Walk.{found_after, found_at};
+ghost use Rattle.node_directory.specs.Tally.{racks_in};
+ghost use Rattle.topology_strategy.specs.Walk.{found_after, found_among, found_at};
 ghost use Rattle.topology_strategy.specs.Walk as spec;
 
 use cluster_terms::{Memory, NodeId, Pair};
@@ -107,6 +108,27 @@ impl<'a> Walk<'a> {
                 self.pass(members, pair.node)?;
                 last = Some(pair.node);
             }
+        }
+        Ok(())
+    }
+
+    /// Continues the walk along these pairs of the group, whose nodes have these racks, until `wanted` nodes are taken.
+    /// If memory runs out, the walk may have gone along some of the pairs.
+    pub fn go_among(
+        &mut self,
+        wanted: usize,
+        pairs: &[Pair],
+        racks: &[&'a [u8]],
+    ) -> Result<(), Memory>
+        requires { length racks.now ≡ length pairs.now }
+        ensures { OnOk result (self.new
+            ≡ found_among wanted (nodes_of pairs.now) (racks_in racks.now) self.old) }
+    {
+        for i in 0..pairs.len() {
+            if self.taken.len() >= wanted {
+                return Ok(());
+            }
+            self.meet(pairs[i].node, racks[i])?;
         }
         Ok(())
     }

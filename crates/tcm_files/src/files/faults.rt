@@ -1,11 +1,11 @@
 //! Runs whose source or sink fails at one of its calls.
 
-use crate::files::running::{calls_of, words_from};
+use crate::files::running::{calls_of, status_of, words_from};
 use cluster_terms::ByteText;
 use std::alloc::Global;
 use std::test::Fail;
 use tcm_edges::{MemSink, MemSource, SureSink, SureSource, SureStore};
-use tcm_session::{Status, run};
+use tcm_session::Status;
 
 const SCRIPT: &str =
     "commit 1 register a dc1 r1\ncommit 2 unsafe-join 1 0 100\n\nnodes @2\ncommit 3 keyspace ks simple 1\nplace @3 ks\ncommit 4 unregister 9\n";
@@ -56,7 +56,7 @@ fn a_failed_read_leaves_the_answers_to_what_was_read(rt: HostRuntime) -> Result<
         );
         let mut out = SureSink::new(alloc);
         let mut store = SureStore::new(alloc);
-        let status = run(alloc, &words, &mut input, &mut out, &mut store);
+        let status = status_of(alloc, &words, &mut input, &mut out, &mut store);
         let failed = call <= reads;
         let want = first_answers(alloc, lines_among((call - 1) * PIECE))?;
         assert_eq!(rt;
@@ -80,7 +80,7 @@ fn a_failed_write_leaves_the_answers_before_it(rt: HostRuntime) -> Result<(), Fa
         );
         let mut out = MemSink::new(alloc, calls_of(alloc, call as u64)?);
         let mut store = SureStore::new(alloc);
-        let status = run(alloc, &words, &mut input, &mut out, &mut store);
+        let status = status_of(alloc, &words, &mut input, &mut out, &mut store);
         let failed = call <= ANSWERS.len();
         let want = first_answers(alloc, call - 1)?;
         assert_eq!(rt;

@@ -7,8 +7,8 @@ use std::alloc::Global;
 use std::process::Abort;
 use std::test::Fail;
 use tcm_edges::{
-    CallList, LoadFault, Loaded, MemSource, MemStore, Store, StoreFail, StoreFailList, SureSink,
-    WriteFault,
+    CallList, LoadFault, Loaded, MemSource, MemStore, Sink, Source, Store, StoreFail,
+    StoreFailList, SureSink, WriteFault,
 };
 use tcm_session::{Status, run};
 
@@ -39,6 +39,18 @@ pub fn fail_of(alloc: Global, fail: (u64, u64)) -> Result<StoreFailList, Fail> {
     Ok(list)
 }
 
+/// The status of a run of these words over these objects. Its callers know nothing more of it, so what they do with the
+/// objects is proved without its contract.
+pub fn status_of<S: Source, K: Sink, D: Store>(
+    alloc: Global,
+    words: &[String],
+    input: &mut S,
+    out: &mut K,
+    store: &mut D,
+) -> Status {
+    run(alloc, words, input, out, store)
+}
+
 /// Runs these words, and compares the status and the printed bytes with those that are wanted.
 fn prints<A: Abort, D: Store>(
     rt: &A,
@@ -51,7 +63,7 @@ fn prints<A: Abort, D: Store>(
 ) -> Result<(), Fail> {
     let words = words_from(alloc, words)?;
     let mut out = SureSink::new(alloc);
-    let status = run(alloc, &words, &mut input, &mut out, store);
+    let status = status_of(alloc, &words, &mut input, &mut out, store);
     assert_eq!(rt; status, Status(wanted.0), "{name}");
     assert_eq!(rt; out.bytes(), wanted.1.as_bytes(), "{name}");
     Ok(())

@@ -1,13 +1,13 @@
 //! Runs of `commit x` that stop at a call of the outside, each followed by a run of the same script over what it left.
 
-use crate::files::running::{calls_of, fail_of, words_from};
+use crate::files::running::{calls_of, fail_of, status_of, words_from};
 use crate::files::told::{File, bytes_of, keeps_other, store_of, sure_store_of};
 use cluster_terms::ByteText;
 use std::alloc::Global;
 use std::process::Abort;
 use std::test::Fail;
 use tcm_edges::{CallList, MemSink, MemSource, MemStore};
-use tcm_session::{Status, run};
+use tcm_session::Status;
 
 /// The script of each run: two commits.
 const SCRIPT: &str = "commit 1 register a dc1 r1\ncommit 2 register b dc1 r1\n";
@@ -62,31 +62,49 @@ fn is_front(alloc: Global, store: &MemStore, wanted: Option<usize>) -> Result<bo
     Ok(keeps_other(store) && store.file("x") == front)
 }
 
-/// Runs the script over these objects, and compares what it leaves. Then runs it again without faults: both commits are
-/// answered, and the file has both entries.
-fn goes_on<A: Abort>(
+/// Runs the script over these objects, and compares what it leaves.
+fn stops<A: Abort>(
     rt: &A,
     alloc: Global,
     mut input: MemSource,
     mut out: MemSink,
-    mut store: MemStore,
+    store: &mut MemStore,
     wanted: Left,
 ) -> Result<(), Fail> {
     let words = words_from(alloc, &["commit", "x"])?;
-    let status = run(alloc, &words, &mut input, &mut out, &mut store);
+    let status = status_of(alloc, &words, &mut input, &mut out, store);
     assert_eq!(rt; status, Status(wanted.status));
     let answers = ANSWERS
         .as_bytes()
         .get(..wanted.answers.saturating_mul(ANSWER));
     assert!(rt; Some(out.bytes()) == answers);
-    assert!(rt; is_front(alloc, &store, wanted.file)?);
-    let mut again = source(alloc, 0)?;
-    let mut all = MemSink::new(alloc, CallList::empty(alloc));
-    let status = run(alloc, &words, &mut again, &mut all, &mut store);
-    assert_eq!(rt; status, Status(0));
-    assert_eq!(rt; all.bytes(), ANSWERS.as_bytes());
-    assert!(rt; is_front(alloc, &store, Some(2 * LINE))?);
+    assert!(rt; is_front(alloc, store, wanted.file)?);
     Ok(())
+}
+
+/// Runs the script without faults: both commits are answered, and the file has both entries.
+fn is_done<A: Abort>(rt: &A, alloc: Global, store: &mut MemStore) -> Result<(), Fail> {
+    let words = words_from(alloc, &["commit", "x"])?;
+    let mut input = source(alloc, 0)?;
+    let mut out = MemSink::new(alloc, CallList::empty(alloc));
+    let status = status_of(alloc, &words, &mut input, &mut out, store);
+    assert_eq!(rt; status, Status(0));
+    assert_eq!(rt; out.bytes(), ANSWERS.as_bytes());
+    assert!(rt; is_front(alloc, store, Some(2 * LINE))?);
+    Ok(())
+}
+
+/// Runs the script over these objects, and compares what it leaves. Then runs it again without faults.
+fn goes_on<A: Abort>(
+    rt: &A,
+    alloc: Global,
+    input: MemSource,
+    out: MemSink,
+    mut store: MemStore,
+    wanted: Left,
+) -> Result<(), Fail> {
+    stops(rt, alloc, input, out, &mut store, wanted)?;
+    is_done(rt, alloc, &mut store)
 }
 
 /// Stops a run at a read, and goes on.

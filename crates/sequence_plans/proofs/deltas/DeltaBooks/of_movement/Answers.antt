@@ -1,7 +1,11 @@
 use Rattle.std.proofs.Common.{map, take}
+use Rattle.transformations.proofs.ranges.RowsServed.{cuts_ascend}
 use Rattle.token_ring.specs.declared.book.RangeRow.{RangeRow}
 use Rattle.sequence_plans.proofs.DeltaBookLemmas.{replications_more, steps_more}
 use Rattle.sequence_plans.proofs.deltas.DeltaBooks.of_movement.Goals as goal
+
+pub near_cuts-requires-clause-ascending : goal.near_cuts-requires-clause-ascending
+near_cuts-requires-clause-ascending g c = rw c.requires.cuts (cuts_ascend c.args.image.now)
 
 pub loop-replication-preserved : goal.loop-replication-preserved
 loop-replication-preserved g c =

@@ -1,0 +1,7 @@
+use Rattle.std.proofs.Common.{◌≡◌, take}
+use Rattle.topology_strategy.specs.DatacenterRing.{parts_of}
+use Rattle.topology_strategy.proofs.divided_ring.divided.Given as goal
+
+-- the parts of the datacenters so far
+abbrev pub invariant-loop-name : goal.invariant-loop-name
+invariant-loop-name l = l.parts.items ≡ parts_of l.ring l.dir.rows (take l.name-index l.factors)

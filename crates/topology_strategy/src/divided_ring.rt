@@ -1,0 +1,114 @@
+ghost use Rattle.std.specs.Prelude.{◌≡◌, ◌+◌, ℕ, nat_eq, IfOk};
+ghost use Rattle.std.specs.List.{list_any};
+ghost use Rattle.std.specs.Ordering.{nat_cmp};
+ghost use Rattle.std.specs.Set.{is_member};
+ghost use Rattle.cluster_terms.specs.Ascending.{ascending};
+ghost use Rattle.topology_strategy.specs.DatacenterRing.{is_replica_in, parts_of};
+ghost use Rattle.topology_strategy.specs.GroupedRing.{placement_at};
+
+use crate::datacenter_ring::DatacenterRing;
+use cluster_terms::{Factors, Memory, Name, NodeId, Rf, Steps, Token};
+use node_directory::Directory;
+use node_sets::NodeSet;
+use std::alloc::Global;
+use std::marker::Model;
+use std::sync::ledger::Ledger;
+use token_ring::Ring;
+
+/// A ring, the registered nodes, and the datacenters that are to have replicas, with the tokens of each datacenter
+/// apart.
+///
+/// A walk passes the tokens of its own datacenter only. To place many tokens, make this value once; for few tokens a
+/// [`CountedRing`](crate::CountedRing) costs less.
+#[derive(Drop)]
+pub struct DividedRing<'a> {
+    ring: &'a Ring,
+    dir: &'a Directory,
+    factors: &'a Factors,
+    parts: Vec<DatacenterRing<'a>>,
+}
+
+impl<'a> Model for DividedRing<'a> {
+    ghost use Rattle.std.specs.Prelude.{◌≡◌};
+    ghost use Rattle.topology_strategy.specs.DatacenterRing.{parts_of};
+    ghost use Rattle.topology_strategy.specs.GroupedRing.{GroupedRing};
+
+    ghost Value = { GroupedRing };
+
+    ghost view = { λ d. record { ring = d.ring.now; nodes = d.dir.now.rows; factors = d.factors.now } };
+
+    ghost invariant = { λ d. d.parts.items ≡ parts_of d.ring.now d.dir.now.rows d.factors.now };
+}
+
+/// The tokens of each of these datacenters in a ring.
+fn divided<'a>(
+    alloc: Global,
+    ring: &'a Ring,
+    dir: &'a Directory,
+    factors: &'a [(Name, Rf)],
+) -> Result<Vec<DatacenterRing<'a>>, Memory>
+    ensures { IfOk result (λ parts. parts.items ≡ parts_of ring.now dir.now.rows factors.now) }
+{
+    let mut parts = Vec::with_capacity(alloc, factors.len())?;
+    for (name, rf) in factors {
+        parts.push(DatacenterRing::new(alloc, ring, dir, name, *rf)?)?;
+    }
+    Ok(parts)
+}
+
+/// The nodes that the walks from a token take in these datacenters.
+fn taken_in(alloc: Global, parts: &[DatacenterRing], t: Token) -> Result<Vec<NodeId>, Memory>
+    ensures { IfOk result (λ taken. (v : ℕ)
+        → is_member nat_eq taken.items v ≡ list_any (λ part. is_replica_in part t v) parts.now) }
+{
+    let mut taken = Vec::new(alloc);
+    for part in parts {
+        part.take_at(t, &mut taken)?;
+    }
+    Ok(taken)
+}
+
+impl<'a> DividedRing<'a> {
+    /// Puts the tokens of each datacenter that the factors name apart, with the racks of their nodes.
+    ///
+    /// Costs a look-up in the directory for each pair of the ring and each named datacenter, and the cost of
+    /// [`CountedRing::new`](crate::CountedRing::new).
+    pub fn new(
+        alloc: Global,
+        ring: &'a Ring,
+        dir: &'a Directory,
+        factors: &'a Factors,
+    ) -> Result<DividedRing<'a>, Memory>
+        ensures { IfOk result (λ d.
+            d ≡ record { ring = ring.now; nodes = dir.now.rows; factors = factors.now }) }
+    {
+        let parts = divided(alloc, ring, dir, factors.rows())?;
+        Ok(DividedRing {
+            ring,
+            dir,
+            factors,
+            parts,
+        })
+    }
+
+    /// The nodes that the walks from a token take.
+    fn taken_at(&self, t: Token) -> Result<Vec<NodeId>, Memory>
+        ensures { IfOk result (λ taken. placement_at self.now t ≡ ascending nat_cmp taken.items) }
+    {
+        taken_in(*self.parts.allocator(), &self.parts, t)
+    }
+
+    /// The replicas of a token by NetworkTopologyStrategy, as [`replicas`](crate::replicas) gives them.
+    ///
+    /// Costs a binary search and a walk for each named datacenter. A walk ends once its datacenter has all its
+    /// replicas. It passes each token of its datacenter at most once, and looks at no more nodes and racks there than
+    /// there are to be replicas. Counts one step of `walks`, even on an error.
+    pub fn replicas<L: Ledger>(&self, t: Token, walks: &mut Steps<L>) -> Result<NodeSet, Memory>
+        ensures placement { IfOk result (λ replicas. replicas ≡ placement_at self.now t) }
+        ensures counted { walks.new ≡ walks.old + 1 }
+    {
+        walks.tick();
+        let taken = self.taken_at(t)?;
+        NodeSet::from_ids(*self.parts.allocator(), &taken)
+    }
+}
