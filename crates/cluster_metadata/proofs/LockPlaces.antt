@@ -16,7 +16,7 @@ use Rattle.cluster_metadata.proofs.MovementPlaces.{at_place, later_others, less_
 use Rattle.cluster_metadata.proofs.RunningLemmas.{value_at}
 use Rattle.cluster_metadata.specs.Locking.{AreLocked}
 use Rattle.cluster_metadata.specs.Locks.{AreLocksOf}
-use Rattle.cluster_metadata.specs.Running.{IsRunning, movement_row, node_of}
+use Rattle.cluster_metadata.specs.Running.{IsRunning, movement_row, moving_node}
 use Rattle.cluster_metadata.specs.declared.running.Running.{Running}
 
 -- the nodes of locks, and those of movements
@@ -88,15 +88,15 @@ some_there f b (Some s) h P by = by s refl
 
 module _ {X : Type 0} (f : SeqRow → X) (b : X) (rows : List SeqRow) (values : List Running) (table : List LockRow) (at : ℕ) (m : Running) (is : IsRunning rows values) (names : lock_nodes table ≡ row_nodes rows)
     (stands : option_map f (slice_get rows at) ≡ Some b) (here : m ≡ get_or values at m) where
-  pub key_fits : has_row table (node_of m) ≡ true
+  pub key_fits : has_row table (moving_node m) ≡ true
   key_fits =
-      some_there f b (slice_get rows at) stands (has_row table (node_of m) ≡ true)
-      (λ s found. let own : node_of m ≡ s.node = ap (λ (q : SeqRow). q.node) (value_at rows values at s m is found here) in ap (has_row table) own ∙ named_at rows table at s names found)
+      some_there f b (slice_get rows at) stands (has_row table (moving_node m) ≡ true)
+      (λ s found. let own : moving_node m ≡ s.node = ap (λ (q : SeqRow). q.node) (value_at rows values at s m is found here) in ap (has_row table) own ∙ named_at rows table at s names found)
 
-  pub key_unlocks : IsStrictlySortedBy by_node rows → other_locks table (node_of m) ≡ remove table at
+  pub key_unlocks : IsStrictlySortedBy by_node rows → other_locks table (moving_node m) ≡ remove table at
   key_unlocks up =
-      some_there f b (slice_get rows at) stands (other_locks table (node_of m) ≡ remove table at)
-      (λ s found. let own : s.node ≡ node_of m = sym (ap (λ (q : SeqRow). q.node) (value_at rows values at s m is found here)) in unlocked_at (node_of m) rows table at s up names found ((Decides-eqb s.node (node_of m)).1 own))
+      some_there f b (slice_get rows at) stands (other_locks table (moving_node m) ≡ remove table at)
+      (λ s found. let own : s.node ≡ moving_node m = sym (ap (λ (q : SeqRow). q.node) (value_at rows values at s m is found here)) in unlocked_at (moving_node m) rows table at s up names found ((Decides-eqb s.node (moving_node m)).1 own))
 
 -- ---- all movements
 
@@ -131,9 +131,9 @@ all_locked rows values table up is names =
       locks = all_from_map (λ (s : SeqRow). has_row table s.node ≡ true) movement_row values (subst (AllByRecursion (λ (s : SeqRow). has_row table s.node ≡ true)) (sym is) (each_named rows table names));
     }
   where
-    mapped : (ms : List Running) → row_nodes (map movement_row ms) ≡ map node_of ms
+    mapped : (ms : List Running) → row_nodes (map movement_row ms) ≡ map moving_node ms
     mapped [] = refl
-    mapped (m ∷ ms) = ap (λ l. node_of m ∷ l) (mapped ms)
+    mapped (m ∷ ms) = ap (λ l. moving_node m ∷ l) (mapped ms)
 
 -- the last one is closed, and its lock goes
 left_named : (n : ℕ) (table : List LockRow) (k : ℕ) → nat_eq k n ≡ false → has_row table k ≡ true → has_row (other_locks table n) k ≡ true
@@ -148,25 +148,25 @@ left_named n (l ∷ table) k apart named = by (l.node == n) (nat_eq k l.node) re
     by false true is own named rest = ap (λ b. b || has_row (other_locks table n) k) own
     by false false is own named rest = or_true (nat_eq k l.node) (has_row (other_locks table n) k) (rest named)
 
-pub last_closed : (front : List Running) (m : Running) (table : List LockRow) → AreLocked table (front ++ m ∷ []) → (has_row table (node_of m) ≡ true) × AreLocked (other_locks table (node_of m)) front
+pub last_closed : (front : List Running) (m : Running) (table : List LockRow) → AreLocked table (front ++ m ∷ []) → (has_row table (moving_node m) ≡ true) × AreLocked (other_locks table (moving_node m)) front
 unfolding IsDistinct
 last_closed front m table are = (last front are.locks, record { distinct = fewer front are.distinct; locks = left front are.distinct are.locks })
   where
-    last : (front : List Running) → AllByRecursion (λ r. has_row table (node_of r) ≡ true) (front ++ m ∷ []) → has_row table (node_of m) ≡ true
+    last : (front : List Running) → AllByRecursion (λ r. has_row table (moving_node r) ≡ true) (front ++ m ∷ []) → has_row table (moving_node m) ≡ true
     last [] all = all.0
     last (r ∷ front) all = last front all.1
 
-    ends_apart : (k : ℕ) (front : List Running) → AllByRecursion (λ j. nat_eq k j ≡ false) (map node_of (front ++ m ∷ [])) → AllByRecursion (λ j. nat_eq k j ≡ false) (map node_of front) × (nat_eq k (node_of m) ≡ false)
+    ends_apart : (k : ℕ) (front : List Running) → AllByRecursion (λ j. nat_eq k j ≡ false) (map moving_node (front ++ m ∷ [])) → AllByRecursion (λ j. nat_eq k j ≡ false) (map moving_node front) × (nat_eq k (moving_node m) ≡ false)
     ends_apart k [] all = (tt, all.0)
     ends_apart k (r ∷ front) all = (let rest = ends_apart k front all.1 in ((all.0, rest.0), rest.1))
 
-    fewer : (front : List Running) → IsDistinct nat_eq (map node_of (front ++ m ∷ [])) → IsDistinct nat_eq (map node_of front)
+    fewer : (front : List Running) → IsDistinct nat_eq (map moving_node (front ++ m ∷ [])) → IsDistinct nat_eq (map moving_node front)
     fewer [] d = tt
-    fewer (r ∷ front) d = ((ends_apart (node_of r) front d.0).0, fewer front d.1)
+    fewer (r ∷ front) d = ((ends_apart (moving_node r) front d.0).0, fewer front d.1)
 
-    left : (front : List Running) → IsDistinct nat_eq (map node_of (front ++ m ∷ [])) → AllByRecursion (λ r. has_row table (node_of r) ≡ true) (front ++ m ∷ []) → AllByRecursion (λ r. has_row (other_locks table (node_of m)) (node_of r) ≡ true) front
+    left : (front : List Running) → IsDistinct nat_eq (map moving_node (front ++ m ∷ [])) → AllByRecursion (λ r. has_row table (moving_node r) ≡ true) (front ++ m ∷ []) → AllByRecursion (λ r. has_row (other_locks table (moving_node m)) (moving_node r) ≡ true) front
     left [] d all = tt
-    left (r ∷ front) d all = (left_named (node_of m) table (node_of r) (ends_apart (node_of r) front d.0).1 all.0, left front d.1 all.1)
+    left (r ∷ front) d all = (left_named (moving_node m) table (moving_node r) (ends_apart (moving_node r) front d.0).1 all.0, left front d.1 all.1)
 
 -- a lock that is added, and removed again
 pub added_named : (table : List LockRow) (l : LockRow) → has_row (table ++ l ∷ []) l.node ≡ true

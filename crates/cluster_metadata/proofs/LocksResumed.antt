@@ -46,7 +46,7 @@ use Rattle.cluster_metadata.specs.declared.image_fault.ImageFault.{ImageFault}
 use Rattle.cluster_metadata.specs.declared.image_fault.ImageFault.TheVariants.{Bad, Memory}
 use Rattle.cluster_metadata.specs.Locking.{AreLocked, lock_of}
 use Rattle.cluster_metadata.specs.Locks.{AreLocksOf, IsLockOf}
-use Rattle.cluster_metadata.specs.Running.{HaveDeltas, IsRunning, movement_row, node_of, plan_of}
+use Rattle.cluster_metadata.specs.Running.{HaveDeltas, IsRunning, movement_row, moving_node, plan_of}
 use Rattle.cluster_metadata.specs.declared.running.Running.{Running}
 
 -- ---- the movements before one of them
@@ -187,12 +187,12 @@ take_whole (q ∷ rows) zero over = absurd (omega arith)
 take_whole (q ∷ rows) (suc i) over = ap (λ l. q ∷ l) (take_whole rows i (omega arith))
 
 -- a movement is closed, and its lock goes again
-pub movement_removed : (s : SeqRow) (before after : List Running) (locks locked left : List LockRow) (m : Running) → after ≡ before → left ≡ other_locks locked (node_of m) → locked ≡ locks ++ lock_of m ∷ [] → movement_row m ≡ s → has_row locks s.node ≡ false
+pub movement_removed : (s : SeqRow) (before after : List Running) (locks locked left : List LockRow) (m : Running) → after ≡ before → left ≡ other_locks locked (moving_node m) → locked ≡ locks ++ lock_of m ∷ [] → movement_row m ≡ s → has_row locks s.node ≡ false
     → (after ≡ before) × (left ≡ locks)
 movement_removed s before after locks locked left m values table taken row new =
-    let node : s.node ≡ node_of m = sym (ap (λ (q : SeqRow). q.node) row) in
-    let none : has_row locks (node_of m) ≡ false = ap (has_row locks) (sym node) ∙ new in
-    (values, table ∙ ap (λ t. other_locks t (node_of m)) taken ∙ added_removed locks (lock_of m) none)
+    let node : s.node ≡ moving_node m = sym (ap (λ (q : SeqRow). q.node) row) in
+    let none : has_row locks (moving_node m) ≡ false = ap (has_row locks) (sym node) ∙ new in
+    (values, table ∙ ap (λ t. other_locks t (moving_node m)) taken ∙ added_removed locks (lock_of m) none)
 
 pub row_planned : (p : Phase) (image : Image) (s : SeqRow) (plan : Plan) → IsSound image → Contains image.sequences s → IsPlan (with_movement image (in_phase p s)) (in_phase p s) plan → IsLockRow image s (plan_lock plan)
 row_planned p image s plan sound there is = record { node = ap (λ (q : SeqRow). q.node) is.row; ranges = book_resumed p image s plan.ranges sound there is.ranges }

@@ -7,5 +7,6 @@ pub mod ExchangedMaps
 pub mod IdleMaps
 pub mod ImageMaps
 pub mod MapBooks
+pub mod RevisedBooks
 pub mod TurnedMaps
 pub mod TurnedSets

@@ -88,8 +88,8 @@ BringsPlan image (Begun at plan after) =
 BringsPlan image _ = Unit {0}
 
 -- the movement of a node stands at this position
-abbrev pub StandsFor : Image → ℕ → ℕ → Type 0
-StandsFor image n at = slice_get image.sequences at ≡ movement_of image n
+abbrev pub IsMovementAt : Image → ℕ → ℕ → Type 0
+IsMovementAt image n at = slice_get image.sequences at ≡ movement_of image n
 
 -- the kind of change that a command makes. A movement that begins is the one that the command prepares, and a movement
 -- that a step or a cancel changes is that of its node
@@ -100,11 +100,11 @@ Suits image (Unregister n) (Unregistered m) = Unit {0}
 Suits image (UnsafeJoin n tokens) (Tokens pairs) = Unit {0}
 Suits image (Keyspace name r) (Keyspaces rows) = Unit {0}
 Suits image (DropKeyspace name) (Keyspaces rows) = Unit {0}
-Suits image (Step goal.Start kind n) (Started at row) = StandsFor image n at
-Suits image (Step goal.Mid kind n) (Mid at row) = StandsFor image n at
-Suits image (Step goal.Finish kind n) (Finished at left tokens after) = StandsFor image n at
-Suits image (Cancel n) (Ended at after) = StandsFor image n at
-Suits image (Cancel n) (BroughtBack at row) = StandsFor image n at
+Suits image (Step goal.Start kind n) (Started at row) = IsMovementAt image n at
+Suits image (Step goal.Mid kind n) (Mid at row) = IsMovementAt image n at
+Suits image (Step goal.Finish kind n) (Finished at left tokens after) = IsMovementAt image n at
+Suits image (Cancel n) (Ended at after) = IsMovementAt image n at
+Suits image (Cancel n) (BroughtBack at row) = IsMovementAt image n at
 Suits image _ _ = ⊥
 
 -- a change is the change of this command

@@ -11,7 +11,7 @@ use Rattle.sequence_plans.specs.Plan.{IsLockRow}
 use Rattle.transformations.specs.declared.image.Image.{Image}
 use Rattle.transformations.specs.declared.sequence.SeqRow.{SeqRow}
 use Rattle.cluster_metadata.specs.Change.{plan_lock}
-use Rattle.cluster_metadata.specs.Running.{movement_row, node_of, plan_of}
+use Rattle.cluster_metadata.specs.Running.{movement_row, moving_node, plan_of}
 use Rattle.cluster_metadata.specs.declared.change.Change.{Change}
 use Rattle.cluster_metadata.specs.declared.change.Change.TheVariants.{Begun, Finished, Ended}
 use Rattle.cluster_metadata.specs.declared.new_lock.NewLock.{NewLock}
@@ -58,5 +58,5 @@ pub record AddsMovement (image : Image) (s : SeqRow) (before after : List Runnin
 
 -- the movements are of distinct nodes, and each has a lock
 pub record AreLocked (table : List LockRow) (running : List Running) : Type 0 where
-  pub distinct : IsDistinct nat_eq (map node_of running)
-  pub locks : AllByRecursion (λ m. has_row table (node_of m) ≡ true) running
+  pub distinct : IsDistinct nat_eq (map moving_node running)
+  pub locks : AllByRecursion (λ m. has_row table (moving_node m) ≡ true) running

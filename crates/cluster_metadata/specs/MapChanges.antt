@@ -3,8 +3,9 @@
 use Rattle.std.specs.Prelude.{ℕ, zero, suc, List, [], ◌∷◌}
 use Rattle.std.specs.List.{AllByRecursion}
 use Rattle.range_placements.specs.Editing.{Edits, edited}
-use Rattle.range_placements.specs.Exchanging.{exchanged}
+use Rattle.range_placements.specs.Exchanging.{with_changes}
 use Rattle.range_placements.specs.Placements.{IsPlacementMap}
+use Rattle.range_placements.specs.declared.placement_row.PlacementRow.{PlacementRow}
 use Rattle.range_placements.specs.declared.row_changes.RowChange.{RowChange}
 use Rattle.transformations.specs.declared.image.Image.{Image}
 use Rattle.cluster_metadata.specs.Change.{changed}
@@ -14,27 +15,30 @@ use Rattle.cluster_metadata.specs.declared.map_change.MapChange.{MapChange}
 use Rattle.cluster_metadata.specs.declared.map_change.MapChange.TheVariants.{Keep, Anew, Sets, Rows}
 use Rattle.cluster_metadata.specs.declared.map_row.MapRow.{MapRow}
 
--- a book with new sets in the map at a position, and with new sets in each map
+-- a book with a change of the map at a position, and with a change of each map
+abbrev pub revised_at : {C : Type 0} → (C → List PlacementRow → List PlacementRow) → ℕ → C → List MapRow → List MapRow
+revised_at made n change [] = []
+revised_at made zero change (row ∷ book) = record { replication = row.replication; map = made change row.map } ∷ book
+revised_at made (suc n) change (row ∷ book) = row ∷ revised_at made n change book
+
+abbrev pub each_revised : {C : Type 0} → (C → List PlacementRow → List PlacementRow) → List C → List MapRow → List MapRow
+each_revised made [] book = book
+each_revised made (change ∷ changes) [] = []
+each_revised made (change ∷ changes) (row ∷ book) = record { replication = row.replication; map = made change row.map } ∷ each_revised made changes book
+
+-- new sets in the map at a position, and in each map
 abbrev pub exchanged_at : ℕ → List RowChange → List MapRow → List MapRow
-exchanged_at n changes [] = []
-exchanged_at zero changes (row ∷ book) = record { replication = row.replication; map = exchanged changes row.map } ∷ book
-exchanged_at (suc n) changes (row ∷ book) = row ∷ exchanged_at n changes book
+exchanged_at n changes book = revised_at with_changes n changes book
 
 abbrev pub each_exchanged : List (List RowChange) → List MapRow → List MapRow
-each_exchanged [] book = book
-each_exchanged (changes ∷ all) [] = []
-each_exchanged (changes ∷ all) (row ∷ book) = record { replication = row.replication; map = exchanged changes row.map } ∷ each_exchanged all book
+each_exchanged all book = each_revised with_changes all book
 
--- a book with rows kept and new ones put in, in the map at an index, and in each map
+-- rows kept and new ones put in, in the map at a position, and in each map
 abbrev pub edited_at : ℕ → Edits → List MapRow → List MapRow
-edited_at n edits [] = []
-edited_at zero edits (row ∷ book) = record { replication = row.replication; map = edited edits row.map } ∷ book
-edited_at (suc n) edits (row ∷ book) = row ∷ edited_at n edits book
+edited_at n edits book = revised_at edited n edits book
 
 abbrev pub each_edited : List Edits → List MapRow → List MapRow
-each_edited [] book = book
-each_edited (edits ∷ all) [] = []
-each_edited (edits ∷ all) (row ∷ book) = record { replication = row.replication; map = edited edits row.map } ∷ each_edited all book
+each_edited all book = each_revised edited all book
 
 -- each row of a book holds the rows of a map
 abbrev pub HoldMaps : List MapRow → Type 0

@@ -18,8 +18,8 @@ plan_of (Prepared s) = s
 plan_of (Started s) = s
 plan_of (Mid s) = s
 
-abbrev pub node_of : Running → ℕ
-node_of m = (plan_of m).row.node
+abbrev pub moving_node : Running → ℕ
+moving_node m = (plan_of m).row.node
 
 abbrev pub phase_of : Running → Phase
 phase_of (Prepared s) = phase.Prepared

@@ -9,7 +9,7 @@ use Rattle.placement_deltas.specs.declared.delta_row.DeltaRow.{DeltaRow}
 use Rattle.placement_deltas.specs.declared.unchanged.Unchanged.{Unchanged}
 use Rattle.range_placements.specs.Changing.{row_changed, rows_changed}
 use Rattle.range_placements.specs.Editing.{Edits, edited}
-use Rattle.range_placements.specs.Exchanging.{exchanged}
+use Rattle.range_placements.specs.Exchanging.{with_changes}
 use Rattle.range_placements.specs.Placements.{map_at, reads_changed, writes_changed}
 use Rattle.range_placements.specs.declared.placement_row.PlacementRow.{PlacementRow}
 use Rattle.range_placements.specs.declared.row_changes.RowChange.{RowChange}
@@ -52,7 +52,7 @@ IsKnown delta known = IfSome known (λ tokens. ChangesNothing delta tokens.first
 -- new sets are added for the row at a position, where the delta changes it: whatever rows stand beside it
 abbrev pub AddsTurned : Turn → List DeltaRow → ℕ → PlacementRow → List RowChange → List RowChange → Type 0
 AddsTurned turn delta at row before after =
-    (done rest : List PlacementRow) → length done ≡ at → exchanged after (done ++ row ∷ rest) ≡ exchanged before (done ++ row_changed (turned turn) delta row ∷ rest)
+    (done rest : List PlacementRow) → length done ≡ at → with_changes after (done ++ row ∷ rest) ≡ with_changes before (done ++ row_changed (turned turn) delta row ∷ rest)
 
 abbrev pub turned_at : Turn → List PlacementRow → List DeltaRow → ℤ → List ℕ × List ℕ
 turned_at turn rows delta x = turned turn (map_at rows x) (delta_at delta x)

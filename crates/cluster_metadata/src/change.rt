@@ -1,5 +1,6 @@
 use crate::leaving::LeftRow;
 use crate::new_node::NewNode;
+use crate::on_heap::OnHeap;
 use cluster_terms::{NodeId, PairList};
 use placement_deltas::Plan;
 use transformations::{KeyspaceRows, SeqRow, SeqRows};
@@ -9,7 +10,7 @@ use transformations::{KeyspaceRows, SeqRow, SeqRows};
 #[derive(Drop)]
 pub enum Change {
     /// A node is registered.
-    Registered(NewNode),
+    Registered(OnHeap<NewNode>),
     /// A node is removed.
     Unregistered {
         node: NodeId,
@@ -21,7 +22,7 @@ pub enum Change {
     /// A movement begins: its plan, and the movements with the plan's row inserted at `at`.
     Begun {
         at: usize,
-        plan: Plan,
+        plan: OnHeap<Plan>,
         sequences: SeqRows,
     },
     /// A movement starts: its row, at `Started`.
@@ -38,7 +39,7 @@ pub enum Change {
     /// movements.
     Finished {
         at: usize,
-        left: Option<LeftRow>,
+        left: Option<OnHeap<LeftRow>>,
         tokens: PairList,
         sequences: SeqRows,
     },

@@ -16,6 +16,7 @@ use crate::admit_fault::AdmitFault;
 use crate::cancelling::cancel;
 use crate::change::Change;
 use crate::new_node::{NewNode, new_row};
+use crate::on_heap::OnHeap;
 use crate::pairs::with_pairs;
 use crate::preparing::{prepare, row_prepared};
 use crate::stepping::step;
@@ -41,7 +42,8 @@ fn register(
     ensures { IfOk result (IsChange image.now (command.Register name.now dc.now rack.now)) }
 {
     let row = new_row(image.next, name, dc, rack)?;
-    Ok(Change::Registered(NewNode::of_row(alloc, image, row)?))
+    let node = NewNode::of_row(alloc, image, row)?;
+    Ok(Change::Registered(OnHeap::new(alloc, node)?))
 }
 
 /// The change that gives tokens to a node at once, without a movement.

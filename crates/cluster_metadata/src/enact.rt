@@ -196,7 +196,7 @@ pub fn make(
 {
     image.epoch += 1;
     match change {
-        Change::Registered(node) => register(image, directory, node),
+        Change::Registered(node) => register(image, directory, node.take()),
         Change::Unregistered { node } => unregister(image, directory, node),
         Change::Tokens(tokens) => image.tokens = tokens,
         Change::Keyspaces(keyspaces) => image.keyspaces = keyspaces,
@@ -206,7 +206,7 @@ pub fn make(
             sequences,
         } => {
             let before = image.sequences.as_slice();
-            begin(before, running, locks, &mut room, at, plan, lock);
+            begin(before, running, locks, &mut room, at, plan.take(), lock);
             image.sequences = sequences;
         }
         Change::Started { at, row } => start(&mut image.sequences, running, at, row),

@@ -5,7 +5,9 @@ ghost use Rattle.transformations.specs.Steps.{first_node, leaver, with_left};
 ghost use Rattle.transformations.specs.Valid.{IsSound};
 ghost use Rattle.cluster_metadata.specs.Nodes as spec;
 
+use crate::on_heap::OnHeap;
 use cluster_terms::{Memory, NodeId, NodeRow, Pair, TryCopy};
+use std::alloc::Global;
 use transformations::{Image, Kind, SeqRow};
 
 /// The row of a node that leaves, marked as left, and its position among the nodes.
@@ -46,7 +48,11 @@ fn found_at(nodes: &[NodeRow], node: NodeId) -> Option<usize>
 
 /// The row of the leaver, marked as left. Returns `None` if no row changes: there is no leaver, or it is not
 /// registered.
-pub fn left_row(image: &Image, leaver: Option<NodeId>) -> Result<Option<LeftRow>, Memory>
+pub fn left_row(
+    alloc: Global,
+    image: &Image,
+    leaver: Option<NodeId>,
+) -> Result<Option<OnHeap<LeftRow>>, Memory>
     requires { IsSound image.now }
     ensures nodes { IfOk result
         (λ left. spec.nodes_left image.now.nodes left ≡ with_left image.now.nodes leaver) }
@@ -60,7 +66,8 @@ pub fn left_row(image: &Image, leaver: Option<NodeId>) -> Result<Option<LeftRow>
         Some(at) => {
             let mut row = nodes[at].copy()?;
             row.left = true;
-            Ok(Some(LeftRow { at, row }))
+            let left = OnHeap::new(alloc, LeftRow { at, row })?;
+            Ok(Some(left))
         }
         None => Ok(None),
     }

@@ -22,6 +22,7 @@ mod metadata;
 mod new_lock;
 mod new_node;
 mod nodes;
+mod on_heap;
 mod pairs;
 mod parts;
 mod permit;

@@ -156,6 +156,7 @@ pub fn maps_for(
         Change::Tokens(tokens) => maps_on(alloc, image, directory, tokens, change),
         Change::Keyspaces(rows) => maps_under(alloc, image, directory, maps, rows, change),
         Change::Begun { plan, .. } => {
+            let plan = plan.get();
             let cuts = plan.cuts.as_slice();
             let next = recut_at(alloc, cuts, maps, Turn::Keep, &plan.gain)?;
             Ok(MapChange::Rows(next))

@@ -270,8 +270,8 @@ impl Metadata {
     /// replica with each of its read quorums, and a write quorum exists if and only if a read quorum does.
     ///
     /// Takes no memory. Cost: a comparison with each keyspace and each replication, and a binary search in the
-    /// placement map, whose comparisons `steps` counts. For n rows between the cuts of the image, 2^steps is at most
-    /// 2 n.
+    /// placement map, whose comparisons `steps` counts. For n rows between the cuts of the image, 2^steps is more than
+    /// n / 2 and at most 2 n.
     pub fn replicas<L: Ledger>(
         &self,
         keyspace: &Name,
@@ -285,6 +285,8 @@ impl Metadata {
         ensures written { ReadsAreWritten self.now }
         ensures rises { steps.old ≤ steps.new }
         ensures bound { 2 ^ (steps.new - steps.old) ≤ 2 * length (rows_between (cuts self.now)) }
+        ensures enough { IfSome result
+            (λ _. length (rows_between (cuts self.now)) < 2 * 2 ^ (steps.new - steps.old)) }
     {
         match self.map(keyspace) {
             Some(map) => Some(map.at(t, steps)),

@@ -25,7 +25,7 @@ impl NewLock {
                 sequences,
                 ..
             } => Ok(NewLock {
-                ranges: plan.ranges.copy()?,
+                ranges: plan.get().ranges.copy()?,
                 room: Room::for_items(alloc, sequences.as_slice().len())?,
             }),
             _ => Ok(NewLock {

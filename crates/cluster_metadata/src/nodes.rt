@@ -7,6 +7,7 @@ ghost use Rattle.cluster_metadata.specs.Nodes.{IsLeftRow, IsNew, with_node, with
 
 use crate::leaving::LeftRow;
 use crate::new_node::NewNode;
+use crate::on_heap::OnHeap;
 use cluster_terms::{NodeId, NodeRow, NodeRows};
 use node_directory::Directory;
 use transformations::Image;
@@ -56,13 +57,14 @@ pub fn unregister(image: &mut Image, directory: &mut Directory, node: NodeId)
 }
 
 /// Marks the node of a row, if there is one, as left.
-pub fn mark_left(image: &mut Image, directory: &mut Directory, left: Option<LeftRow>)
+pub fn mark_left(image: &mut Image, directory: &mut Directory, left: Option<OnHeap<LeftRow>>)
     requires directory { directory.old ≡ directory_of image.old }
     requires row { IfSome left (IsLeftRow image.old.nodes) }
     ensures image { image.new ≡ with_node_left image.old left }
     ensures directory { directory.new ≡ directory_of image.new }
 {
-    if let Some(LeftRow { at, row }) = left {
+    if let Some(left) = left {
+        let LeftRow { at, row } = left.take();
         directory.mark_left(row.id);
         image.nodes.replace(at, row);
     }

@@ -18,6 +18,7 @@ ghost use Rattle.cluster_metadata.specs.Permission.{AdmitsUnless};
 
 use crate::admit_fault::AdmitFault;
 use crate::change::Change;
+use crate::on_heap::OnHeap;
 use cluster_terms::{Memory, NodeId, Steps, TryCopy};
 use locked_ranges::LockTable;
 use node_directory::Directory;
@@ -44,7 +45,7 @@ fn place_for(sequences: &[SeqRow], node: NodeId) -> usize
 }
 
 /// The change that begins the movement of a node that has none, with its plan.
-fn begun(image: &Image, plan: Plan) -> Result<Change, Memory>
+fn begun(alloc: Global, image: &Image, plan: Plan) -> Result<Change, Memory>
     requires phase { plan.row.phase ≡ phase.Prepared }
     requires new { AllByRecursion (λ s. (s.node == plan.row.node) ≡ false) image.now.sequences }
     requires deltas { HasDeltas image.now plan }
@@ -56,6 +57,7 @@ fn begun(image: &Image, plan: Plan) -> Result<Change, Memory>
     let at = place_for(image.sequences.as_slice(), row.node);
     let mut sequences = image.sequences.copy()?;
     sequences.insert(at, row.copy()?)?;
+    let plan = OnHeap::new(alloc, plan)?;
     Ok(Change::Begun {
         at,
         plan,
@@ -111,5 +113,5 @@ pub fn prepare<L: Ledger>(
     if let Some((node, end)) = locks.conflict(&plan.ranges, &plan.wide, cuts) {
         return Err(AdmitFault::Refused(Refusal::Locked(node, end)));
     }
-    Ok(begun(image, plan)?)
+    Ok(begun(alloc, image, plan)?)
 }

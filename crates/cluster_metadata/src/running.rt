@@ -11,7 +11,7 @@ ghost use Rattle.sequence_plans.specs.Plan.{AreLocks, IsLockRow, IsPlan};
 ghost use Rattle.cluster_metadata.specs.ImageFaults.{FindsOverlap, IsCause, overlap_of, overlapping_at};
 ghost use Rattle.cluster_metadata.specs.Locks.{AreLocksOf};
 ghost use Rattle.cluster_metadata.specs.Locking.{AddsMovement, AreCutAt, AreLocked, lock_of};
-ghost use Rattle.cluster_metadata.specs.Running.{HaveDeltas, IsRunning, phase_of, plan_of, movement_row, node_of};
+ghost use Rattle.cluster_metadata.specs.Running.{HaveDeltas, IsRunning, phase_of, plan_of, movement_row, moving_node};
 ghost use Rattle.cluster_metadata.specs.Turns.{undoing};
 ghost use Rattle.cluster_metadata.specs.declared.image_fault.ImageFault.TheVariants as fault;
 
@@ -112,7 +112,7 @@ impl Running {
     /// Finishes a movement that is at `Mid`, and gives back the key to its lock.
     pub fn finish(self) -> LockKey
         requires { phase_of self ≡ phase.Mid }
-        ensures { result ≡ node_of self }
+        ensures { result ≡ moving_node self }
     {
         match self {
             Running::Mid(seq) => seq.finish(),
@@ -135,7 +135,7 @@ impl Running {
     /// Gives up a movement that isn't at `Mid`, and gives back the key to its lock.
     pub fn give_up(self) -> LockKey
         requires { is_mid (phase_of self) ≡ false }
-        ensures { result ≡ node_of self }
+        ensures { result ≡ moving_node self }
     {
         match self {
             Running::Prepared(seq) => seq.cancel(),
@@ -146,7 +146,7 @@ impl Running {
 
     /// Consumes the value of a movement at any phase, and gives back the key to its lock. The image doesn't change.
     pub fn close(self) -> LockKey
-        ensures { result ≡ node_of self }
+        ensures { result ≡ moving_node self }
     {
         match self {
             Running::Prepared(seq) => seq.cancel(),
@@ -228,11 +228,11 @@ fn resumed<L: Ledger>(
 
 /// Adds the value of a movement that has a lock. If memory runs out, the values are unchanged, and the lock is removed.
 fn push(running: &mut Vec<Running>, locks: &mut LockTable, movement: Running) -> Result<(), Memory>
-    requires { has_row locks.old (node_of movement) ≡ true }
+    requires { has_row locks.old (moving_node movement) ≡ true }
     ensures running { MatchResult result (λ _. running.new.items ≡ running.old.items ++ movement ∷ [])
         (λ _. running.new.items ≡ running.old.items) }
     ensures locks { MatchResult result (λ _. locks.new ≡ locks.old)
-        (λ _. locks.new ≡ other_locks locks.old (node_of movement)) }
+        (λ _. locks.new ≡ other_locks locks.old (moving_node movement)) }
 {
     match running.push(movement) {
         Ok(()) => Ok(()),

@@ -111,7 +111,7 @@ pub fn step(
         }),
         Goal::Finish => Ok(Change::Finished {
             at,
-            left: left_row(image, leaver(row))?,
+            left: left_row(alloc, image, leaver(row))?,
             tokens: ring_after(alloc, image, row)?,
             sequences: others(image, node)?,
         }),

@@ -3,8 +3,8 @@
 ghost use Rattle.std.specs.Prelude.{◌≡◌, ◌<◌, ◌≤◌, ◌-◌, ◌^◌, ℕ, List, [], None, length, IfOk, IsTrue, OnOk};
 ghost use Rattle.placement_deltas.specs.Deltas.{delta_at};
 ghost use Rattle.placement_deltas.specs.declared.delta_row.DeltaRow.{DeltaRow};
-ghost use Rattle.range_placements.specs.Editing.{edited, passed};
-ghost use Rattle.range_placements.specs.Exchanging.{exchanged};
+ghost use Rattle.range_placements.specs.Editing.{edited, all_passed};
+ghost use Rattle.range_placements.specs.Exchanging.{with_changes};
 ghost use Rattle.cluster_metadata.specs.MapChanges.{each_edited, each_exchanged};
 ghost use Rattle.cluster_metadata.specs.Turns as spec;
 
@@ -133,7 +133,7 @@ fn turned_rows(
     map: &PlacementMap,
     delta: &Delta,
 ) -> Result<RowChanges, Memory>
-    ensures { IfOk result (λ changes. exchanged changes map.now ≡ spec.turned_rows turn map.now delta.now) }
+    ensures { IfOk result (λ changes. with_changes changes map.now ≡ spec.turned_rows turn map.now delta.now) }
 {
     let mut changes = RowChanges::empty(alloc);
     let mut place = at_start();
@@ -165,7 +165,7 @@ fn leaves_sets(turn: Turn, delta: &Delta, t: Token, place: &mut DeltaPlace) -> b
 
 /// Whether a map has a row at an index, which no edit is past.
 fn is_ahead(edits: &RowEdits, map: &PlacementMap, at: usize) -> bool
-    ensures place { IsTrue result → passed edits.now ≤ at }
+    ensures place { IsTrue result → all_passed edits.now ≤ at }
     ensures bound { IsTrue result → at < 2 ^ 64 - 1 }
 {
     edits.passed() <= at && at < map.rows().len()

@@ -7,6 +7,7 @@ pub mod DistinctCounts
 pub mod FactorTexts
 pub mod FactorsLemmas
 pub mod GroupLemmas
+pub mod MergeLemmas
 pub mod NameTexts
 pub mod PairLemmas
 pub mod PlacedByReach
@@ -25,6 +26,7 @@ pub mod ReplicaAt
 pub mod ReplicaCounts
 pub mod ReplicationLemmas
 pub mod ReplicationTexts
+pub mod RingRows
 pub mod RoundTrip
 pub mod RowLemmas
 pub mod SettledLemmas

@@ -21,7 +21,7 @@ use Rattle.cluster_terms.proofs.PlacementLemmas.{placed-has, replica-has, tied}
 use Rattle.cluster_terms.proofs.QuorumLemmas.{Ascend, ascend_distinct, has_filter}
 use Rattle.cluster_terms.proofs.ReplicaAt.{IsReplicaAt-from_replica}
 use Rattle.cluster_terms.proofs.ReplicaCounts.{is_taken, replica_taken, taken_few}
-use Rattle.cluster_terms.specs.Factors.{by_name, sum_of_factors}
+use Rattle.cluster_terms.specs.Factors.{by_datacenter, sum_of_factors}
 use Rattle.cluster_terms.specs.Group.{Group, nodes_of, is_replica, is_replica_of_any, place}
 use Rattle.cluster_terms.specs.NodeRow.{row_of}
 use Rattle.cluster_terms.specs.Replication.{datacenter_group, groups_of, rack_within, total_of, whole_group}
@@ -134,15 +134,15 @@ module _ (x : ℤ) (ps : List Pair) (nodes : List NodeRow) where
       (λ there. sym apart.0 ∙ one_place dc e.0 (row_of nodes v) here (replica_stands e v there))
       (elsewhere dc es apart.1 v here)
 
-  names_apart : (f : List ℕ × ℕ) (fs : List (List ℕ × ℕ)) → IsStrictlySortedBy by_name (f ∷ fs) → AllByRecursion (λ e. bytes_eq f.0 e.0 ≡ false) fs
+  names_apart : (f : List ℕ × ℕ) (fs : List (List ℕ × ℕ)) → IsStrictlySortedBy by_datacenter (f ∷ fs) → AllByRecursion (λ e. bytes_eq f.0 e.0 ≡ false) fs
   names_apart f fs up =
-      weaker (λ e. by_name f e ≡ Less) (λ e. bytes_eq f.0 e.0 ≡ false) (λ e less. sym (eq_by_name f e) ∙ ap (λ o. is_eq o) less) fs (sorted_head by_name f fs up)
+      weaker (λ e. by_datacenter f e ≡ Less) (λ e. bytes_eq f.0 e.0 ≡ false) (λ e less. sym (eq_by_name f e) ∙ ap (λ o. is_eq o) less) fs (sorted_head by_datacenter f fs up)
 
-  pub alone : (factors : List (List ℕ × ℕ)) → IsStrictlySortedBy by_name factors → AllByRecursion (IsAlone factors) factors
+  pub alone : (factors : List (List ℕ × ℕ)) → IsStrictlySortedBy by_datacenter factors → AllByRecursion (IsAlone factors) factors
   alone [] up = tt
   alone (f ∷ fs) up = (
     λ v here any. or_elim (is_replica (datacenter_group nodes f) x ps v) (in_any fs v) any (λ own. own) (λ other. absurd (false≢true (elsewhere f.0 fs apart v here other))),
-    others fs apart (alone fs (sorted_tail by_name f fs up)),
+    others fs apart (alone fs (sorted_tail by_datacenter f fs up)),
   )
     where
       apart : AllByRecursion (λ e. bytes_eq f.0 e.0 ≡ false) fs
@@ -158,7 +158,7 @@ module _ (x : ℤ) (ps : List Pair) (nodes : List NodeRow) where
       )
 
 -- in each datacenter a placement has no more nodes than its factor
-pub datacenter_few : (x : ℤ) (ps : List Pair) → IsRing ps → (nodes : List NodeRow) (factors : List (List ℕ × ℕ)) → IsStrictlySortedBy by_name factors
+pub datacenter_few : (x : ℤ) (ps : List Pair) → IsRing ps → (nodes : List NodeRow) (factors : List (List ℕ × ℕ)) → IsStrictlySortedBy by_datacenter factors
     → AllByRecursion (λ f. length (filter (λ v. is_some (rack_within f.0 (row_of nodes v))) (place (groups_of nodes (Topology factors)) x ps)) ≤ f.1) factors
 datacenter_few x ps ring nodes factors up =
     weaker (IsAlone x ps nodes factors) (λ f. length (filter (λ v. is_some (rack_within f.0 (row_of nodes v))) (place (groups_of nodes (Topology factors)) x ps)) ≤ f.1)

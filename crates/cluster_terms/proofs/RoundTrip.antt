@@ -8,7 +8,7 @@ use Rattle.std.proofs.lemmas.Fmt.{decimal_digit}
 use Rattle.std.proofs.lemmas.List.{append-nil}
 use Rattle.std.proofs.lemmas.List.Elements.{All-nil, All-cons, All-head, All-tail, All-append}
 use Rattle.std.proofs.lemmas.List.Splits.{slice_split_none, slice_split_at}
-use Rattle.cluster_terms.specs.Factors.{IsFactorRow, IsFactors, by_name}
+use Rattle.cluster_terms.specs.Factors.{IsFactorRow, IsFactors, by_datacenter}
 use Rattle.cluster_terms.specs.Name.{is_name, is_name_byte}
 use Rattle.cluster_terms.specs.Replication.{IsReplication}
 use Rattle.cluster_terms.specs.ReplicationText.{words_of, is_colon, factor_row_of, rows_of, factors_of, replication_of, replication_of_words, row_text, text_of}
@@ -97,7 +97,7 @@ rows_of-words rows all = (let both = all_rows rows all in grind (arith, both.0, 
 -- rows of factors make these factors
 pub factors_of-rows : (rows : List (List ℕ × ℕ)) → IsFactors rows → factors_of rows ≡ Some rows
 factors_of-rows rows is =
-    let same = ascending_same by_name by_name_total rows is.ascending in
+    let same = ascending_same by_datacenter by_name_total rows is.ascending in
     let yes = are_factors-all rows is.some is.few (omega (arith, ap length same)) in
     grind arith
 

@@ -11,8 +11,8 @@ use Rattle.cluster_terms.specs.Name.{is_name}
 use Rattle.cluster_terms.specs.Rf.{IsFactor}
 
 -- rows are ordered by the bytes of their names
-abbrev pub by_name : List ℕ × ℕ → List ℕ × ℕ → Ordering
-by_name a b = slice_cmp nat_cmp a.0 b.0
+abbrev pub by_datacenter : List ℕ × ℕ → List ℕ × ℕ → Ordering
+by_datacenter a b = slice_cmp nat_cmp a.0 b.0
 
 -- the names of the rows
 abbrev pub names_of : List (List ℕ × ℕ) → List (List ℕ)
@@ -32,7 +32,7 @@ pub record IsFactorRow (row : List ℕ × ℕ) : Type 0 where
 pub record IsFactors (rows : List (List ℕ × ℕ)) : Type 0 where
   pub some : 1 ≤ length rows
   pub few : length rows ≤ 16
-  pub ascending : IsStrictlySortedBy by_name rows
+  pub ascending : IsStrictlySortedBy by_datacenter rows
   pub valid : All IsFactorRow rows
 
 -- the number of replicas that the factors ask for in all

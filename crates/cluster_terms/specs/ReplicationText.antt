@@ -3,7 +3,7 @@ use Rattle.std.specs.Prelude.{ℕ, Bool, if◌then◌else◌, List, [], ◌∷�
 use Rattle.std.specs.List.{slice_split, before_first, after_first, list_all}
 use Rattle.std.specs.Str.{bytes_eq}
 use Rattle.cluster_terms.specs.Ascending.{ascending}
-use Rattle.cluster_terms.specs.Factors.{are_factors, by_name}
+use Rattle.cluster_terms.specs.Factors.{are_factors, by_datacenter}
 use Rattle.cluster_terms.specs.Name.{is_name}
 use Rattle.cluster_terms.specs.Rf.{factor_of}
 use Rattle.cluster_terms.specs.declared.replication.Replication.{Replication}
@@ -28,7 +28,7 @@ rows_of words = if list_all (λ word. is_some (factor_row_of word)) words then S
 
 -- the factors with these rows, if the rows make up factors
 abbrev pub factors_of : List (List ℕ × ℕ) → Option (List (List ℕ × ℕ))
-factors_of rows = if are_factors rows then Some (ascending by_name rows) else None
+factors_of rows = if are_factors rows then Some (ascending by_datacenter rows) else None
 
 -- RF
 abbrev pub simple_of : List (List ℕ) → Option Replication

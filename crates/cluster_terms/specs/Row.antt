@@ -1,5 +1,6 @@
 -- The rows between cuts: ranges that are open on the left and closed on the right, as Cassandra's are.
-use Rattle.std.specs.Prelude.{Bool, true, false, ◌&&◌, if◌then◌else◌, ℤ, int_lt, int_le, List, [], ◌∷◌, Option, Some, None}
+use Rattle.std.specs.Prelude.{◌≡◌, Bool, true, false, ◌&&◌, if◌then◌else◌, ℕ, ℤ, int_lt, int_le, List, [], ◌∷◌, Option, Some, None}
+use Rattle.std.specs.List.Sorted.{IsPartitionPoint}
 use Rattle.std.specs.Ordering.{int_eq}
 use Rattle.cluster_terms.specs.Arc.{greatest_token}
 use Rattle.cluster_terms.specs.declared.row.TokenRange.{TokenRange}
@@ -32,3 +33,15 @@ is_past (Some left) t = int_lt left t
 
 abbrev pub is_within : ℤ → TokenRange → Bool
 is_within t range = is_past range.left t && int_le t (last_token range.right)
+
+-- rows, each with a right end, cover the ring: their last tokens ascend, and the last row ends in Max or at the
+-- greatest token
+abbrev pub CoverRing : {R : Type 0} → (R → RightEnd) → List R → Type 0
+CoverRing right [] = ⊥
+CoverRing right (row ∷ []) = last_token (right row) ≡ greatest_token
+CoverRing right (row ∷ next ∷ rows) = (int_lt (last_token (right row)) (last_token (right next)) ≡ true) × CoverRing right (next ∷ rows)
+
+-- the first k rows end before a token, and the others do not
+abbrev pub EndBefore : {R : Type 0} → (R → RightEnd) → ℤ → List R → ℕ → Type 0
+EndBefore right t rows k =
+    IsPartitionPoint (λ r. int_lt (last_token (right r)) t ≡ true) (λ r. int_lt (last_token (right r)) t ≡ false) rows k

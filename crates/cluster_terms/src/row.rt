@@ -30,10 +30,7 @@ impl TokenRange {
     pub fn last_token(&self) -> Token
         ensures { result ≡ spec.last_token self.now.right }
     {
-        match self.right {
-            RightEnd::At(token) => token,
-            RightEnd::Max => greatest_token(),
-        }
+        self.right.last_token()
     }
 }
 

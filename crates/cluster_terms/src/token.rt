@@ -1,5 +1,6 @@
-ghost use Rattle.std.specs.Prelude.{◌≡◌, ℕ, ℤ, IfOk};
+ghost use Rattle.std.specs.Prelude.{◌≡◌, IfOk};
 ghost use Rattle.cluster_terms.specs.Arc.{IsToken};
+ghost use Rattle.cluster_terms.specs.Row as spec;
 
 use crate::list::TryCopy;
 use crate::memory::Memory;
@@ -13,6 +14,8 @@ pub struct Token {
 }
 
 impl Model for Token {
+    ghost use Rattle.std.specs.Prelude.{ℤ};
+
     ghost Value = { ℤ };
 
     ghost view = { λ t. t.value };
@@ -65,4 +68,16 @@ pub enum RightEnd {
     At(Token),
     /// Past the greatest token, which is in the range.
     Max,
+}
+
+impl RightEnd {
+    /// The last token of a range with this right end. It is 2^63 - 1 if the right end is `Max`.
+    pub fn last_token(self) -> Token
+        ensures { result ≡ spec.last_token self }
+    {
+        match self {
+            RightEnd::At(token) => token,
+            RightEnd::Max => Token::new(i64::MAX),
+        }
+    }
 }

@@ -15,7 +15,7 @@ use Rattle.transformations.specs.declared.image.Image.{Image}
 use Rattle.transformations.specs.declared.image_rules.BadImage.{BadImage as BadRule}
 use Rattle.transformations.specs.declared.refusal.Refusal.{Refusal}
 use Rattle.follower_log.specs.Follower.{Performs, FollowerState, IsAdvance, IsCutFrom, IsCutPast, advanced, cut_first, hand_above, hand_entry, hand_image, hand_valid, is_full, is_next, is_same, stays, Handed, unless_bad, waiting_at}
-use Rattle.follower_log.specs.Kept.{Advances, ComesFirst, Leads, first_of}
+use Rattle.follower_log.specs.Kept.{Advances, ComesFirst, Leads, first_entry}
 use Rattle.cluster_metadata.specs.Permission.{ShowsRefusal}
 use Rattle.cluster_metadata.specs.declared.admit_fault.AdmitFault.{AdmitFault}
 use Rattle.cluster_metadata.specs.declared.admit_fault.AdmitFault.TheVariants as admit
@@ -73,7 +73,7 @@ shows_refused first fault refusal is shows = subst (ShowsRefusal first) is shows
 
 -- ---- one entry more is applied
 
-pub leads_from : (before after : FollowerState) (entry : Entry) → Some entry ≡ first_of before.waiting → after.waiting ≡ drop 1 before.waiting → entry.epoch ≡ before.image.epoch + 1
+pub leads_from : (before after : FollowerState) (entry : Entry) → Some entry ≡ first_entry before.waiting → after.waiting ≡ drop 1 before.waiting → entry.epoch ≡ before.image.epoch + 1
     → refusal_of before.image entry.cmd ≡ None → after.image ≡ next_image before.image entry.cmd → Leads before after
 leads_from before after entry first rest next accepted image = record {
   entry = entry;
@@ -83,7 +83,7 @@ leads_from before after entry first rest next accepted image = record {
   image = image;
 }
   where
-    parts : (waiting : List Entry) → Some entry ≡ first_of waiting → waiting ≡ entry ∷ drop 1 waiting
+    parts : (waiting : List Entry) → Some entry ≡ first_entry waiting → waiting ≡ entry ∷ drop 1 waiting
     parts [] first = absurd (none-some entry (sym first))
     parts (e ∷ waiting) first = (let own : entry ≡ e = cc first in ap (λ x. x ∷ waiting) (sym own))
 

@@ -16,7 +16,7 @@ use Rattle.cluster_terms.proofs.AscendingNumbers.{equal_numbers}
 use Rattle.cluster_terms.specs.Ascending.{put}
 use Rattle.transformations.specs.declared.entry.Entry.{Entry}
 use Rattle.follower_log.specs.Follower.{by_epoch, waiting_at}
-use Rattle.follower_log.specs.Kept.{AreAbove, AreByEpoch, CanWait, CanWaitAt, first_of}
+use Rattle.follower_log.specs.Kept.{AreAbove, AreByEpoch, CanWait, CanWaitAt, first_entry}
 
 -- the first entry is kept under its epoch, and so are the others
 record IsFirstKept (e : ℕ × Entry) (kept : List (ℕ × Entry)) : Type 0 where
@@ -85,7 +85,7 @@ filter-by_epoch (e ∷ kept) epoch are =
     by is others false b = rw b others
 
 -- the first entry, and the others
-pub first_value : (kept : List (ℕ × Entry)) (k : ℕ) (entry : Entry) → slice_get kept 0 ≡ Some (k, entry) → Some entry ≡ first_of (values_of kept)
+pub first_value : (kept : List (ℕ × Entry)) (k : ℕ) (entry : Entry) → slice_get kept 0 ≡ Some (k, entry) → Some entry ≡ first_entry (values_of kept)
 first_value [] k entry is = absurd (none-some (k, entry) is)
 first_value (e ∷ kept) k entry is = (let same : e ≡ (k, entry) = cc is in ap (λ (x : ℕ × Entry). Some x.1) (sym same))
 
@@ -99,8 +99,8 @@ can_wait_on epoch m (e ∷ waiting) next past all = (record { above = past.0; wi
 
 -- the others are above the first one
 pub above_first : (old new : List (ℕ × Entry)) (first : Option (ℕ × Entry)) → AreByEpoch old → IfSome first (λ p. old ≡ p ∷ new) → IfSome first (λ p. All (IsLtBy nat_cmp p.0) (keys_of new)) → (IsSome first ↔ (0 < length old))
-    → AreAbove (first_of (values_of old)) (values_of new)
-above_first old new (Some p) are is above some = subst (λ l. AreAbove (first_of (values_of l)) (values_of new)) (sym is) (up (first_kept p new (subst AreByEpoch is are)) above)
+    → AreAbove (first_entry (values_of old)) (values_of new)
+above_first old new (Some p) are is above some = subst (λ l. AreAbove (first_entry (values_of l)) (values_of new)) (sym is) (up (first_kept p new (subst AreByEpoch is are)) above)
   where
     up : IsFirstKept p new → All (IsLtBy nat_cmp p.0) (keys_of new) → AllByRecursion (λ (e : Entry). p.1.epoch < e.epoch) (values_of new)
     up is above = each is.own new is.rest (recursion_from_All (IsLtBy nat_cmp p.0) (keys_of new) above)
@@ -115,7 +115,7 @@ above_first [] new None are is above some = tt
 above_first (e ∷ old) new None are is above some = absurd (true≢false (sym (some.1 (omega arith))))
 
 -- the first one is the next entry, and is applied: the others can wait at its epoch
-pub applied_waits : (epoch next : ℕ) (entry : Entry) (waiting others : List Entry) → Some entry ≡ first_of waiting → others ≡ drop 1 waiting → AreAbove (first_of waiting) others → CanWait epoch waiting
+pub applied_waits : (epoch next : ℕ) (entry : Entry) (waiting others : List Entry) → Some entry ≡ first_entry waiting → others ≡ drop 1 waiting → AreAbove (first_entry waiting) others → CanWait epoch waiting
     → entry.epoch ≡ epoch + 1 → next ≡ epoch + 1 → CanWait next others
 applied_waits epoch next entry [] others first rest above all is same = absurd (none-some entry (sym first))
 applied_waits epoch next entry (e ∷ waiting) others first rest above all is same =

@@ -16,9 +16,9 @@ abbrev pub AreByEpoch : List (ℕ × Entry) → Type 0
 AreByEpoch kept = keys_of kept ≡ map (λ entry. entry.epoch) (values_of kept)
 
 -- the first entry
-abbrev pub first_of : List Entry → Option Entry
-first_of [] = None
-first_of (entry ∷ entries) = Some entry
+abbrev pub first_entry : List Entry → Option Entry
+first_entry [] = None
+first_entry (entry ∷ entries) = Some entry
 
 -- entries are above the first one, if there is one
 abbrev pub AreAbove : Option Entry → List Entry → Type 0

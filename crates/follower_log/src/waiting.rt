@@ -4,7 +4,7 @@ ghost use Rattle.std.specs.Prelude.{◌≡◌, [], drop, filter, length, nat_lt,
 ghost use Rattle.std.specs.Option.{option_copied};
 ghost use Rattle.cluster_terms.specs.Ascending.{put};
 ghost use Rattle.follower_log.specs.Follower.{by_epoch, waiting_at};
-ghost use Rattle.follower_log.specs.Kept.{AreAbove, first_of};
+ghost use Rattle.follower_log.specs.Kept.{AreAbove, first_entry};
 
 use cluster_terms::Memory;
 use std::alloc::Global;
@@ -57,7 +57,7 @@ impl Waiting {
 
     /// The entry of the least epoch.
     pub fn first(&self) -> Option<&Entry>
-        ensures { option_copied result ≡ first_of self.now }
+        ensures { option_copied result ≡ first_entry self.now }
     {
         match self.by_epoch.first_key_value() {
             Some((_epoch, entry)) => Some(entry),
@@ -80,7 +80,7 @@ impl Waiting {
     /// Drops the entry of the least epoch, if there is one. Takes no memory.
     pub fn drop_first(&mut self)
         ensures others { self.new ≡ drop 1 self.old }
-        ensures above { AreAbove (first_of self.old) self.new }
+        ensures above { AreAbove (first_entry self.old) self.new }
     {
         let _first = self.by_epoch.pop_first();
     }

@@ -12,7 +12,7 @@ use Rattle.std.proofs.lemmas.Slice.Eq.{slice_eq-Decides}
 use Rattle.cluster_terms.proofs.AscendingLemmas.{weaker}
 use Rattle.cluster_terms.proofs.RowLemmas.{AreNext, rows_next, past_more}
 use Rattle.cluster_terms.specs.Arc.{IsToken, greatest_token}
-use Rattle.cluster_terms.specs.Row.{is_last, is_past, is_within, last_token, rows_between, rows_from}
+use Rattle.cluster_terms.specs.Row.{CoverRing, is_last, is_past, is_within, last_token, rows_between, rows_from}
 use Rattle.cluster_terms.specs.declared.row.TokenRange.{TokenRange}
 use Rattle.cluster_terms.specs.declared.token.RightEnd.TheVariants.{At, Max}
 use Rattle.placement_deltas.specs.Deltas.{EndAtCuts, IsDelta, ShowsChanges, change, change_in, delta_at}
@@ -42,8 +42,7 @@ same_no row next other = λ same. true≢false (sym (same_from row next same) �
 
 -- each row ends before the next one, and the last row at the greatest token
 abbrev Climbs : DeltaRow → List DeltaRow → Type 0
-Climbs row [] = last_token row.right ≡ greatest_token
-Climbs row (next ∷ rows) = (int_lt (last_token row.right) (last_token next.right) ≡ true) × Climbs next rows
+Climbs row rows = CoverRing (λ (r : DeltaRow). r.right) (row ∷ rows)
 
 -- joined rows change the same at each token
 joined_at : (row : DeltaRow) (rows : List DeltaRow) (x : ℤ) → Climbs row rows → int_le x greatest_token ≡ true → delta_at (joined_from (Some row) rows) x ≡ delta_at (row ∷ rows) x

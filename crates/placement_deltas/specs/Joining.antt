@@ -26,11 +26,11 @@ closed None next = []
 closed (Some row) next = if same_change row next then [] else row ∷ []
 
 -- the last row
-abbrev pub ended : Option DeltaRow → List DeltaRow
-ended None = []
-ended (Some row) = (record { right = Max; gained = row.gained; lost = row.lost }) ∷ []
+abbrev pub row_ended : Option DeltaRow → List DeltaRow
+row_ended None = []
+row_ended (Some row) = (record { right = Max; gained = row.gained; lost = row.lost }) ∷ []
 
 -- the rows joined, from a row that has begun on
 abbrev pub joined_from : Option DeltaRow → List DeltaRow → List DeltaRow
-joined_from begun [] = ended begun
+joined_from begun [] = row_ended begun
 joined_from begun (next ∷ rows) = closed begun next ++ joined_from (Some next) rows

@@ -1,4 +1,4 @@
-ghost use Rattle.std.specs.Prelude.{◌≡◌, ◌≢◌, ◌≤ℤ◌, int_lt, true, false, ◌<◌, [], length, IfOk, IfSome, IsFalse, IsNone, IsTrue};
+ghost use Rattle.std.specs.Prelude.{◌≡◌, ◌≢◌, ◌≤ℤ◌, int_lt, true, false, [], length, IfOk, IfSome, IsFalse, IsNone, IsTrue};
 ghost use Rattle.std.specs.List.Sorted.{IsPartitionPoint, IsStrictlySortedBy};
 ghost use Rattle.std.specs.Ordering.{int_cmp};
 ghost use Rattle.cluster_terms.specs.Row.{last_token, rows_between};
@@ -7,7 +7,7 @@ ghost use Rattle.placement_deltas.specs.Deltas.{ChangesNothing, EndAtCuts, IsDel
 use crate::delta_row::{DeltaRow, DeltaRows};
 use crate::joining::joined;
 use crate::unchanged::Unchanged;
-use cluster_terms::{Memory, Token, TryCopy, rows_between};
+use cluster_terms::{Memory, Token, TryCopy, row_index, row_index_near, rows_between};
 use node_sets::NodeSet;
 use std::alloc::Global;
 use std::marker::Model;
@@ -29,53 +29,6 @@ impl Model for Delta {
     ghost view = { λ delta. delta.rows };
 
     ghost invariant = { λ delta. IsDelta delta.rows };
-}
-
-/// How many rows end before a token.
-fn count_before(rows: &[DeltaRow], t: Token) -> usize
-    requires { IsDelta rows.now }
-    ensures bound { result < length rows.now }
-    ensures split { IsPartitionPoint (λ r. int_lt (last_token r.right) t ≡ true)
-        (λ r. int_lt (last_token r.right) t ≡ false) rows.now result }
-{
-    let number = t.value();
-    rows.partition_point(|row| row.last_token().value() < number)
-}
-
-/// Whether the row at a position is the first one that ends at or after a token.
-fn is_row_of(rows: &[DeltaRow], at: usize, t: Token) -> bool
-    requires { IsDelta rows.now }
-    ensures bound { IsTrue result → at < length rows.now }
-    ensures split { IsTrue result → IsPartitionPoint (λ r. int_lt (last_token r.right) t ≡ true)
-        (λ r. int_lt (last_token r.right) t ≡ false) rows.now at }
-{
-    if at >= rows.len() {
-        return false;
-    }
-    if rows[at].last_token() < t {
-        return false;
-    }
-    if at == 0 {
-        return true;
-    }
-    rows[at - 1].last_token() < t
-}
-
-/// How many rows end before a token: `near` or one more, if that is right, and otherwise by a binary search.
-fn count_near(rows: &[DeltaRow], near: usize, t: Token) -> usize
-    requires { IsDelta rows.now }
-    ensures bound { result < length rows.now }
-    ensures split { IsPartitionPoint (λ r. int_lt (last_token r.right) t ≡ true)
-        (λ r. int_lt (last_token r.right) t ≡ false) rows.now result }
-{
-    if is_row_of(rows, near, t) {
-        return near;
-    }
-    let next = near.saturating_add(1);
-    if is_row_of(rows, next, t) {
-        return next;
-    }
-    count_before(rows, t)
 }
 
 /// Whether no node is gained and none is lost in a row.
@@ -130,7 +83,7 @@ impl Delta {
         ensures { (result.0.now, result.1.now) ≡ delta_at self.now t }
     {
         let rows = self.rows();
-        let row = &rows[count_before(rows, t)];
+        let row = &rows[row_index(rows, t)];
         (&row.gained, &row.lost)
     }
 
@@ -145,7 +98,7 @@ impl Delta {
             (λ r. int_lt (last_token r.right) t ≡ false) self.now near.new }
     {
         let rows = self.rows();
-        let found = count_near(rows, *near, t);
+        let found = row_index_near(rows, *near, t);
         *near = found;
         let row = &rows[found];
         (&row.gained, &row.lost)
@@ -159,7 +112,7 @@ impl Delta {
         ensures unchanged { IfSome result (λ tokens. ChangesNothing self.now tokens.first tokens.last) }
     {
         let rows = self.rows();
-        let found = count_near(rows, *near, t);
+        let found = row_index_near(rows, *near, t);
         *near = found;
         let row = &rows[found];
         if !changes_nothing(row) {

@@ -1,7 +1,7 @@
 ghost use Rattle.std.specs.Prelude.{◌≡◌};
 ghost use Rattle.cluster_terms.specs.Row.{last_token};
 
-use cluster_terms::{Memory, RightEnd, SmallList, Token, TryCopy};
+use cluster_terms::{Memory, RightEnd, RingRow, SmallList, Token, TryCopy};
 use node_sets::NodeSet;
 
 /// The nodes that the tokens of a range gain, and the nodes that they lose. The range begins where the row before it
@@ -21,10 +21,15 @@ impl DeltaRow {
     pub fn last_token(&self) -> Token
         ensures { result ≡ last_token self.now.right }
     {
-        match self.right {
-            RightEnd::At(token) => token,
-            RightEnd::Max => Token::new(i64::MAX),
-        }
+        self.right.last_token()
+    }
+}
+
+impl RingRow for DeltaRow {
+    ghost right = { λ row. row.right };
+
+    fn right_end(&self) -> RightEnd {
+        self.right
     }
 }
 

@@ -1,6 +1,6 @@
 -- Maps whose sets are exchanged: their ranges stay, and the last change is made first.
 use Rattle.std.proofs.Common.{◌≡◌, ℕ, zero, suc, ◌<◌, ◌≤◌, List, [], ◌∷◌, ◌++◌, length, get_or, slice_set, refl, ap, arith}
-use Rattle.range_placements.specs.Exchanging.{exchanged, with_sets}
+use Rattle.range_placements.specs.Exchanging.{with_changes, with_sets}
 use Rattle.range_placements.specs.Placements.{IsPlacementMap}
 use Rattle.range_placements.specs.declared.placement_row.PlacementRow.{PlacementRow}
 use Rattle.range_placements.specs.declared.row_changes.RowChange.{RowChange}
@@ -15,13 +15,13 @@ sets_map (suc n) p (row ∷ []) is = is
 sets_map (suc zero) p (row ∷ next ∷ rows) is = is
 sets_map (suc (suc n)) p (row ∷ next ∷ rows) is = (is.0, sets_map (suc n) p (next ∷ rows) is.1)
 
-pub exchanged_map : (changes : List RowChange) (rows : List PlacementRow) → IsPlacementMap rows → IsPlacementMap (exchanged changes rows)
+pub exchanged_map : (changes : List RowChange) (rows : List PlacementRow) → IsPlacementMap rows → IsPlacementMap (with_changes changes rows)
 exchanged_map [] rows is = is
-exchanged_map (c ∷ changes) rows is = sets_map c.at (c.reads, c.writes) (exchanged changes rows) (exchanged_map changes rows is)
+exchanged_map (c ∷ changes) rows is = sets_map c.at (c.reads, c.writes) (with_changes changes rows) (exchanged_map changes rows is)
 
 -- ---- the changes one by one
 
-pub exchanged_last : (changes : List RowChange) (c : RowChange) (rows : List PlacementRow) → exchanged (changes ++ c ∷ []) rows ≡ exchanged changes (with_sets c.at (c.reads, c.writes) rows)
+pub exchanged_last : (changes : List RowChange) (c : RowChange) (rows : List PlacementRow) → with_changes (changes ++ c ∷ []) rows ≡ with_changes changes (with_sets c.at (c.reads, c.writes) rows)
 exchanged_last [] c rows = refl
 exchanged_last (d ∷ changes) c rows = ap (with_sets d.at (d.reads, d.writes)) (exchanged_last changes c rows)
 

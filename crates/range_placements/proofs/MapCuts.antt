@@ -7,13 +7,14 @@ use Rattle.std.specs.declared.cmp.Ordering.TheVariants.{Less, Equal, Greater}
 use Rattle.std.proofs.lemmas.Bool.{false≢true, or_cases, or_parts, true≢false}
 use Rattle.std.proofs.lemmas.Bool.Decides.{Decides-int_eq}
 use Rattle.std.proofs.lemmas.Int.{ints}
+use Rattle.cluster_terms.proofs.RingRows.{before_tail}
 use Rattle.cluster_terms.specs.Arc.{greatest_token}
 use Rattle.cluster_terms.specs.Ascending.{put}
 use Rattle.cluster_terms.specs.Row.{last_token}
 use Rattle.cluster_terms.specs.declared.token.RightEnd.{RightEnd}
 use Rattle.cluster_terms.specs.declared.token.RightEnd.TheVariants.{At, Max}
-use Rattle.range_placements.proofs.MapRows.{Past, Splits, map_cons, splits_tail, within_top}
-use Rattle.range_placements.specs.Placements.{HasSameSides, IsPlacementMap, cut_of, cuts_of, ended, is_cut_of, merged_row, merged_rows, map_at, placement_in, split_row, split_rows}
+use Rattle.range_placements.proofs.MapRows.{Past, Splits, map_cons, within_top}
+use Rattle.range_placements.specs.Placements.{HasSameSides, IsPlacementMap, cut_of, cuts_of, row_until, is_cut_of, merged_row, merged_rows, map_at, placement_in, split_row, split_rows}
 use Rattle.range_placements.specs.declared.placement_row.PlacementRow.{PlacementRow}
 
 -- ---- tokens
@@ -35,7 +36,7 @@ pub split_map : (rows : List PlacementRow) (t : ℤ) → IsPlacementMap rows →
 split_map [] t map = map
 split_map (row ∷ []) t map = by (int_lt (last_token row.right) t) refl
   where
-    parts : (b : Bool) → int_lt t (last_token row.right) ≡ b → int_lt (last_token row.right) t ≡ false → IsPlacementMap ((ended row (At t) ∷ (if b then row ∷ [] else [])) ++ [])
+    parts : (b : Bool) → int_lt t (last_token row.right) ≡ b → int_lt (last_token row.right) t ≡ false → IsPlacementMap ((row_until row (At t) ∷ (if b then row ∷ [] else [])) ++ [])
     parts true before upto = (before, map)
     parts false before upto = sym (between (last_token row.right) t upto before) ∙ map
 
@@ -44,7 +45,7 @@ split_map (row ∷ []) t map = by (int_lt (last_token row.right) t) refl
     by false upto = parts (int_lt t (last_token row.right)) refl upto
 split_map (row ∷ next ∷ rows) t map = by (int_lt (last_token row.right) t) refl (split_map (next ∷ rows) t map.1)
   where
-    parts : (b : Bool) → int_lt t (last_token row.right) ≡ b → int_lt (last_token row.right) t ≡ false → IsPlacementMap ((ended row (At t) ∷ (if b then row ∷ [] else [])) ++ next ∷ rows)
+    parts : (b : Bool) → int_lt t (last_token row.right) ≡ b → int_lt (last_token row.right) t ≡ false → IsPlacementMap ((row_until row (At t) ∷ (if b then row ∷ [] else [])) ++ next ∷ rows)
     parts true before upto = (before, map)
     parts false before upto = (ap (λ w. int_lt w (last_token next.right)) (sym (between (last_token row.right) t upto before)) ∙ map.0, map.1)
 
@@ -68,7 +69,7 @@ split_same (row ∷ rows) t x = by (int_lt (last_token row.right) t) refl (split
     first true le before = ap (λ c. if c then placement_in row else map_at rows x) (sym (sooner (last_token row.right) before le))
     first false le before = refl
 
-    parts : (b : Bool) → int_lt t (last_token row.right) ≡ b → int_lt (last_token row.right) t ≡ false → map_at ((ended row (At t) ∷ (if b then row ∷ [] else [])) ++ rows) x ≡ map_at (row ∷ rows) x
+    parts : (b : Bool) → int_lt t (last_token row.right) ≡ b → int_lt (last_token row.right) t ≡ false → map_at ((row_until row (At t) ∷ (if b then row ∷ [] else [])) ++ rows) x ≡ map_at (row ∷ rows) x
     parts true before upto = first (int_le x t) refl before
     parts false before upto = ap (λ w. if int_le x w then placement_in row else map_at rows x) (sym (between (last_token row.right) t upto before))
 
@@ -79,32 +80,32 @@ split_same (row ∷ rows) t x = by (int_lt (last_token row.right) t) refl (split
 
 -- where k rows end before a token and the next row ends at it, that row ends in it
 pub split_at_end : (rows : List PlacementRow) (t : ℤ) (k : ℕ) (d : PlacementRow) → Splits t rows k → k < length rows → last_token (get_or rows k d).right ≡ t
-    → slice_set rows k (ended (get_or rows k d) (At t)) ≡ split_rows rows t
+    → slice_set rows k (row_until (get_or rows k d) (At t)) ≡ split_rows rows t
 split_at_end [] t k d split within end = absurd (omega arith)
 split_at_end (row ∷ rows) t zero d split within end =
     let upto : int_lt (last_token row.right) t ≡ false = split.1 0 d (omega arith) (omega arith) in
     let last : int_lt t (last_token row.right) ≡ false = grind (arith, ints) in
-    ap (λ b. (ended row (At t) ∷ (if b then row ∷ [] else [])) ++ rows) (sym last) ∙ ap (λ b. if b then row ∷ split_rows rows t else split_row row t ++ rows) (sym upto)
+    ap (λ b. (row_until row (At t) ∷ (if b then row ∷ [] else [])) ++ rows) (sym last) ∙ ap (λ b. if b then row ∷ split_rows rows t else split_row row t ++ rows) (sym upto)
 split_at_end (row ∷ rows) t (suc k) d split within end =
     let low : int_lt (last_token row.right) t ≡ true = split.0 0 d (omega arith) (omega arith) in
-    ap (λ rs. row ∷ rs) (split_at_end rows t k d (splits_tail row rows t k (omega arith) split) (omega arith) end)
+    ap (λ rs. row ∷ rs) (split_at_end rows t k d (before_tail (λ (r : PlacementRow). r.right) row rows t k (omega arith) split) (omega arith) end)
     ∙ ap (λ b. if b then row ∷ split_rows rows t else split_row row t ++ rows) (sym low)
 
 -- where the next row ends past the token, a row up to the token comes before it
 pub split_before : (rows : List PlacementRow) (t : ℤ) (k : ℕ) (d : PlacementRow) → Splits t rows k → k < length rows → (last_token (get_or rows k d).right ≡ t → ⊥)
-    → insert rows k (ended (get_or rows k d) (At t)) ≡ split_rows rows t
+    → insert rows k (row_until (get_or rows k d) (At t)) ≡ split_rows rows t
 split_before [] t k d split within other = absurd (omega arith)
 split_before (row ∷ rows) t zero d split within other =
     let upto : int_lt (last_token row.right) t ≡ false = split.1 0 d (omega arith) (omega arith) in
     let more : int_lt t (last_token row.right) ≡ true = past (int_lt t (last_token row.right)) refl upto in
-    ap (λ b. (ended row (At t) ∷ (if b then row ∷ [] else [])) ++ rows) (sym more) ∙ ap (λ b. if b then row ∷ split_rows rows t else split_row row t ++ rows) (sym upto)
+    ap (λ b. (row_until row (At t) ∷ (if b then row ∷ [] else [])) ++ rows) (sym more) ∙ ap (λ b. if b then row ∷ split_rows rows t else split_row row t ++ rows) (sym upto)
   where
     past : (b : Bool) → int_lt t (last_token row.right) ≡ b → int_lt (last_token row.right) t ≡ false → b ≡ true
     past true is upto = refl
     past false is upto = absurd (other (between (last_token row.right) t upto is))
 split_before (row ∷ rows) t (suc k) d split within other =
     let low : int_lt (last_token row.right) t ≡ true = split.0 0 d (omega arith) (omega arith) in
-    ap (λ rs. row ∷ rs) (split_before rows t k d (splits_tail row rows t k (omega arith) split) (omega arith) other)
+    ap (λ rs. row ∷ rs) (split_before rows t k d (before_tail (λ (r : PlacementRow). r.right) row rows t k (omega arith) split) (omega arith) other)
     ∙ ap (λ b. if b then row ∷ split_rows rows t else split_row row t ++ rows) (sym low)
 
 -- ---- a cut less
@@ -113,7 +114,7 @@ merged_past : (w : ℤ) (rows : List PlacementRow) (t : ℤ) → IsPlacementMap 
 merged_past w [] t map past = past
 merged_past w (row ∷ []) t map past = by (int_lt (last_token row.right) t)
   where
-    by : (b : Bool) → Past w (if b then row ∷ [] else ended row Max ∷ [])
+    by : (b : Bool) → Past w (if b then row ∷ [] else row_until row Max ∷ [])
     by true = past
     by false = ap (int_lt w) (sym map) ∙ past
 merged_past w (row ∷ next ∷ rows) t map past = by (int_lt (last_token row.right) t)
@@ -129,7 +130,7 @@ pub merged_map : (rows : List PlacementRow) (t : ℤ) → IsPlacementMap rows �
 merged_map [] t map = map
 merged_map (row ∷ []) t map = by (int_lt (last_token row.right) t)
   where
-    by : (b : Bool) → IsPlacementMap (if b then row ∷ [] else ended row Max ∷ [])
+    by : (b : Bool) → IsPlacementMap (if b then row ∷ [] else row_until row Max ∷ [])
     by true = map
     by false = refl
 merged_map (row ∷ next ∷ rows) t map = by (int_lt (last_token row.right) t) (merged_map (next ∷ rows) t map.1)
@@ -221,7 +222,7 @@ pub merged_same : (rows : List PlacementRow) (t x : ℤ) → IsPlacementMap rows
 merged_same [] t x map cut sides = refl
 merged_same (row ∷ []) t x map cut sides = by (int_lt (last_token row.right) t)
   where
-    by : (b : Bool) → map_at (if b then row ∷ [] else ended row Max ∷ []) x ≡ map_at (row ∷ []) x
+    by : (b : Bool) → map_at (if b then row ∷ [] else row_until row Max ∷ []) x ≡ map_at (row ∷ []) x
     by true = refl
     by false = ap (λ w. if int_le x w then placement_in row else ([], [])) (sym map)
 merged_same (row ∷ next ∷ rows) t x map cut sides =
@@ -299,7 +300,7 @@ split_cuts (row ∷ rows) t map top = by (int_lt (last_token row.right) t) refl 
     rest [] map more lt = absurd (none (last_token row.right) map lt)
     rest (next ∷ rows) map more lt = more map.1
 
-    parts : (b : Bool) → int_lt t (last_token row.right) ≡ b → int_lt (last_token row.right) t ≡ false → cuts_of ((ended row (At t) ∷ (if b then row ∷ [] else [])) ++ rows) ≡ put int_cmp t (cuts_of (row ∷ rows))
+    parts : (b : Bool) → int_lt t (last_token row.right) ≡ b → int_lt (last_token row.right) t ≡ false → cuts_of ((row_until row (At t) ∷ (if b then row ∷ [] else [])) ++ rows) ≡ put int_cmp t (cuts_of (row ∷ rows))
     parts true before upto = cuts_past row rows t map before
     parts false before upto = cuts_at row rows t map (between (last_token row.right) t upto before)
 
@@ -338,7 +339,7 @@ pub merged_cuts : (rows : List PlacementRow) (t : ℤ) → IsPlacementMap rows �
 merged_cuts [] t map cut = refl
 merged_cuts (row ∷ []) t map cut = by (int_lt (last_token row.right) t) refl
   where
-    by : (b : Bool) → int_lt (last_token row.right) t ≡ b → cuts_of (if b then row ∷ [] else ended row Max ∷ []) ≡ filter (λ s. not (int_eq t s)) (cuts_of (row ∷ []))
+    by : (b : Bool) → int_lt (last_token row.right) t ≡ b → cuts_of (if b then row ∷ [] else row_until row Max ∷ []) ≡ filter (λ s. not (int_eq t s)) (cuts_of (row ∷ []))
     by true lt = absurd (false≢true (cut_tail row [] t cut lt))
     by false upto = sym (first_goes row.right [] t (cut_first row [] t map cut upto))
 merged_cuts (row ∷ next ∷ rows) t map cut = by (int_lt (last_token row.right) t) refl (λ lt. merged_cuts (next ∷ rows) t map.1 (cut_tail row (next ∷ rows) t cut lt))
@@ -382,24 +383,24 @@ split_undone (row ∷ rows) t map free = by (int_lt (last_token row.right) t) re
     itself : int_lt t t ≡ false
     itself = grind (arith, ints)
 
-    alone : last_token row.right ≡ t → ended row Max ∷ [] ≡ row ∷ rows
+    alone : last_token row.right ≡ t → row_until row Max ∷ [] ≡ row ∷ rows
     alone is =
         let max : row.right ≡ Max = ends_in_max row rows t free is in
         let last : rows ≡ [] = only_last row rows map (ap last_token max) in
-        ap (λ right. ended row right ∷ []) (sym max) ∙ ap (λ rs. row ∷ rs) (sym last)
+        ap (λ right. row_until row right ∷ []) (sym max) ∙ ap (λ rs. row ∷ rs) (sym last)
 
-    joined : (rows : List PlacementRow) → rows ≡ [] → merged_row (ended row (At t)) rows ≡ ended row Max ∷ []
+    joined : (rows : List PlacementRow) → rows ≡ [] → merged_row (row_until row (At t)) rows ≡ row_until row Max ∷ []
     joined [] is = refl
     joined (next ∷ rows) is = absurd (some (ap length is))
       where
         some : length (next ∷ rows) ≡ 0 → ⊥
         some is = omega arith
 
-    parts : (b : Bool) → int_lt t (last_token row.right) ≡ b → int_lt (last_token row.right) t ≡ false → merged_rows ((ended row (At t) ∷ (if b then row ∷ [] else [])) ++ rows) t ≡ row ∷ rows
-    parts true before upto = ap (λ b. if b then ended row (At t) ∷ merged_rows (row ∷ rows) t else row ∷ rows) itself
+    parts : (b : Bool) → int_lt t (last_token row.right) ≡ b → int_lt (last_token row.right) t ≡ false → merged_rows ((row_until row (At t) ∷ (if b then row ∷ [] else [])) ++ rows) t ≡ row ∷ rows
+    parts true before upto = ap (λ b. if b then row_until row (At t) ∷ merged_rows (row ∷ rows) t else row ∷ rows) itself
     parts false before upto =
         let is = between (last_token row.right) t upto before in
-        ap (λ b. if b then ended row (At t) ∷ merged_rows rows t else merged_row (ended row (At t)) rows) itself
+        ap (λ b. if b then row_until row (At t) ∷ merged_rows rows t else merged_row (row_until row (At t)) rows) itself
         ∙ joined rows (only_last row rows map (ap last_token (ends_in_max row rows t free is))) ∙ alone is
 
     by : (b : Bool) → int_lt (last_token row.right) t ≡ b → merged_rows (split_rows rows t) t ≡ rows → merged_rows (if b then row ∷ split_rows rows t else split_row row t ++ rows) t ≡ row ∷ rows
@@ -417,18 +418,18 @@ merged_at (row ∷ next ∷ rows) t zero split within =
     ap (λ b. if b then row ∷ merged_rows (next ∷ rows) t else next ∷ rows) (sym upto)
 merged_at (row ∷ next ∷ rows) t (suc k) split within =
     let low : int_lt (last_token row.right) t ≡ true = split.0 0 row (omega arith) (omega arith) in
-    ap (λ rs. row ∷ rs) (merged_at (next ∷ rows) t k (splits_tail row (next ∷ rows) t k (omega arith) split) (omega arith))
+    ap (λ rs. row ∷ rs) (merged_at (next ∷ rows) t k (before_tail (λ (r : PlacementRow). r.right) row (next ∷ rows) t k (omega arith) split) (omega arith))
     ∙ ap (λ b. if b then row ∷ merged_rows (next ∷ rows) t else next ∷ rows) (sym low)
 
 -- at the last row the right end becomes Max
-pub merged_last : (rows : List PlacementRow) (t : ℤ) (k : ℕ) (d : PlacementRow) → Splits t rows k → suc k ≡ length rows → slice_set rows k (ended (get_or rows k d) Max) ≡ merged_rows rows t
+pub merged_last : (rows : List PlacementRow) (t : ℤ) (k : ℕ) (d : PlacementRow) → Splits t rows k → suc k ≡ length rows → slice_set rows k (row_until (get_or rows k d) Max) ≡ merged_rows rows t
 merged_last [] t k d split last = absurd (omega arith)
 merged_last (row ∷ []) t zero d split last =
     let upto : int_lt (last_token row.right) t ≡ false = split.1 0 row (omega arith) (omega arith) in
-    ap (λ b. if b then row ∷ [] else ended row Max ∷ []) (sym upto)
+    ap (λ b. if b then row ∷ [] else row_until row Max ∷ []) (sym upto)
 merged_last (row ∷ []) t (suc k) d split last = absurd (omega arith)
 merged_last (row ∷ next ∷ rows) t zero d split last = absurd (omega arith)
 merged_last (row ∷ next ∷ rows) t (suc k) d split last =
     let low : int_lt (last_token row.right) t ≡ true = split.0 0 row (omega arith) (omega arith) in
-    ap (λ rs. row ∷ rs) (merged_last (next ∷ rows) t k d (splits_tail row (next ∷ rows) t k (omega arith) split) (omega arith))
+    ap (λ rs. row ∷ rs) (merged_last (next ∷ rows) t k d (before_tail (λ (r : PlacementRow). r.right) row (next ∷ rows) t k (omega arith) split) (omega arith))
     ∙ ap (λ b. if b then row ∷ merged_rows (next ∷ rows) t else next ∷ rows) (sym low)

@@ -1,5 +1,5 @@
 -- The rows of a map after rows are put in and removed.
--- The contracts of `RowEdits` and `PlacementMap::edit` cite `edited` and `passed`. Of the code: no promise rests on
+-- The contracts of `RowEdits` and `PlacementMap::edit` cite `edited` and `all_passed`. Of the code: no promise rests on
 -- `rows_made`.
 use Rattle.std.specs.Prelude.{ℕ, suc, ◌+◌, List, [], ◌∷◌, ◌++◌, take, drop}
 use Rattle.range_placements.specs.declared.placement_row.PlacementRow.{PlacementRow}
@@ -26,8 +26,8 @@ rows_passed [] last = last
 rows_passed (Put keep row ∷ edits) last = keep + rows_passed edits last
 rows_passed (Skip keep skip ∷ edits) last = keep + (skip + rows_passed edits last)
 
-abbrev pub passed : Edits → ℕ
-passed edits = rows_passed edits.edits edits.keep
+abbrev pub all_passed : Edits → ℕ
+all_passed edits = rows_passed edits.edits edits.keep
 
 abbrev pub rows_made : List RowEdit → ℕ → ℕ
 rows_made [] last = last

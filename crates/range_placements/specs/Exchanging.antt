@@ -1,5 +1,5 @@
 -- The rows of a map after an exchange of sets.
--- The contract of `PlacementMap::exchange` cites `exchanged`.
+-- The contract of `PlacementMap::exchange` cites `with_changes`.
 use Rattle.std.specs.Prelude.{ℕ, zero, suc, List, [], ◌∷◌}
 use Rattle.range_placements.specs.declared.placement_row.PlacementRow.{PlacementRow}
 use Rattle.range_placements.specs.declared.row_changes.RowChange.{RowChange}
@@ -11,6 +11,6 @@ with_sets zero placement (row ∷ rows) = record { right = row.right; reads = pl
 with_sets (suc n) placement (row ∷ rows) = row ∷ with_sets n placement rows
 
 -- the rows after these changes, of which the last is made first
-abbrev pub exchanged : List RowChange → List PlacementRow → List PlacementRow
-exchanged [] rows = rows
-exchanged (c ∷ changes) rows = with_sets c.at (c.reads, c.writes) (exchanged changes rows)
+abbrev pub with_changes : List RowChange → List PlacementRow → List PlacementRow
+with_changes [] rows = rows
+with_changes (c ∷ changes) rows = with_sets c.at (c.reads, c.writes) (with_changes changes rows)

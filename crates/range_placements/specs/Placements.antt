@@ -4,7 +4,7 @@ use Rattle.std.specs.Ordering.{int_eq, nat_cmp}
 use Rattle.std.specs.Set.{is_member}
 use Rattle.cluster_terms.specs.Arc.{greatest_token}
 use Rattle.cluster_terms.specs.Ascending.{put_all}
-use Rattle.cluster_terms.specs.Row.{last_token}
+use Rattle.cluster_terms.specs.Row.{CoverRing, last_token}
 use Rattle.cluster_terms.specs.declared.token.RightEnd.{RightEnd}
 use Rattle.cluster_terms.specs.declared.token.RightEnd.TheVariants.{At, Max}
 use Rattle.node_sets.specs.NodeSets.{without}
@@ -19,11 +19,9 @@ abbrev pub map_at : List PlacementRow → ℤ → List ℕ × List ℕ
 map_at [] x = ([], [])
 map_at (row ∷ rows) x = if int_le x (last_token row.right) then placement_in row else map_at rows x
 
--- the last tokens of the rows ascend, and the last row ends in Max or at the greatest token
+-- the rows cover the ring: their last tokens ascend, and the last row ends in Max or at the greatest token
 abbrev pub IsPlacementMap : List PlacementRow → Type 0
-IsPlacementMap [] = ⊥
-IsPlacementMap (row ∷ []) = last_token row.right ≡ greatest_token
-IsPlacementMap (row ∷ next ∷ rows) = (int_lt (last_token row.right) (last_token next.right) ≡ true) × IsPlacementMap (next ∷ rows)
+IsPlacementMap rows = CoverRing (λ row. row.right) rows
 
 -- the right ends of the rows
 abbrev pub right_ends : List PlacementRow → List RightEnd
@@ -41,12 +39,12 @@ abbrev pub is_cut_of : List PlacementRow → ℤ → Bool
 is_cut_of rows t = is_member int_eq (cuts_of rows) t
 
 -- a row with another right end
-abbrev pub ended : PlacementRow → RightEnd → PlacementRow
-ended row right = record { right = right; reads = row.reads; writes = row.writes }
+abbrev pub row_until : PlacementRow → RightEnd → PlacementRow
+row_until row right = record { right = right; reads = row.reads; writes = row.writes }
 
 -- a row up to a token, and the rest of it, if tokens are left
 abbrev pub split_row : PlacementRow → ℤ → List PlacementRow
-split_row row t = ended row (At t) ∷ (if int_lt t (last_token row.right) then row ∷ [] else [])
+split_row row t = row_until row (At t) ∷ (if int_lt t (last_token row.right) then row ∷ [] else [])
 
 -- the rows with a token as a cut
 abbrev pub split_rows : List PlacementRow → ℤ → List PlacementRow
@@ -55,7 +53,7 @@ split_rows (row ∷ rows) t = if int_lt (last_token row.right) t then row ∷ sp
 
 -- the rows from a row on, joined with the row after it; the last row ends in Max instead
 abbrev pub merged_row : PlacementRow → List PlacementRow → List PlacementRow
-merged_row row [] = ended row Max ∷ []
+merged_row row [] = row_until row Max ∷ []
 merged_row row (next ∷ rows) = next ∷ rows
 
 -- the rows without a token as a cut

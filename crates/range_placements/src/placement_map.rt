@@ -1,4 +1,4 @@
-ghost use Rattle.std.specs.Prelude.{◌≡◌, ℤ, ◌≤ℤ◌, int_lt, true, false, not, ◌+◌, ◌*◌, ◌-◌, ◌^◌, ◌<◌, ◌≤◌, length, get_or, filter, IfOk, IsTrue, MatchResult};
+ghost use Rattle.std.specs.Prelude.{◌≡◌, ℤ, ◌≤ℤ◌, int_lt, true, false, not, ◌+◌, ◌*◌, ◌-◌, ◌^◌, ◌<◌, ◌≤◌, length, get_or, filter, IfOk, MatchResult};
 ghost use Rattle.std.specs.List.Sorted.{IsPartitionPoint};
 ghost use Rattle.std.specs.Ordering.{int_cmp, int_eq};
 ghost use Rattle.cluster_terms.specs.Arc.{IsToken, greatest_token};
@@ -6,14 +6,14 @@ ghost use Rattle.cluster_terms.specs.Ascending.{put};
 ghost use Rattle.cluster_terms.specs.Row.{last_token};
 ghost use Rattle.placement_deltas.specs.Deltas.{EndAtCuts, delta_at};
 ghost use Rattle.range_placements.specs.Editing.{edited};
-ghost use Rattle.range_placements.specs.Exchanging.{exchanged};
+ghost use Rattle.range_placements.specs.Exchanging.{with_changes};
 ghost use Rattle.range_placements.specs.Placements.{HasSameSides, IsPlacementMap, cuts_of, is_cut_of, merged_rows, map_at, reads_changed, right_ends, split_rows, writes_changed};
 ghost use Rattle.range_placements.specs.declared.placement_row.PlacementRow.{PlacementRow as AnyRow};
 
 use crate::placement_row::{PlacementRow, PlacementRows};
 use crate::row_changes::RowChanges;
 use crate::row_edits::RowEdits;
-use cluster_terms::{Memory, RightEnd, Steps, Token, TryCopy};
+use cluster_terms::{Memory, RightEnd, Steps, Token, TryCopy, row_index, row_index_near};
 use node_sets::NodeSet;
 use placement_deltas::Delta;
 use std::marker::Model;
@@ -38,18 +38,6 @@ impl Model for PlacementMap {
     ghost invariant = { λ map. IsPlacementMap map.rows.items };
 }
 
-/// How many rows end before a token.
-fn count_before(rows: &[PlacementRow], t: Token) -> usize
-    requires { IsPlacementMap rows.now }
-    ensures bound { result < length rows.now }
-    ensures split { IsPartitionPoint (λ r. int_lt (last_token r.right) t ≡ true)
-        (λ r. int_lt (last_token r.right) t ≡ false) rows.now result }
-    ensures token { t ≤ℤ greatest_token }
-{
-    let number = t.value();
-    rows.partition_point(|row| row.last_token().value() < number)
-}
-
 /// Whether a row ends before the token with this number. Counts one step.
 fn ends_before<L: Ledger>(row: &PlacementRow, number: i64, steps: &mut Steps<L>) -> bool
     ensures answer { result ≡ int_lt (last_token row.now.right) number }
@@ -67,6 +55,7 @@ fn find<L: Ledger>(rows: &[PlacementRow], t: Token, steps: &mut Steps<L>) -> usi
         (λ r. int_lt (last_token r.right) t ≡ false) rows.now result }
     ensures rises { steps.old ≤ steps.new }
     ensures cost { 2 ^ (steps.new - steps.old) ≤ 2 * length rows.now }
+    ensures enough { length rows.now < 2 * 2 ^ (steps.new - steps.old) }
 {
     let number = t.value();
     let mut low = 0;
@@ -82,42 +71,6 @@ fn find<L: Ledger>(rows: &[PlacementRow], t: Token, steps: &mut Steps<L>) -> usi
     low
 }
 
-/// Whether the row at a position is the first one that ends at or after a token.
-fn is_row_of(rows: &[PlacementRow], at: usize, t: Token) -> bool
-    requires { IsPlacementMap rows.now }
-    ensures bound { IsTrue result → at < length rows.now }
-    ensures split { IsTrue result → IsPartitionPoint (λ r. int_lt (last_token r.right) t ≡ true)
-        (λ r. int_lt (last_token r.right) t ≡ false) rows.now at }
-{
-    if at >= rows.len() {
-        return false;
-    }
-    if rows[at].last_token() < t {
-        return false;
-    }
-    if at == 0 {
-        return true;
-    }
-    rows[at - 1].last_token() < t
-}
-
-/// How many rows end before a token: `near` or one more, if that is right, and otherwise by a binary search.
-fn count_near(rows: &[PlacementRow], near: usize, t: Token) -> usize
-    requires { IsPlacementMap rows.now }
-    ensures bound { result < length rows.now }
-    ensures split { IsPartitionPoint (λ r. int_lt (last_token r.right) t ≡ true)
-        (λ r. int_lt (last_token r.right) t ≡ false) rows.now result }
-{
-    if is_row_of(rows, near, t) {
-        return near;
-    }
-    let next = near.saturating_add(1);
-    if is_row_of(rows, next, t) {
-        return next;
-    }
-    count_before(rows, t)
-}
-
 /// Makes a token a cut of the rows.
 fn split(rows: &mut PlacementRows, t: Token) -> Result<(), Memory>
     requires { IsPlacementMap rows.old.items }
@@ -125,7 +78,7 @@ fn split(rows: &mut PlacementRows, t: Token) -> Result<(), Memory>
         (λ _. rows.new.items ≡ rows.old.items) }
     ensures token { t ≤ℤ greatest_token }
 {
-    let at = count_before(rows.as_slice(), t);
+    let at = row_index(rows.as_slice(), t);
     if rows[at].last_token() == t {
         rows[at].right = RightEnd::At(t);
     } else {
@@ -140,7 +93,7 @@ fn merge(rows: &mut PlacementRows, t: Token)
     requires { IsPlacementMap rows.old.items }
     ensures { rows.new.items ≡ merged_rows rows.old.items t }
 {
-    let at = count_before(rows.as_slice(), t);
+    let at = row_index(rows.as_slice(), t);
     if at + 1 < rows.len() {
         let _removed = rows.remove(at);
     } else {
@@ -167,11 +120,13 @@ impl PlacementMap {
 
     /// The reads and the writes at a token. Takes no memory.
     ///
-    /// The cost is a binary search, and each comparison counts one step. For n rows 2^steps is at most 2 n.
+    /// The cost is a binary search, and each comparison counts one step. For n rows 2^steps is more than n / 2 and at
+    /// most 2 n.
     pub fn at<L: Ledger>(&self, t: Token, steps: &mut Steps<L>) -> (&NodeSet, &NodeSet)
         ensures placement { (result.0.now, result.1.now) ≡ map_at self.now t }
         ensures rises { steps.old ≤ steps.new }
         ensures cost { 2 ^ (steps.new - steps.old) ≤ 2 * length self.now }
+        ensures enough { length self.now < 2 * 2 ^ (steps.new - steps.old) }
     {
         let rows = self.rows();
         let row = &rows[find(rows, t, steps)];
@@ -191,7 +146,7 @@ impl PlacementMap {
         ensures placement { (result.now.reads, result.now.writes) ≡ map_at self.now t }
     {
         let rows = self.rows();
-        let found = count_near(rows, *near, t);
+        let found = row_index_near(rows, *near, t);
         *near = found;
         &rows[found]
     }
@@ -276,7 +231,7 @@ impl PlacementMap {
     /// Exchanges the sets of some rows for new ones. Their ranges stay. A position past the last row changes nothing.
     /// Takes no memory. The cost is a move of each new set.
     pub fn exchange(&mut self, changes: RowChanges)
-        ensures { self.new ≡ exchanged changes self.old }
+        ensures { self.new ≡ with_changes changes self.old }
     {
         changes.make(&mut self.rows);
     }

@@ -2,9 +2,9 @@ ghost use Rattle.std.specs.Prelude.{◌≡◌, IfOk};
 ghost use Rattle.cluster_terms.specs.Row.{last_token};
 ghost use Rattle.cluster_terms.specs.declared.token.RightEnd.TheVariants as right_end;
 ghost use Rattle.range_placements.specs.Changing as spec;
-ghost use Rattle.range_placements.specs.Placements.{with_change, ended, reads_changed, writes_changed};
+ghost use Rattle.range_placements.specs.Placements.{with_change, row_until, reads_changed, writes_changed};
 
-use cluster_terms::{Memory, RightEnd, Token, TryCopy};
+use cluster_terms::{Memory, RightEnd, RingRow, Token, TryCopy};
 use node_sets::NodeSet;
 use placement_deltas::Delta;
 
@@ -41,15 +41,12 @@ impl PlacementRow {
     pub fn last_token(&self) -> Token
         ensures { result ≡ last_token self.now.right }
     {
-        match self.right {
-            RightEnd::At(token) => token,
-            RightEnd::Max => Token::new(i64::MAX),
-        }
+        self.right.last_token()
     }
 
     /// The row with its right end at a token.
     pub(crate) fn up_to(&self, t: Token) -> Result<PlacementRow, Memory>
-        ensures { IfOk result (λ row. row ≡ ended self.now (right_end.At t)) }
+        ensures { IfOk result (λ row. row ≡ row_until self.now (right_end.At t)) }
     {
         Ok(PlacementRow {
             right: RightEnd::At(t),
@@ -80,6 +77,14 @@ impl PlacementRow {
             reads: self.reads.copy()?,
             writes: with_change(&self.writes, gained, lost)?,
         })
+    }
+}
+
+impl RingRow for PlacementRow {
+    ghost right = { λ row. row.right };
+
+    fn right_end(&self) -> RightEnd {
+        self.right
     }
 }
 

@@ -66,7 +66,7 @@ impl RowChanges {
 
     /// Makes the changes in these rows.
     pub(crate) fn make(mut self, rows: &mut PlacementRows)
-        ensures { rows.new.items ≡ spec.exchanged self rows.old.items }
+        ensures { rows.new.items ≡ spec.with_changes self rows.old.items }
     {
         while let Some(change) = self.changes.pop() {
             exchange(rows, change);

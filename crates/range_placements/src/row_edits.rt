@@ -142,7 +142,7 @@ impl RowEdits {
 
     /// How many rows the pass has come past.
     pub fn passed(&self) -> usize
-        ensures { result ≡ spec.passed self.now }
+        ensures { result ≡ spec.all_passed self.now }
     {
         self.passed
     }
@@ -150,11 +150,11 @@ impl RowEdits {
     /// Keeps the row at an index, which the pass hasn't come past, and removes the rows before it. `Err` means that
     /// memory ran out.
     pub fn keep(&mut self, at: usize) -> Result<(), Memory>
-        requires place { spec.passed self.old ≤ at }
+        requires place { spec.all_passed self.old ≤ at }
         requires bound { at < 2 ^ 64 - 1 }
         ensures rows { OnOk result ((rows : List AnyRow) (d : AnyRow) → at < length rows
             → spec.edited self.new rows ≡ spec.edited self.old rows ++ get_or rows at d ∷ []) }
-        ensures passed { OnOk result (spec.passed self.new ≡ at + 1) }
+        ensures passed { OnOk result (spec.all_passed self.new ≡ at + 1) }
     {
         make_room(&mut self.room, self.made)?;
         if at == self.passed {
@@ -175,7 +175,7 @@ impl RowEdits {
     pub fn put(&mut self, row: PlacementRow) -> Result<(), Memory>
         ensures rows { OnOk result ((rows : List AnyRow)
             → spec.edited self.new rows ≡ spec.edited self.old rows ++ row ∷ []) }
-        ensures passed { OnOk result (spec.passed self.new ≡ spec.passed self.old) }
+        ensures passed { OnOk result (spec.all_passed self.new ≡ spec.all_passed self.old) }
     {
         make_room(&mut self.room, self.made)?;
         let keep = self.keep;

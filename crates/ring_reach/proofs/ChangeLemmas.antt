@@ -19,9 +19,9 @@ use Rattle.cluster_terms.specs.declared.token.Pair.{Pair}
 use Rattle.node_directory.proofs.MetLists.{member_of_mapped}
 use Rattle.node_directory.specs.declared.shape.Shape.{Shape}
 use Rattle.ring_reach.proofs.TokenLemmas.{any_member, itself, member_left, member_right}
-use Rattle.ring_reach.specs.Moved.{AreAmong, HaveSameTokens, tokens_in}
+use Rattle.ring_reach.specs.Moved.{AreTokensAmong, HaveSameTokens, tokens_in}
 use Rattle.ring_reach.specs.Walk.{Course, leaves}
-use Rattle.ring_reach.specs.Windows.{window, have, bounds_of}
+use Rattle.ring_reach.specs.Windows.{window, have, window_bounds}
 
 -- ---- shapes
 
@@ -152,14 +152,14 @@ module _ (g : Group) (fixed widest moved : List Pair) (tokens : List ℤ) (comes
   in_both : (t : ℤ) → is_member int_eq tokens t ≡ true → is_member int_eq (tokens_of fixed ++ tokens_of moved) t ≡ true
   in_both t h = member_right (tokens_of fixed) (tokens_of moved) t (in_moved t h)
 
-  pub bounds_in_both : (bounds : List ℤ) → AreAmong bounds (tokens_of fixed ++ tokens) → AreAmong bounds (tokens_of fixed ++ tokens_of moved)
+  pub bounds_in_both : (bounds : List ℤ) → AreTokensAmong bounds (tokens_of fixed ++ tokens) → AreTokensAmong bounds (tokens_of fixed ++ tokens_of moved)
   bounds_in_both bounds among t h = by (is_member int_eq (tokens_of fixed) t) refl (sym (list_any-append (int_eq t) (tokens_of fixed) tokens) ∙ among t h)
     where
       by : (b : Bool) → is_member int_eq (tokens_of fixed) t ≡ b → (b || is_member int_eq tokens t) ≡ true → is_member int_eq (tokens_of fixed ++ tokens_of moved) t ≡ true
       by true e h = member_left (tokens_of fixed) (tokens_of moved) t e
       by false e h = in_both t h
 
-  pub bounds_of_ring : (t : ℤ) → is_member int_eq tokens t ≡ true → AreAmong (bounds_of (window t t ∷ [])) (tokens_of fixed ++ tokens_of moved)
+  pub bounds_of_ring : (t : ℤ) → is_member int_eq tokens t ≡ true → AreTokensAmong (window_bounds (window t t ∷ [])) (tokens_of fixed ++ tokens_of moved)
   bounds_of_ring t there u h = by (int_eq u t) refl h
     where
       by : (b : Bool) → int_eq u t ≡ b → (b || (b || false)) ≡ true → is_member int_eq (tokens_of fixed ++ tokens_of moved) u ≡ true

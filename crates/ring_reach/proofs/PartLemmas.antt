@@ -20,9 +20,9 @@ use Rattle.node_directory.specs.Tally.{lacks}
 use Rattle.ring_reach.proofs.TokenLemmas.{at_member, any_member, member_left, member_right, member_at}
 use Rattle.ring_reach.proofs.WalkLemmas.{few-within, none_yet}
 use Rattle.ring_reach.proofs.WindowLemmas.{first-all, nearest-first}
-use Rattle.ring_reach.specs.Moved.{AreAmong}
+use Rattle.ring_reach.specs.Moved.{AreTokensAmong}
 use Rattle.ring_reach.specs.Walk.{Course, leaves, IsPart}
-use Rattle.ring_reach.specs.Windows.{is_inside, window, rights_of, bounds_of, first_upto, have}
+use Rattle.ring_reach.specs.Windows.{is_inside, window, rights_of, window_bounds, first_upto, have}
 use Rattle.ring_reach.specs.declared.windows.Window.{Window}
 
 -- of the tokens, y is the nearest to x clockwise
@@ -96,13 +96,13 @@ parts-have c (w ∷ ws) up parts x =
     sym (part.reach x nearest) ∙ sym (any_leaves c x v.right tokens part.right nearest)
 
 -- and begin and end at fixed pairs and at the tokens
-parts-among : (c : Course) (tokens : List ℤ) (ws : List Window) → AllByRecursion (IsPartOf c tokens) ws → AreAmong (bounds_of ws) (tokens_of c.fixed ++ tokens)
+parts-among : (c : Course) (tokens : List ℤ) (ws : List Window) → AllByRecursion (IsPartOf c tokens) ws → AreTokensAmong (window_bounds ws) (tokens_of c.fixed ++ tokens)
 parts-among c tokens [] parts t h = absurd (false≢true h)
 parts-among c tokens (w ∷ ws) parts t h =
     by (int_eq t w.left) (int_eq t w.right) refl refl h (parts-among c tokens ws parts.1 t)
   where
-    by : (a b : Bool) → int_eq t w.left ≡ a → int_eq t w.right ≡ b → (a || (b || is_member int_eq (bounds_of ws) t)) ≡ true
-        → (is_member int_eq (bounds_of ws) t ≡ true → is_member int_eq (tokens_of c.fixed ++ tokens) t ≡ true) → is_member int_eq (tokens_of c.fixed ++ tokens) t ≡ true
+    by : (a b : Bool) → int_eq t w.left ≡ a → int_eq t w.right ≡ b → (a || (b || is_member int_eq (window_bounds ws) t)) ≡ true
+        → (is_member int_eq (window_bounds ws) t ≡ true → is_member int_eq (tokens_of c.fixed ++ tokens) t ≡ true) → is_member int_eq (tokens_of c.fixed ++ tokens) t ≡ true
     by true b e f h rest = ap (is_member int_eq (tokens_of c.fixed ++ tokens)) ((Decides-int_eq t w.left).0 e) ∙ parts.0.left
     by false true e f h rest = ap (is_member int_eq (tokens_of c.fixed ++ tokens)) ((Decides-int_eq t w.right).0 f) ∙ member_right (tokens_of c.fixed) tokens w.right parts.0.right
     by false false e f h rest = rest h
@@ -140,7 +140,7 @@ all_parts-have c tokens n ws up all rights parts x =
     parts-have c ws (subst (IsStrictlySortedBy int_cmp) (sym whole) up) (subst (λ (ts : List ℤ). AllByRecursion (IsPartOf c ts) ws) (sym whole) (from_all (IsPartOf c tokens) ws parts)) x
     ∙ ap (list_any (leaves c x)) whole
 
-pub all_parts-among : (c : Course) (tokens : List ℤ) (ws : List Window) → All (IsPartOf c tokens) ws → AreAmong (bounds_of ws) (tokens_of c.fixed ++ tokens)
+pub all_parts-among : (c : Course) (tokens : List ℤ) (ws : List Window) → All (IsPartOf c tokens) ws → AreTokensAmong (window_bounds ws) (tokens_of c.fixed ++ tokens)
 all_parts-among c tokens ws parts = parts-among c tokens ws (from_all (IsPartOf c tokens) ws parts)
 
 -- ---- nothing to find

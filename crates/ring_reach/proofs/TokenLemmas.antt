@@ -6,7 +6,7 @@ use Rattle.std.proofs.lemmas.List.Folds.{list_any-append, list_any_at}
 use Rattle.std.specs.List.{AllByRecursion, list_any, slice_get}
 use Rattle.std.specs.Ordering.{int_eq}
 use Rattle.std.specs.Set.{is_member}
-use Rattle.ring_reach.specs.Moved.{AreAmong}
+use Rattle.ring_reach.specs.Moved.{AreTokensAmong}
 
 pub itself : (t : ℤ) (ts : List ℤ) → is_member int_eq (t ∷ ts) t ≡ true
 itself t ts = or_left (int_eq t t) (is_member int_eq ts t) ((Decides-int_eq t t).1 refl)
@@ -43,7 +43,7 @@ pub member_right : (ts us : List ℤ) (t : ℤ) → is_member int_eq us t ≡ tr
 member_right ts us t h = list_any-append (int_eq t) ts us ∙ or_right (is_member int_eq ts t) (is_member int_eq us t) h
 
 -- what holds of all tokens holds of all that are among them
-pub all_among : (P : ℤ → Type 0) (ts us : List ℤ) → AreAmong ts us → AllByRecursion P us → AllByRecursion P ts
+pub all_among : (P : ℤ → Type 0) (ts us : List ℤ) → AreTokensAmong ts us → AllByRecursion P us → AllByRecursion P ts
 all_among P [] us among all = tt
 all_among P (t ∷ ts) us among all =
     (at_member P us t all (among t (itself t ts)), all_among P ts us (λ u h. among u (or_right (int_eq u t) (is_member int_eq ts u) h)) all)

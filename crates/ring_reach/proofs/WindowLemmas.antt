@@ -8,7 +8,7 @@ use Rattle.std.proofs.lemmas.Int.{ints}
 use Rattle.std.proofs.lemmas.Map.Keys.{sorted_head, sorted_tail}
 use Rattle.cluster_terms.proofs.ReachLemmas.{arc-between}
 use Rattle.cluster_terms.specs.Arc.{in_arc}
-use Rattle.ring_reach.specs.Windows.{is_inside, rights_of, bounds_of, first_upto, nearest, have, any_have}
+use Rattle.ring_reach.specs.Windows.{is_inside, rights_of, window_bounds, first_upto, nearest, have, any_have}
 use Rattle.ring_reach.specs.declared.windows.Window.{Window}
 
 -- ---- by search
@@ -133,18 +133,18 @@ module _ (x y : ℤ) (le : x ≤ℤ y) where
   upto-between : (r : ℤ) → in_arc x y r ≡ false → int_le x r ≡ int_le y r
   upto-between r clear = grind (arith, ints)
 
-  first-between : (past : Window) (ws : List Window) → IsClear (bounds_of ws) → first_upto past ws x ≡ first_upto past ws y
+  first-between : (past : Window) (ws : List Window) → IsClear (window_bounds ws) → first_upto past ws x ≡ first_upto past ws y
   first-between past [] clear = refl
   first-between past (w ∷ ws) clear = λ i. cond (upto-between w.right clear.1.0 i) w (first-between past ws clear.1.1 i)
 
   inside-between : (w : Window) → in_arc x y w.left ≡ false → in_arc x y w.right ≡ false → is_inside x w ≡ is_inside y w
   inside-between w left right = ap not (arc-between x y w.right w.left le right left)
 
-  all_inside : (ws : List Window) → IsClear (bounds_of ws) → AllByRecursion (λ w. is_inside x w ≡ is_inside y w) ws
+  all_inside : (ws : List Window) → IsClear (window_bounds ws) → AllByRecursion (λ w. is_inside x w ≡ is_inside y w) ws
   all_inside [] clear = tt
   all_inside (w ∷ ws) clear = (inside-between w clear.0 clear.1.0, all_inside ws clear.1.1)
 
-  have-between : (ws : List Window) → IsClear (bounds_of ws) → have ws x ≡ have ws y
+  have-between : (ws : List Window) → IsClear (window_bounds ws) → have ws x ≡ have ws y
   have-between [] clear = refl
   have-between (w ∷ ws) clear =
       let all = all_inside (w ∷ ws) clear in
@@ -159,7 +159,7 @@ module _ (x y : ℤ) (le : x ≤ℤ y) where
   clear_back [] us clear = clear
   clear_back (t ∷ ts) us clear = clear_back ts us clear.1
 
-  pub any_have-between : (all : List (List Window)) → IsClear (flat_map bounds_of all) → any_have all x ≡ any_have all y
+  pub any_have-between : (all : List (List Window)) → IsClear (flat_map window_bounds all) → any_have all x ≡ any_have all y
   any_have-between [] clear = refl
   any_have-between (ws ∷ all) clear =
-      λ i. have-between ws (clear_front (bounds_of ws) (flat_map bounds_of all) clear) i || any_have-between all (clear_back (bounds_of ws) (flat_map bounds_of all) clear) i
+      λ i. have-between ws (clear_front (window_bounds ws) (flat_map window_bounds all) clear) i || any_have-between all (clear_back (window_bounds ws) (flat_map window_bounds all) clear) i

@@ -16,5 +16,5 @@ abbrev pub HaveSameTokens : List ℤ → List ℤ → Type 0
 HaveSameTokens ts us = (t : ℤ) → is_member int_eq ts t ≡ is_member int_eq us t
 
 -- all of these tokens are among others
-abbrev pub AreAmong : List ℤ → List ℤ → Type 0
-AreAmong ts us = (t : ℤ) → is_member int_eq ts t ≡ true → is_member int_eq us t ≡ true
+abbrev pub AreTokensAmong : List ℤ → List ℤ → Type 0
+AreTokensAmong ts us = (t : ℤ) → is_member int_eq ts t ≡ true → is_member int_eq us t ≡ true

@@ -17,9 +17,9 @@ is_inside t w = not (in_arc t w.right w.left)
 abbrev pub rights_of : List Window → List ℤ
 rights_of ws = map (λ w. w.right) ws
 
-abbrev pub bounds_of : List Window → List ℤ
-bounds_of [] = []
-bounds_of (w ∷ ws) = w.left ∷ w.right ∷ bounds_of ws
+abbrev pub window_bounds : List Window → List ℤ
+window_bounds [] = []
+window_bounds (w ∷ ws) = w.left ∷ w.right ∷ window_bounds ws
 
 -- the first window that ends at or after a token, or `past` if there is none
 abbrev pub first_upto : Window → List Window → ℤ → Window

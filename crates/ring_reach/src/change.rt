@@ -1,8 +1,8 @@
 ghost use Rattle.std.specs.Prelude.{◌≡◌, ℤ, IfOk};
 ghost use Rattle.node_directory.specs.Members.{group_of};
 ghost use Rattle.ring_reach.specs.Change.{reaches_in, tokens_of_both};
-ghost use Rattle.ring_reach.specs.Moved.{AreAmong, HaveSameTokens, tokens_in};
-ghost use Rattle.ring_reach.specs.Windows.{bounds_of, have};
+ghost use Rattle.ring_reach.specs.Moved.{AreTokensAmong, HaveSameTokens, tokens_in};
+ghost use Rattle.ring_reach.specs.Windows.{window_bounds, have};
 
 use crate::shape::common_shape;
 use crate::token_set::TokenSet;
@@ -42,7 +42,7 @@ impl<'a> Change<'a> {
     pub fn windows(&self, alloc: Global, members: &Members<'a>) -> Result<Windows, Memory>
         ensures reach { IfOk result (λ windows. (x : ℤ)
             → have windows x ≡ reaches_in self.now (group_of members.now) x) }
-        ensures bounds { IfOk result (λ windows. AreAmong (bounds_of windows) (tokens_of_both self.now)) }
+        ensures bounds { IfOk result (λ windows. AreTokensAmong (window_bounds windows) (tokens_of_both self.now)) }
     {
         let moved = tokens_of(alloc, members, self.moved)?;
         let Some(first) = moved.as_slice().first() else {

@@ -2,8 +2,8 @@ ghost use Rattle.std.specs.Prelude.{◌≡◌, ℤ, IfOk};
 ghost use Rattle.std.specs.List.{flat_map};
 ghost use Rattle.cluster_terms.specs.Replication.{groups_of};
 ghost use Rattle.ring_reach.specs.Change.{reaches_any, tokens_of_both};
-ghost use Rattle.ring_reach.specs.Moved.{AreAmong};
-ghost use Rattle.ring_reach.specs.Windows.{any_have, bounds_of};
+ghost use Rattle.ring_reach.specs.Moved.{AreTokensAmong};
+ghost use Rattle.ring_reach.specs.Windows.{any_have, window_bounds};
 
 use crate::change::Change;
 use crate::windows::Windows;
@@ -21,7 +21,7 @@ fn windows_in_datacenters<'a>(
     ensures reach { IfOk result (λ groups. (x : ℤ) → any_have groups.items x
         ≡ reaches_any change.now (groups_of dir.now.rows (Replication.Topology factors.now)) x) }
     ensures bounds { IfOk result (λ groups.
-        AreAmong (flat_map bounds_of groups.items) (tokens_of_both change.now)) }
+        AreTokensAmong (flat_map window_bounds groups.items) (tokens_of_both change.now)) }
 {
     let mut groups = Vec::with_capacity(alloc, factors.len())?;
     for (name, rf) in factors {
@@ -42,7 +42,7 @@ pub fn windows_in_groups<'a>(
     ensures reach { IfOk result (λ groups. (x : ℤ) → any_have groups.items x
         ≡ reaches_any change.now (groups_of dir.now.rows replication.now) x) }
     ensures bounds { IfOk result (λ groups.
-        AreAmong (flat_map bounds_of groups.items) (tokens_of_both change.now)) }
+        AreTokensAmong (flat_map window_bounds groups.items) (tokens_of_both change.now)) }
 {
     match replication {
         Replication::Simple(rf) => {

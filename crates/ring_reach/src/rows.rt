@@ -3,7 +3,7 @@ ghost use Rattle.std.specs.List.{AllByRecursion, flat_map};
 ghost use Rattle.cluster_terms.specs.Arc.{IsToken};
 ghost use Rattle.cluster_terms.specs.Row as spec;
 ghost use Rattle.ring_reach.specs.Moved.{HaveSameTokens};
-ghost use Rattle.ring_reach.specs.Windows.{any_have, bounds_of};
+ghost use Rattle.ring_reach.specs.Windows.{any_have, window_bounds};
 
 use crate::token_set::TokenSet;
 use crate::windows::{Window, Windows};
@@ -12,7 +12,7 @@ use std::alloc::Global;
 
 /// Adds the tokens at which windows begin and end.
 fn push_bounds(bounds: &mut Vec<Token>, windows: &[Window]) -> Result<(), Memory>
-    ensures { OnOk result (bounds.new.items ≡ bounds.old.items ++ bounds_of windows.now) }
+    ensures { OnOk result (bounds.new.items ≡ bounds.old.items ++ window_bounds windows.now) }
 {
     for window in windows {
         bounds.push(window.left)?;
@@ -23,7 +23,7 @@ fn push_bounds(bounds: &mut Vec<Token>, windows: &[Window]) -> Result<(), Memory
 
 /// The tokens at which windows begin and end.
 pub fn cuts_of(alloc: Global, groups: &[Windows]) -> Result<TokenSet, Memory>
-    ensures { IfOk result (λ cuts. HaveSameTokens cuts (flat_map bounds_of groups.now)) }
+    ensures { IfOk result (λ cuts. HaveSameTokens cuts (flat_map window_bounds groups.now)) }
 {
     let mut bounds = Vec::new(alloc);
     for windows in groups {

@@ -1,9 +1,9 @@
 ghost use Rattle.std.specs.Prelude.{◌≡◌, ℤ, None, ◌++◌, IfOk, OnOk};
 ghost use Rattle.std.specs.List.{list_any};
 ghost use Rattle.cluster_terms.specs.Pair.{tokens_of};
-ghost use Rattle.ring_reach.specs.Moved.{AreAmong};
+ghost use Rattle.ring_reach.specs.Moved.{AreTokensAmong};
 ghost use Rattle.ring_reach.specs.Walk as spec;
-ghost use Rattle.ring_reach.specs.Windows.{bounds_of, have};
+ghost use Rattle.ring_reach.specs.Windows.{window_bounds, have};
 
 use crate::token_set::TokenSet;
 use crate::windows::{Window, Windows};
@@ -83,7 +83,7 @@ impl<'a> Walk<'a> {
         ensures reach { IfOk result (λ windows. (x : ℤ)
             → have windows x ≡ list_any (spec.leaves (spec.course_of self.now) x) moved.now) }
         ensures bounds { IfOk result (λ windows.
-            AreAmong (bounds_of windows) (tokens_of self.now.fixed.now ++ moved.now)) }
+            AreTokensAmong (window_bounds windows) (tokens_of self.now.fixed.now ++ moved.now)) }
     {
         let tokens = moved.as_slice();
         let Some(last) = tokens.last() else {
@@ -109,7 +109,7 @@ impl<'a> Walk<'a> {
         ensures reach { IfOk result (λ windows. (x : ℤ)
             → have windows x ≡ list_any (spec.leaves (spec.course_of self.now) x) moved.now) }
         ensures bounds { IfOk result (λ windows.
-            AreAmong (bounds_of windows) (tokens_of self.now.fixed.now ++ moved.now)) }
+            AreTokensAmong (window_bounds windows) (tokens_of self.now.fixed.now ++ moved.now)) }
     {
         let racks = self.shape.wanted.saturating_sub(self.shape.spare);
         let mut tally = Tally::new(alloc, self.shape.wanted, racks)?;

@@ -3,6 +3,7 @@ pub mod NameWords
 pub mod Numerals
 pub mod OptionValues
 pub mod ReplicationWords
+pub mod SaidCommands
 pub mod SaidLemmas
 pub mod TokenLists
 pub mod TokenTexts

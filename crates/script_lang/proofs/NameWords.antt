@@ -4,7 +4,7 @@ use Rattle.std.proofs.lemmas.Bool.{cond-true}
 use Rattle.std.proofs.lemmas.Option.{cond_some}
 use Rattle.cluster_terms.specs.Name.{is_name}
 use Rattle.transformations.specs.declared.command.Command.TheVariants.{Register, DropKeyspace}
-use Rattle.script_lang.specs.Grammar.{register_command, drop_keyspace_command, follower_line}
+use Rattle.script_lang.specs.Grammar.{register_command, drop_keyspace_command, follower_in}
 use Rattle.script_lang.specs.declared.script_line.ScriptLine.TheVariants.{Follower}
 
 -- the name that a word is, if it is one
@@ -21,8 +21,8 @@ drop_keyspace_named word (w ∷ []) d name one is =
 drop_keyspace_named word (w ∷ v ∷ ws) d name one is = absurd (omega arith)
 
 -- F
-pub follower_named : {B : Type 0} (word : B → List ℕ) (words : List B) (d : B) (name : List ℕ) → length words ≡ 1 → name_in (word (get_or words 0 d)) ≡ Some name → follower_line (map word words) ≡ Some (Follower name)
-unfolding follower_line
+pub follower_named : {B : Type 0} (word : B → List ℕ) (words : List B) (d : B) (name : List ℕ) → length words ≡ 1 → name_in (word (get_or words 0 d)) ≡ Some name → follower_in (map word words) ≡ Some (Follower name)
+unfolding follower_in
 follower_named word [] d name one is = absurd (omega arith)
 follower_named word (w ∷ []) d name one is =
     let parts = cond_some (is_name (word w)) (word w) name is in

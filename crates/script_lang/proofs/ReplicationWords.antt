@@ -9,7 +9,7 @@ use Rattle.std.proofs.lemmas.Bool.Decides.{nat_tests}
 use Rattle.std.proofs.lemmas.List.Elements.{All-from_recursion}
 use Rattle.cluster_terms.proofs.FactorsLemmas.{factors_in_order, length-by_name}
 use Rattle.cluster_terms.specs.Ascending.{ascending}
-use Rattle.cluster_terms.specs.Factors.{IsFactorRow, IsFactors, are_factors, by_name, names_of}
+use Rattle.cluster_terms.specs.Factors.{IsFactorRow, IsFactors, are_factors, by_datacenter, names_of}
 use Rattle.cluster_terms.specs.Name.{is_name}
 use Rattle.cluster_terms.specs.Replication.{IsReplication}
 use Rattle.cluster_terms.specs.ReplicationText.{factors_of, is_colon, replication_of_words, factor_row_of, rows_of, simple_of}
@@ -51,7 +51,7 @@ unfolding rows_of
 of_rows words = where_true (AllByRecursion IsFactorRow) (list_all (λ word. is_some (factor_row_of word)) words) (filter_map factor_row_of words) (λ e. of_each_row words)
 
 of_factors : (rows : List (List ℕ × ℕ)) → AllByRecursion IsFactorRow rows → IfSome (factors_of rows) IsFactors
-of_factors rows all = where_true IsFactors (are_factors rows) (ascending by_name rows) (λ e.
+of_factors rows all = where_true IsFactors (are_factors rows) (ascending by_datacenter rows) (λ e.
     let some : 1 ≤ length rows = grind (arith, nat_tests, e) in
     let few : length rows ≤ 16 = grind (arith, nat_tests, e) in
     let count : distinct_count bytes_eq (names_of rows) ≡ length rows = grind (arith, nat_tests, e) in

@@ -125,23 +125,23 @@ command_of [] = None
 command_of (word ∷ words) = command_named word words
 
 -- ID COMMAND
-unfoldable pub commit_line : List (List ℕ) → Option ScriptLine
-commit_line [] = None
-commit_line (id ∷ command) = option_and_then (λ n. option_map (Commit n) (command_of command)) (number_below (2 ^ 64) id)
+unfoldable pub commit_in : List (List ℕ) → Option ScriptLine
+commit_in [] = None
+commit_in (id ∷ command) = option_and_then (λ n. option_map (Commit n) (command_of command)) (number_below (2 ^ 64) id)
 
 -- F
-unfoldable pub follower_line : List (List ℕ) → Option ScriptLine
-follower_line (name ∷ []) = if is_name name then Some (Follower name) else None
-follower_line _ = None
+unfoldable pub follower_in : List (List ℕ) → Option ScriptLine
+follower_in (name ∷ []) = if is_name name then Some (Follower name) else None
+follower_in _ = None
 
 -- F E
-unfoldable pub deliver_line : List (List ℕ) → Option ScriptLine
-deliver_line (name ∷ epoch ∷ []) = if is_name name then option_map (Deliver name) (number_below (2 ^ 64) epoch) else None
-deliver_line _ = None
+unfoldable pub deliver_in : List (List ℕ) → Option ScriptLine
+deliver_in (name ∷ epoch ∷ []) = if is_name name then option_map (Deliver name) (number_below (2 ^ 64) epoch) else None
+deliver_in _ = None
 
-unfoldable pub snapshot_line : List (List ℕ) → Option ScriptLine
-snapshot_line (name ∷ epoch ∷ []) = if is_name name then option_map (Snapshot name) (number_below (2 ^ 64) epoch) else None
-snapshot_line _ = None
+unfoldable pub snapshot_in : List (List ℕ) → Option ScriptLine
+snapshot_in (name ∷ epoch ∷ []) = if is_name name then option_map (Snapshot name) (number_below (2 ^ 64) epoch) else None
+snapshot_in _ = None
 
 -- a target: @ and an epoch, or the name of a follower
 unfoldable pub target_of : List ℕ → Option Target
@@ -176,10 +176,10 @@ local_line _ = None
 unfoldable pub line_of_words : List (List ℕ) → Option ScriptLine
 line_of_words [] = None
 line_of_words (word ∷ words) =
-    if bytes_eq word (codes "commit") then commit_line words
-    else if bytes_eq word (codes "follower") then follower_line words
-    else if bytes_eq word (codes "deliver") then deliver_line words
-    else if bytes_eq word (codes "snapshot") then snapshot_line words
+    if bytes_eq word (codes "commit") then commit_in words
+    else if bytes_eq word (codes "follower") then follower_in words
+    else if bytes_eq word (codes "deliver") then deliver_in words
+    else if bytes_eq word (codes "snapshot") then snapshot_in words
     else if bytes_eq word (codes "place") then place_line words
     else if bytes_eq word (codes "nodes") then nodes_line words
     else if bytes_eq word (codes "quorum") then quorum_line words

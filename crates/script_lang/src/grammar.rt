@@ -51,9 +51,9 @@ fn line_of_words(alloc: Global, words: &[&[u8]]) -> Result<Option<ScriptLine>, M
 }
 
 /// The line `commit ID COMMAND`, from the words after the first. Returns `None` for other words.
-#[tactic(auto, unfolding(crate::specs::Grammar::commit_line))]
+#[tactic(auto, unfolding(crate::specs::Grammar::commit_in))]
 fn commit_line(alloc: Global, words: &[&[u8]]) -> Result<Option<ScriptLine>, Memory>
-    ensures { IfOk result (λ found. found ≡ spec.commit_line (map (λ word. word.now) words.now)) }
+    ensures { IfOk result (λ found. found ≡ spec.commit_in (map (λ word. word.now) words.now)) }
 {
     let [id, command @ ..] = words else {
         return Ok(None);
@@ -66,9 +66,9 @@ fn commit_line(alloc: Global, words: &[&[u8]]) -> Result<Option<ScriptLine>, Mem
 }
 
 /// The line `follower F`, from the words after the first. Returns `None` for other words.
-#[tactic(auto, unfolding(crate::specs::Grammar::follower_line))]
+#[tactic(auto, unfolding(crate::specs::Grammar::follower_in))]
 fn follower_line(alloc: Global, words: &[&[u8]]) -> Result<Option<ScriptLine>, Memory>
-    ensures { IfOk result (λ found. found ≡ spec.follower_line (map (λ word. word.now) words.now)) }
+    ensures { IfOk result (λ found. found ≡ spec.follower_in (map (λ word. word.now) words.now)) }
 {
     let [name] = words else {
         return Ok(None);
@@ -80,9 +80,9 @@ fn follower_line(alloc: Global, words: &[&[u8]]) -> Result<Option<ScriptLine>, M
 }
 
 /// The line `deliver F E`, from the words after the first. Returns `None` for other words.
-#[tactic(auto, unfolding(crate::specs::Grammar::deliver_line))]
+#[tactic(auto, unfolding(crate::specs::Grammar::deliver_in))]
 fn deliver_line(alloc: Global, words: &[&[u8]]) -> Result<Option<ScriptLine>, Memory>
-    ensures { IfOk result (λ found. found ≡ spec.deliver_line (map (λ word. word.now) words.now)) }
+    ensures { IfOk result (λ found. found ≡ spec.deliver_in (map (λ word. word.now) words.now)) }
 {
     let [name, epoch] = words else {
         return Ok(None);
@@ -95,9 +95,9 @@ fn deliver_line(alloc: Global, words: &[&[u8]]) -> Result<Option<ScriptLine>, Me
 }
 
 /// The line `snapshot F E`, from the words after the first. Returns `None` for other words.
-#[tactic(auto, unfolding(crate::specs::Grammar::snapshot_line))]
+#[tactic(auto, unfolding(crate::specs::Grammar::snapshot_in))]
 fn snapshot_line(alloc: Global, words: &[&[u8]]) -> Result<Option<ScriptLine>, Memory>
-    ensures { IfOk result (λ found. found ≡ spec.snapshot_line (map (λ word. word.now) words.now)) }
+    ensures { IfOk result (λ found. found ≡ spec.snapshot_in (map (λ word. word.now) words.now)) }
 {
     let [name, epoch] = words else {
         return Ok(None);

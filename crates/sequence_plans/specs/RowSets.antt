@@ -7,15 +7,15 @@ use Rattle.token_ring.specs.Ranges.{have_token}
 use Rattle.sequence_plans.specs.declared.row_sets.RowSets.{RowSets}
 
 -- the nodes at the last token of a row, if the ranges contain it; none elsewhere
-abbrev pub within : List TokenRange → (ℤ → List ℕ) → TokenRange → List ℕ
-within ranges nodes row = if have_token ranges (last_token row.right) then nodes (last_token row.right) else []
+abbrev pub nodes_in_ranges : List TokenRange → (ℤ → List ℕ) → TokenRange → List ℕ
+nodes_in_ranges ranges nodes row = if have_token ranges (last_token row.right) then nodes (last_token row.right) else []
 
 -- the nodes before and after the movement in each row, those that are gained and lost there, and none for each row
 pub record AreRowSets (ranges : List TokenRange) (one other : ℤ → List ℕ) (rows : List TokenRange) (sets : RowSets) : Type 0 where
-  pub before : sets.before.items ≡ map (within ranges one) rows
-  pub after : sets.after.items ≡ map (within ranges other) rows
-  pub gained : sets.gained.items ≡ map (λ row. without (within ranges other row) (within ranges one row)) rows
-  pub lost : sets.lost.items ≡ map (λ row. without (within ranges one row) (within ranges other row)) rows
+  pub before : sets.before.items ≡ map (nodes_in_ranges ranges one) rows
+  pub after : sets.after.items ≡ map (nodes_in_ranges ranges other) rows
+  pub gained : sets.gained.items ≡ map (λ row. without (nodes_in_ranges ranges other row) (nodes_in_ranges ranges one row)) rows
+  pub lost : sets.lost.items ≡ map (λ row. without (nodes_in_ranges ranges one row) (nodes_in_ranges ranges other row)) rows
   pub none : sets.none.items ≡ map (λ row. []) rows
 
 -- the sets with one more row, which has these nodes before and after the movement

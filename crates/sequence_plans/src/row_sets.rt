@@ -2,7 +2,7 @@
 
 ghost use Rattle.std.specs.Prelude.{[], IfOk, OnOk};
 ghost use Rattle.sequence_plans.specs.Placers.{placed_by};
-ghost use Rattle.sequence_plans.specs.RowSets.{AreRowSets, AreWithRow, within};
+ghost use Rattle.sequence_plans.specs.RowSets.{AreRowSets, AreWithRow, nodes_in_ranges};
 
 use crate::movement_rings::MovementPlacers;
 use cluster_terms::{Memory, Steps, TokenRange};
@@ -69,8 +69,8 @@ impl RowSets {
         walks: &mut Steps<L>,
     ) -> Result<(), Memory>
         ensures { OnOk result (AreWithRow self.old
-            (within ranges.now (placed_by placers.now.before) row.now)
-            (within ranges.now (placed_by placers.now.after) row.now)
+            (nodes_in_ranges ranges.now (placed_by placers.now.before) row.now)
+            (nodes_in_ranges ranges.now (placed_by placers.now.after) row.now)
             self.new) }
     {
         let last = row.last_token();

@@ -24,8 +24,8 @@ abbrev pub next_keep : Plan StoreFail → Option ℕ
 next_keep plan = option_map (λ (fail : StoreFail). fail.keep) (find (λ (fail : StoreFail). fail.call == one_more plan.made) plan.fails)
 
 -- the plan after a call that succeeded
-abbrev pub passed : {F : Type 0} → Plan F → Plan F
-passed plan = record plan { made = one_more plan.made }
+abbrev pub call_passed : {F : Type 0} → Plan F → Plan F
+call_passed plan = record plan { made = one_more plan.made }
 
 -- the plan after a call that failed
 abbrev pub failed : {F : Type 0} → Plan F → Plan F

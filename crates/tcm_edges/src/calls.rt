@@ -1,5 +1,5 @@
 ghost use Rattle.std.specs.Prelude.{◌≡◌};
-ghost use Rattle.tcm_edges.specs.Calls.{fresh_plan, next_fails, next_keep, passed, failed};
+ghost use Rattle.tcm_edges.specs.Calls.{fresh_plan, next_fails, next_keep, call_passed, failed};
 
 use crate::store_fail::StoreFail;
 use cluster_terms::SmallList;
@@ -39,7 +39,7 @@ impl<F> Calls<F> {
 
     /// Counts a call that succeeded.
     pub(crate) fn pass(&mut self)
-        ensures { self.new ≡ passed self.old }
+        ensures { self.new ≡ call_passed self.old }
     {
         self.made = self.made.saturating_add(1);
     }

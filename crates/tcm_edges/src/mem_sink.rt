@@ -1,6 +1,6 @@
 ghost use Rattle.std.specs.Prelude.{◌≡◌, ◌<◌, [], ◌++◌, ◌↔◌, Some, length, IfErr, IfOk, IsErrOf, IsTrue, OnOk};
 ghost use Rattle.std.specs.Io.KnownBytes.{WriteAppends};
-ghost use Rattle.tcm_edges.specs.Calls.{fresh_plan, next_fails, passed, failed};
+ghost use Rattle.tcm_edges.specs.Calls.{fresh_plan, next_fails, call_passed, failed};
 ghost use Rattle.tcm_edges.specs.Causes.{count_write, OnFailed, OnMemory};
 ghost use Rattle.tcm_edges.specs.Writes.{KeptAtMemory, TakesSome, TellsAlike};
 
@@ -64,7 +64,7 @@ impl Sink for MemSink {
         ensures fails { IsErrOf result WriteFault.Failed ↔ IsTrue (next_fails self.old.plan) }
         ensures whole { IfOk result (λ n. n ≡ length bytes.now) }
         ensures after { OnOk result (self.new
-            ≡ record { bytes = self.old.bytes ++ bytes.now; plan = passed self.old.plan }) }
+            ≡ record { bytes = self.old.bytes ++ bytes.now; plan = call_passed self.old.plan }) }
         ensures failed { IfErr result (λ fault. OnFailed fault
             (self.new ≡ record self.old { plan = failed self.old.plan })) }
         ensures unchanged { IfErr result (λ fault. OnMemory fault (self.new ≡ self.old)) }

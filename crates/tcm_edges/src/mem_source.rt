@@ -1,7 +1,7 @@
 ghost use Rattle.std.specs.Prelude.{◌≡◌, ◌<◌, ◌≤◌, ◌++◌, ◌↔◌, Some, length, take, drop, IfOk, IsErr, IsTrue, OnErr};
 ghost use Rattle.std.specs.Io.{ReadsAtMost};
 ghost use Rattle.std.specs.Io.KnownBytes.{ReadConsumes};
-ghost use Rattle.tcm_edges.specs.Calls.{fresh_plan, next_fails, passed, failed};
+ghost use Rattle.tcm_edges.specs.Calls.{fresh_plan, next_fails, call_passed, failed};
 ghost use Rattle.tcm_edges.specs.Causes.{count_read};
 ghost use Rattle.tcm_edges.specs.Feed.{given_len, after_read};
 ghost use Rattle.tcm_edges.specs.Writes.{TellsAlike};
@@ -59,7 +59,7 @@ impl Source for MemSource {
         ensures count { IfOk result (λ n. n ≡ given_len self.old.feed (length buf.old)) }
         ensures given { IfOk result (λ n. buf.new ≡ take n self.old.feed.bytes ++ drop n buf.old) }
         ensures after { IfOk result (λ n. self.new
-            ≡ record { feed = after_read self.old.feed n; plan = passed self.old.plan }) }
+            ≡ record { feed = after_read self.old.feed n; plan = call_passed self.old.plan }) }
         ensures kept { OnErr result (self.new ≡ record self.old { plan = failed self.old.plan }) }
         ensures unread { OnErr result (buf.new ≡ buf.old) }
     {

@@ -1,6 +1,6 @@
 ghost use Rattle.std.specs.Prelude.{◌≡◌, ◌↔◌, Some, IfErr, IfOk, IsErrOf, IsNone, IsSome, IsSomeAnd, MatchOption, None, OnErr, OnOk, take};
 ghost use Rattle.std.specs.FinMap as map;
-ghost use Rattle.tcm_edges.specs.Calls.{fresh_plan, next_keep, passed, failed};
+ghost use Rattle.tcm_edges.specs.Calls.{fresh_plan, next_keep, call_passed, failed};
 ghost use Rattle.tcm_edges.specs.Causes.{count_load, count_write, OnFailed, OnMemory, OnLoadFailed, OnLoadMemory};
 ghost use Rattle.tcm_edges.specs.FailingFiles.{after_append, after_failed_append, after_failed_replace};
 ghost use Rattle.tcm_edges.specs.Files.{file_of, loaded_of, IsLoad, ChangesFile, OthersKept, GainsAll, GainsPart, IsReplaced, IsOldOrNew};
@@ -110,7 +110,7 @@ impl Store for MemStore {
         ensures cause { self.new.plan.faults ≡ count_load result self.old.plan.faults }
         ensures fails { IsErrOf result LoadFault.Failed ↔ IsSome (next_keep self.old.plan) }
         ensures answer { IfOk result (λ loaded. loaded ≡ loaded_of (file_of self.old.files name.now) limit) }
-        ensures after { OnOk result (self.new ≡ record self.old { plan = passed self.old.plan }) }
+        ensures after { OnOk result (self.new ≡ record self.old { plan = call_passed self.old.plan }) }
         ensures after_failed { IfErr result (λ fault. OnLoadFailed fault
             (self.new ≡ record self.old { plan = failed self.old.plan })) }
         ensures unchanged { IfErr result (λ fault. OnLoadMemory fault (self.new ≡ self.old)) }
@@ -144,7 +144,7 @@ impl Store for MemStore {
             }))) }
         ensures after { OnOk result (self.new ≡ record {
           files = after_append self.old.files name.now bytes.now;
-          plan = passed self.old.plan;
+          plan = call_passed self.old.plan;
         }) }
         ensures unchanged { IfErr result (λ fault. OnMemory fault (self.new ≡ self.old)) }
     {
@@ -177,7 +177,7 @@ impl Store for MemStore {
             }))) }
         ensures after { OnOk result (self.new ≡ record {
           files = map.insert self.old.files name.now bytes.now;
-          plan = passed self.old.plan;
+          plan = call_passed self.old.plan;
         }) }
         ensures unchanged { IfErr result (λ fault. OnMemory fault (self.new ≡ self.old)) }
     {

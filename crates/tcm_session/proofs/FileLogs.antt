@@ -3,21 +3,18 @@ use Rattle.std.proofs.Common.{◌≡◌, ℕ, Bool, true, false, if◌then◌els
 use Rattle.std.specs.List.{AllByRecursion}
 use Rattle.std.specs.Option.{IfSome}
 use Rattle.std.proofs.lemmas.Bool.{eqb-true}
-use Rattle.std.proofs.lemmas.Option.{none-some}
+use Rattle.std.proofs.lemmas.Option.{IfSome_then, none-some}
 use Rattle.std.specs.Fmt.{signed_decimal}
-use Rattle.cluster_terms.specs.Name.{is_name}
 use Rattle.cluster_terms.specs.Replication.{IsReplication}
 use Rattle.cluster_terms.specs.ReplicationText.{replication_of, words_of}
-use Rattle.serde_json.specs.Data.{Data}
 use Rattle.transformations.specs.History.{commit_refusal, is_command}
 use Rattle.transformations.specs.Log.{commands_of, entry_with_id}
+use Rattle.transformations.specs.declared.command.Command.TheVariants.{Keyspace}
 use Rattle.transformations.specs.declared.entry.Entry.{Entry}
 use Rattle.transformations.specs.declared.refusal.Refusal.{Refusal}
-use Rattle.wire_json.proofs.EntryCommands.{HoldsOfKinds, IfSome-option_and_then, IfSome-where, reading_commands}
+use Rattle.wire_json.proofs.EntryCommands.{HoldsOfKinds, reading_commands}
 use Rattle.wire_json.proofs.EntryTokens.{tokens_of_kinds}
-use Rattle.wire_json.specs.Kinds as kinds
 use Rattle.wire_json.specs.Reading.{reading}
-use Rattle.wire_json.specs.Values.{name_at, node_at, replication_at, text_at, token_at, tokens_at}
 use Rattle.wire_json.specs.declared.line.Line.{Line}
 use Rattle.wire_json.specs.declared.line.Line.TheVariants as line
 use Rattle.wire_json.specs.declared.line.ReadLineFault.{ReadLineFault}
@@ -43,69 +40,16 @@ use Rattle.tcm_session.proofs.WholeLines.{AreLines, AreLines-append, AreLines-ni
 
 -- ---- the commands of lines
 
-abbrev IsName : List ℕ → Type 0
-IsName name = is_name name ≡ true
-
-of_name : (key : List ℕ) (value : Data) → IfSome (name_at key value) IsName
-of_name key value = IfSome-option_and_then _ IsName (λ text. by text (is_name text) refl) (text_at key value)
-  where
-    by : (text : List ℕ) (b : Bool) → is_name text ≡ b → IfSome (if b then Some text else None) IsName
-    by text true e = e
-    by text false e = tt
-
-of_replication_at : (key : List ℕ) (value : Data) → IfSome (replication_at key value) IsReplication
-of_replication_at key value = IfSome-option_and_then replication_of IsReplication (λ text. of_replication (words_of text)) (text_at key value)
-
-formed_register : (value : Data) → IfSome (kinds.register_of value) IsFormed
-unfolding kinds.register_of
-formed_register value =
-    IfSome-where IsName _ IsFormed
-    (λ name n. IfSome-where IsName _ IsFormed
-    (λ dc d. IfSome-where IsName _ IsFormed (λ rack r. (n, d, r)) (name_at (codes "rack") value) (of_name (codes "rack") value))
-    (name_at (codes "dc") value) (of_name (codes "dc") value))
-    (name_at (codes "name") value) (of_name (codes "name") value)
-
-formed_keyspace : (value : Data) → IfSome (kinds.set_keyspace_of value) IsFormed
-unfolding kinds.set_keyspace_of
-formed_keyspace value =
-    IfSome-where IsName _ IsFormed
-    (λ name n. IfSome-where IsReplication _ IsFormed (λ r is. (n, is)) (replication_at (codes "replication") value) (of_replication_at (codes "replication") value))
-    (name_at (codes "name") value) (of_name (codes "name") value)
-
-formed_unsafe_join : (value : Data) → IfSome (kinds.unsafe_join_of value) IsFormed
-unfolding kinds.unsafe_join_of
-formed_unsafe_join value =
-    IfSome-option_and_then _ IsFormed (λ node. IfSome-option_and_then _ IsFormed (λ tokens. tt) (tokens_at (codes "tokens") value)) (node_at (codes "node") value)
-
-formed_prepare_join : (value : Data) → IfSome (kinds.prepare_join_of value) IsFormed
-unfolding kinds.prepare_join_of
-formed_prepare_join value =
-    IfSome-option_and_then _ IsFormed (λ node. IfSome-option_and_then _ IsFormed (λ tokens. tt) (tokens_at (codes "tokens") value)) (node_at (codes "node") value)
-
-formed_drop_keyspace : (value : Data) → IfSome (kinds.drop_keyspace_of value) IsFormed
-unfolding kinds.drop_keyspace_of
-formed_drop_keyspace value = IfSome-option_and_then _ IsFormed (λ name. tt) (name_at (codes "name") value)
-
-formed_prepare_move : (value : Data) → IfSome (kinds.prepare_move_of value) IsFormed
-unfolding kinds.prepare_move_of
-formed_prepare_move value =
-    IfSome-option_and_then _ IsFormed (λ node. IfSome-option_and_then _ IsFormed (λ token. tt) (token_at (codes "token") value)) (node_at (codes "node") value)
-
-formed_prepare_replace : (value : Data) → IfSome (kinds.prepare_replace_of value) IsFormed
-unfolding kinds.prepare_replace_of
-formed_prepare_replace value =
-    IfSome-option_and_then _ IsFormed (λ node. IfSome-option_and_then _ IsFormed (λ gone. tt) (node_at (codes "gone") value)) (node_at (codes "node") value)
-
 pub formed_kinds : HoldsOfKinds IsFormed
 formed_kinds =
     record {
-      register = formed_register;
-      unsafe_join = formed_unsafe_join;
-      keyspace = formed_keyspace;
-      drop_keyspace = formed_drop_keyspace;
-      prepare_join = formed_prepare_join;
-      prepare_move = formed_prepare_move;
-      prepare_replace = formed_prepare_replace;
+      register = λ name dc rack n d r. (n, d, r);
+      unsafe_join = λ node tokens are. tt;
+      keyspace = λ name text n. IfSome_then (replication_of text) {P = IsReplication} {Q = λ r. IsFormed (Keyspace name r)} (of_replication (words_of text)) (λ r is. (n, is));
+      drop_keyspace = λ name n. tt;
+      prepare_join = λ node tokens are. tt;
+      prepare_move = λ node token. tt;
+      prepare_replace = λ node gone. tt;
       of_node = λ n. (tt, (tt, (tt, (tt, (tt, (tt, (tt, (tt, (tt, (tt, (tt, (tt, (tt, (tt, (tt, tt)))))))))))))));
     }
 

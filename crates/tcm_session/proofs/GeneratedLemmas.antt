@@ -2,7 +2,7 @@
 use Rattle.std.proofs.Common.{◌≡◌, ℕ, suc, ◌+◌, ◌-◌, ◌*◌, ◌%◌, ◌^◌, ℤ, ◌<◌, ◌≤◌, true, false, cond, List, [], ◌∷◌, ◌++◌, length, map, codes, drop, get_or, Result, Ok, Err, OnOk, refl, sym, ap, ◌∙◌, append_assoc, append-nil, arith}
 use Rattle.std.proofs.lemmas.List.{at_drop_all, at_drop_more}
 use Rattle.tcm_session.specs.Generated.{after_line, after_lines, begins, generation_of, kind_of, nothing_generated, refusals, refused_kind, refused_line, refused_lines}
-use Rattle.tcm_session.specs.GeneratedLines.{commit_line, deliver_line, deliveries, delivers, drawn, drawn_token, each, join_line, join_lines, keyspace_lines, on_node, opening_lines, register, register_line, register_lines, round_commits, round_lines, rounds_lines, step_lines, step_words, with_token}
+use Rattle.tcm_session.specs.GeneratedLines.{commit_line, deliver_line, deliveries, delivers, drawn, drawn_token, each, join_line, join_lines, keyspace_lines, on_node, opening_lines, register_words, register_line, register_lines, round_commits, round_lines, rounds_lines, step_lines, step_words, with_token}
 use Rattle.tcm_session.specs.Machine.{SessionState, session_after}
 use Rattle.tcm_session.specs.declared.generated.kinds.AnswerKind.{AnswerKind}
 use Rattle.tcm_session.specs.declared.generated.kinds.AnswerKind.TheVariants.{Accepted, Other, Refused}
@@ -127,7 +127,7 @@ module _ (g g1 g2 g3 g4 : Generation) (s j first second : ℕ) (t u : ℤ) where
   node = 23 + 2 * j
 
   abbrev second_register : List ℕ
-  second_register = commit_line (id + 1) (register (codes "b") j 2 2)
+  second_register = commit_line (id + 1) (register_words (codes "b") j 2 2)
 
   abbrev steps : List (List ℕ)
   steps = step_lines (id + 4) node step_words
@@ -136,7 +136,7 @@ module _ (g g1 g2 g3 g4 : Generation) (s j first second : ℕ) (t u : ℤ) where
   joins x y = commit_line (id + 2) (with_token (codes "prepare-join") node x) ∷ commit_line (id + 3) (with_token (codes "prepare-join") (node + 1) y) ∷ steps
 
   pub round_committed : first ≡ drawn s → second ≡ drawn first → t ≡ drawn_token first → u ≡ drawn_token second
-      → g1 ≡ after_line g (commit_line id (register (codes "a") j 1 1)) → g2 ≡ after_line g1 second_register
+      → g1 ≡ after_line g (commit_line id (register_words (codes "a") j 1 1)) → g2 ≡ after_line g1 second_register
       → g3 ≡ after_line g2 (commit_line (id + 2) (with_token (codes "prepare-join") node t)) → g4 ≡ after_line g3 (commit_line (id + 3) (with_token (codes "prepare-join") (node + 1) u))
       → after_lines g4 steps ≡ after_lines g (round_commits s j)
   unfolding round_commits
@@ -147,7 +147,7 @@ module _ (g g1 g2 g3 g4 : Generation) (s j first second : ℕ) (t u : ℤ) where
       ∙ ap (λ x. after_lines x (commit_line (id + 3) (with_token (codes "prepare-join") (node + 1) u) ∷ steps)) c
       ∙ ap (λ x. after_lines x (joins t u)) b
       ∙ ap (λ x. after_lines x (second_register ∷ joins t u)) a
-      ∙ (λ i. after_lines g (commit_line id (register (codes "a") j 1 1) ∷ second_register ∷ joins (first_token i) (second_token i)))
+      ∙ (λ i. after_lines g (commit_line id (register_words (codes "a") j 1 1) ∷ second_register ∷ joins (first_token i) (second_token i)))
 
 -- a round: its commits, and the deliveries of the epochs from that before it on
 pub round_done : (g g' g'' : Generation) (s j before last : ℕ) → before ≡ length g.session.log → g' ≡ after_lines g (round_commits s j)

@@ -1,7 +1,7 @@
 -- What `gen` prints: no line of it begins with the word of an answer with quorums.
 use Rattle.std.proofs.Common.{ℕ, zero, suc, ◌+◌, inl, inr, List, ◌++◌, length, filter, get_or, codes, decimal, refl, ap, arith}
 use Rattle.script_lang.specs.Texts.{line}
-use Rattle.tcm_session.specs.Generated.{answers_text, count_line, counts_text, epoch_of, generation_of, if_came, is_accepted, is_refused, refused_line, refused_lines, summary}
+use Rattle.tcm_session.specs.Generated.{answers_text, count_line, counts_text, epoch_of_follower, generation_of, if_came, is_accepted, is_refused, refused_line, refused_lines, summary}
 use Rattle.tcm_session.specs.Machine.{follower_named}
 use Rattle.tcm_session.specs.Shown.{BeginsWithWord, IsOfNoQuorum}
 use Rattle.tcm_session.specs.declared.generated.generation.Generation.{Generation}
@@ -46,7 +46,7 @@ count_lines : (g : Generation) → AreLines IsOfNoQuorum (counts_text g)
 unfolding counts_text
 count_lines g =
     let last = length g.session.log in
-    let follower = epoch_of (follower_named g.session.followers (codes "f")) in
+    let follower = epoch_of_follower (follower_named g.session.followers (codes "f")) in
     AreLines-append IsOfNoQuorum (answers_text g.kinds ++ count_line (codes "EPOCH ") last) (count_line (codes "FOLLOWER ") follower)
     (AreLines-append IsOfNoQuorum (answers_text g.kinds) (count_line (codes "EPOCH ") last) (answer_lines g.kinds)
     (other_line (codes "EPOCH " ++ decimal last) (plain_decimal last) (λ e. omega arith) (λ e. omega arith)))

@@ -29,7 +29,7 @@ use Rattle.script_lang.specs.Texts.{epoch_text, no_text}
 use Rattle.script_lang.specs.declared.script_line.ScriptLine.{ScriptLine}
 use Rattle.script_lang.specs.declared.script_line.ScriptLine.TheVariants.{Commit, Follower, Deliver, Snapshot, Place, Nodes, Quorum, Local}
 use Rattle.tcm_session.specs.Machine.{Reply, SessionState, answer_from, deliver_to, follower_named, follower_reply, follower_unless_full, handed_reply, handed_text, image_at, image_named, made_reply, most_followers, new_follower, no_epoch, on_follower, only_answers, query_text, reply, reply_of, reply_to, snapshot_to, with_follower}
-use Rattle.tcm_session.specs.Steps.{AllFollow, Alone, AnswersHanded, FollowsLog, ForgetsNothing, IsBetween, IsOfOneLog, OnlyAnswers, StandsOn, Stops, StopsAny, handed_by}
+use Rattle.tcm_session.specs.Steps.{AllFollow, Alone, AnswersHanded, FollowsLog, ForgetsNothing, IsOnTheWay, IsOfOneLog, OnlyAnswers, StandsOn, Stops, StopsAny, handed_by}
 use Rattle.tcm_session.specs.declared.fault.StepFault.{StepFault}
 use Rattle.tcm_session.specs.declared.fault.StepFault.TheVariants as step
 use Rattle.tcm_session.specs.declared.followers.NamedFollower.{NamedFollower}
@@ -90,7 +90,7 @@ stops_here session name f all found =
     record {
       at = f.follower;
       is = ap (λ fs. record { log = session.log; followers = fs }) (sym (with_itself session.followers f.name f again));
-      between = subst (λ o. IfSome o (λ (g : NamedFollower). IsBetween session.log f.follower g.follower f.follower)) (sym again)
+      between = subst (λ o. IfSome o (λ (g : NamedFollower). IsOnTheWay session.log f.follower g.follower f.follower)) (sym again)
           (record { from = omega arith; to = omega arith; follows = named_follows session.log session.followers name f all found; keeps = forgets_nothing session.log f.follower });
     }
 
@@ -149,13 +149,13 @@ one_log_shown log before after (Err (Refused e r)) at shows = absurd shows
 one_log_shown log before after (Err (BadImage bad)) at shows = absurd shows
 
 -- where it stops if memory runs out
-is_between : (log : List Entry) (f at : FollowerState) (step : Handed) (handed : Result Took FollowerFault) → CutsFrom f.image.epoch step → FollowsLog log at → ForgetsNothing log f at → Performs f step handed at → IsBetween log f step.after at
+is_between : (log : List Entry) (f at : FollowerState) (step : Handed) (handed : Result Took FollowerFault) → CutsFrom f.image.epoch step → FollowsLog log at → ForgetsNothing log f at → Performs f step handed at → IsOnTheWay log f step.after at
 is_between log f at step handed cuts follows keeps comes = by handed comes
   where
-    there : at ≡ step.after → IsBetween log f step.after at
+    there : at ≡ step.after → IsOnTheWay log f step.after at
     there is = record { from = omega (arith, cuts.up, ap (λ (g : FollowerState). g.image.epoch) is); to = omega (arith, ap (λ (g : FollowerState). g.image.epoch) is); follows = follows; keeps = keeps }
 
-    by : (handed : Result Took FollowerFault) → Performs f step handed at → IsBetween log f step.after at
+    by : (handed : Result Took FollowerFault) → Performs f step handed at → IsOnTheWay log f step.after at
     by (Ok took) comes = there comes.1
     by (Err (Fork e held came)) comes = there comes.1
     by (Err (Refused e r)) comes = there comes.1
@@ -199,7 +199,7 @@ alone_handed session session' name f at step handed out out' (Err e) found is cu
       left = record {
         at = at;
         is = is ∙ ap (λ n. record { log = session.log; followers = with_follower session.followers n at }) (sym called);
-        between = subst (λ o. IfSome o (λ (g : NamedFollower). IsBetween session.log f.follower g.follower at)) (sym after) (is_between session.log f.follower at step handed cuts follows keeps comes);
+        between = subst (λ o. IfSome o (λ (g : NamedFollower). IsOnTheWay session.log f.follower g.follower at)) (sym after) (is_between session.log f.follower at step handed cuts follows keeps comes);
       };
       memory = answers.memory;
     }
@@ -411,7 +411,7 @@ stops_before session name f step all found cuts =
     record {
       at = f.follower;
       is = ap (λ fs. record { log = session.log; followers = fs }) (sym (with_itself session.followers f.name f again));
-      between = subst (λ o. IfSome o (λ (g : NamedFollower). IsBetween session.log f.follower g.follower f.follower)) (sym after)
+      between = subst (λ o. IfSome o (λ (g : NamedFollower). IsOnTheWay session.log f.follower g.follower f.follower)) (sym after)
           (record { from = omega arith; to = cuts.up; follows = named_follows session.log session.followers name f all found; keeps = forgets_nothing session.log f.follower });
     }
 

@@ -32,7 +32,7 @@ use Rattle.script_lang.proofs.SaidLemmas.{IsFormed}
 use Rattle.script_lang.specs.Texts.{nodes_text, place_text}
 use Rattle.tcm_session.specs.Limits.{input_limit, too_large_text}
 use Rattle.tcm_session.specs.Lines.{whole_lines}
-use Rattle.tcm_session.specs.Replay.{answered, ending_of, files_replayed, line_replayed, lines_replayed, loaded_replayed, nothing_replayed, read_replayed, replay_ending, report_head, report_text, then_replayed, unless_ended, after_line}
+use Rattle.tcm_session.specs.Replay.{answered, ending_of, files_replayed, line_replayed, lines_replayed, loaded_replayed, nothing_replayed, read_replayed, replay_ending, report_head, report_text, then_replayed, unless_ended, goes_on}
 use Rattle.tcm_session.specs.Shown.{IsOfNoQuorum}
 use Rattle.tcm_session.specs.declared.ending.Ending.{Ending}
 use Rattle.tcm_session.specs.declared.refused_line.Cause.{Cause}
@@ -150,7 +150,7 @@ plain_file_lines file number replay [] is = is
 plain_file_lines file number replay (bytes ∷ lines) is = by (line_replayed replay bytes) (plain_line replay bytes is) (λ next plain. plain_file_lines file (number + 1) next lines plain)
   where
     by : (r : Result Replay Cause) → GoesOnPlainly r → ((next : Replay) → IsPlainReplay next → AreLinesPlain (lines_replayed file (number + 1) next lines))
-        → AreLinesPlain (after_line file number r (λ next. lines_replayed file (number + 1) next lines))
+        → AreLinesPlain (goes_on file number r (λ next. lines_replayed file (number + 1) next lines))
     by (Ok next) plain later = later next plain
     by (Err c) plain later = plain
 

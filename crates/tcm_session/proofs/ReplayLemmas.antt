@@ -4,7 +4,7 @@ use Rattle.std.specs.Str.{bytes_eq}
 use Rattle.tcm_edges.specs.Files.{Files, file_of, loaded_of}
 use Rattle.tcm_session.specs.Limits.{input_limit}
 use Rattle.tcm_session.specs.Lines.{HasNoFeed, whole_lines}
-use Rattle.tcm_session.specs.Replay.{answered, ending_of, full_count, files_replayed, line_replayed, lines_replayed, loaded_replayed, nothing_replayed, read_replayed, replay_ending, then_replayed, after_line}
+use Rattle.tcm_session.specs.Replay.{answered, ending_of, full_count, files_replayed, line_replayed, lines_replayed, loaded_replayed, nothing_replayed, read_replayed, replay_ending, then_replayed, goes_on}
 use Rattle.tcm_session.specs.Replays.{EndsSo, FoundMemory, HandsFile, HandsFiles, LeadsTo}
 use Rattle.cluster_terms.specs.declared.memory.Memory.{Memory}
 use Rattle.follower_log.specs.Follower.{Handed, Performs}
@@ -55,21 +55,21 @@ pub record Hands (file : ℕ) (before : Replay) (bytes : List ℕ) (number : ℕ
   pub is : lines_replayed file 1 before (whole_lines bytes) ≡ lines_replayed file number replay (whole_lines rest)
 
 module _ (file : ℕ) (before : Replay) (bytes : List ℕ) (number : ℕ) (replay : Replay) (rest l more : List ℕ) (so_far : Hands file before bytes number replay rest) (e : rest ≡ l ++ 10 ∷ more) (plain : HasNoFeed l) where
-  next_line : lines_replayed file 1 before (whole_lines bytes) ≡ after_line file number (line_replayed replay l) (λ next. lines_replayed file (number + 1) next (whole_lines more))
+  next_line : lines_replayed file 1 before (whole_lines bytes) ≡ goes_on file number (line_replayed replay l) (λ next. lines_replayed file (number + 1) next (whole_lines more))
   next_line = so_far.is ∙ ap (λ x. lines_replayed file number replay (whole_lines x)) e ∙ ap (lines_replayed file number replay) (whole_lines-line l more plain)
 
   -- the next line is handed over
   pub hands_line : (o : Option Cause) (after : Replay) → o ≡ None → LeadsTo o (line_replayed replay l) after → Hands file before bytes (number + 1) after more
   hands_line o after none leads =
       let handed : line_replayed replay l ≡ Ok after = subst (λ x. LeadsTo x (line_replayed replay l) after) none leads in
-      record { is = next_line ∙ ap (λ r. after_line file number r (λ next. lines_replayed file (number + 1) next (whole_lines more))) handed }
+      record { is = next_line ∙ ap (λ r. goes_on file number r (λ next. lines_replayed file (number + 1) next (whole_lines more))) handed }
 
   -- the next line is refused
   pub hands_refused : (o : Option Cause) (after : Replay) (cause : Cause) → o ≡ Some cause → LeadsTo o (line_replayed replay l) after
       → lines_replayed file 1 before (whole_lines bytes) ≡ Err (record { file = file; line = number; cause = cause })
   hands_refused o after cause some leads =
       let refused : line_replayed replay l ≡ Err cause = subst (λ x. LeadsTo x (line_replayed replay l) after) some leads in
-      next_line ∙ ap (λ r. after_line file number r (λ next. lines_replayed file (number + 1) next (whole_lines more))) refused
+      next_line ∙ ap (λ r. goes_on file number r (λ next. lines_replayed file (number + 1) next (whole_lines more))) refused
 
 -- no line is left
 pub hands_end : (file : ℕ) (before : Replay) (bytes : List ℕ) (number : ℕ) (replay : Replay) (rest : List ℕ) → Hands file before bytes number replay rest → HasNoFeed rest

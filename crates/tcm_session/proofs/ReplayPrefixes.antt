@@ -16,7 +16,7 @@ use Rattle.wire_json.specs.declared.line.Line.TheVariants as line
 use Rattle.wire_json.specs.declared.line.ReadLineFault.{ReadLineFault}
 use Rattle.tcm_session.specs.Limits.{input_limit}
 use Rattle.tcm_session.specs.Lines.{whole_lines}
-use Rattle.tcm_session.specs.Replay.{answered, files_replayed, line_replayed, lines_replayed, loaded_replayed, nothing_replayed, read_replayed, then_replayed, unless_ended, after_line}
+use Rattle.tcm_session.specs.Replay.{answered, files_replayed, line_replayed, lines_replayed, loaded_replayed, nothing_replayed, read_replayed, then_replayed, unless_ended, goes_on}
 use Rattle.tcm_session.specs.ReplayPrefix.{AreFilesOf, AreLinesOf, ComesToPrefix, ReadsAsPart, Taking, entry_taken, files_taken, image_taken, lines_taken, loaded_lines, nothing_yet, read_taken, taken_of_files}
 use Rattle.tcm_session.specs.Taken.{ShowsPrefix}
 use Rattle.tcm_session.specs.declared.ending.Ending.{Ending}
@@ -60,7 +60,7 @@ module _ (log : List Entry) (is : IsLog log) where
     where
       by : (r : Result Replay Cause) → IsOkAnd r (λ next. Showing (read_taken so_far (reading bytes)) next)
           → ((next : Replay) → Showing (read_taken so_far (reading bytes)) next → IsOkAnd (lines_replayed file (number + 1) next lines) (λ last. Showing (lines_taken (read_taken so_far (reading bytes)) lines) last))
-          → IsOkAnd (after_line file number r (λ next. lines_replayed file (number + 1) next lines)) (λ last. Showing (lines_taken (read_taken so_far (reading bytes)) lines) last)
+          → IsOkAnd (goes_on file number r (λ next. lines_replayed file (number + 1) next lines)) (λ last. Showing (lines_taken (read_taken so_far (reading bytes)) lines) last)
       by (Ok next) on later = later next on
       by (Err c) on later = absurd on
 

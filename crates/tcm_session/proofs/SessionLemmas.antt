@@ -138,7 +138,7 @@ module _ (session : SessionState) (is : IsSession session) (name : List ℕ) whe
 
 after_said : (session : SessionState) (said : Option ScriptLine) → IsSession session → IfSome said HasTokens → IfSome said IsSaid → IsAfter session (replied session (reply_to session said))
 after_said session None is right has = same_session session is
-after_said session (Some (Commit id c)) is right has = after_commit session id c is right has
+after_said session (Some (Commit id c)) is right has = after_commit session id c is right has.1
 after_said session (Some (Follower name)) is right has = after_follower session name is
 after_said session (Some (Deliver name epoch)) is right has = after_named session is name (λ f. deliver_to session name f (entry_at session.log epoch)) (after_deliver session is name epoch)
 after_said session (Some (Snapshot name epoch)) is right has = after_named session is name (λ f. snapshot_to session name f (image_at (commands_of session.log) epoch)) (after_snapshot session is name epoch)

@@ -1,5 +1,5 @@
 -- The ends of a step.
-use Rattle.std.proofs.Common.{◌≡◌, ◌≢◌, ℕ, Bool, true, false, if◌then◌else◌, List, [], ◌∷◌, ◌++◌, length, take, Option, None, Result, Ok, Err, Some, OnOk, IfErr, MatchResult, refl, sym, ap, ◌∙◌, subst, append-nil, length-append, arith}
+use Rattle.std.proofs.Common.{◌≡◌, ◌≢◌, ℕ, ◌+◌, Bool, true, false, if◌then◌else◌, List, [], ◌∷◌, ◌++◌, length, take, Option, None, Result, Ok, Err, Some, OnOk, IfErr, MatchResult, refl, sym, ap, ◌∙◌, subst, append-nil, length-append, arith}
 use Rattle.std.proofs.Math.Seq.{take-append_seam}
 use Rattle.tcm_edges.specs.Causes.{OnFailed, OnMemory}
 use Rattle.tcm_edges.specs.Files.{ChangesFile, Files, GainsAll, GainsPart, OthersKept}
@@ -23,7 +23,7 @@ use Rattle.wire_json.specs.declared.line.Line.{Line}
 use Rattle.wire_json.specs.declared.line.ReadLineFault.{ReadLineFault}
 use Rattle.wire_json.specs.declared.line.ReadLineFault.TheVariants as read
 use Rattle.script_lang.specs.Texts.{no_text, ok_text, refusal_text}
-use Rattle.snapshot_store.specs.Images.{AreOf}
+use Rattle.tcm_session.specs.KeptImages.{AreKept}
 use Rattle.tcm_session.specs.Faults.{count_after, count_by, of_append}
 use Rattle.tcm_session.specs.LogFiles.{Gains, entry_lines, entry_read, next_entry}
 use Rattle.tcm_session.specs.Machine.{Reply, SessionState, accepted_reply, commit_text, replied}
@@ -34,7 +34,7 @@ use Rattle.tcm_session.specs.declared.followers.NamedFollower.{NamedFollower}
 use Rattle.tcm_session.specs.declared.refused_line.Cause.TheVariants as cause
 use Rattle.tcm_session.proofs.FollowerLemmas.{all_follow_on}
 use Rattle.tcm_session.proofs.GainLemmas.{Gains-nil, Gains-of_append}
-use Rattle.tcm_session.proofs.ImageLemmas.{images_on}
+use Rattle.tcm_session.proofs.ImageLemmas.{kept_on}
 
 -- ---- steps that add nothing
 
@@ -191,14 +191,14 @@ steps_noted session entry name log' out out' files files' before after (Err e) n
 
 -- an entry whose command is the permit's
 pub session_kept : (before after : List Entry) (fs : List NamedFollower) (images : List Image) (entry : Entry) (image image' : Image) (permit : Permission) → image ≡ image_after empty_image (commands_of before)
-    → IsLog before × AllFollow before fs × AreOf (commands_of before) images → IsNextEntry before entry → permit.command ≡ entry.cmd → image' ≡ next_image image permit.command → after ≡ before ++ entry ∷ []
-    → (image' ≡ image_after empty_image (commands_of after)) × IsLog after × AllFollow after fs × AreOf (commands_of after) images
+    → IsLog before × AllFollow before fs × AreKept before (length before + 1) images → IsNextEntry before entry → permit.command ≡ entry.cmd → image' ≡ next_image image permit.command → after ≡ before ++ entry ∷ []
+    → (image' ≡ image_after empty_image (commands_of after)) × IsLog after × AllFollow after fs × AreKept after (length after) images
 session_kept before after fs images entry image image' permit is (log, follow, are) next permitted enacted pushed = (
   enacted ∙ (λ i. next_image (is i) (permitted i)) ∙ sym (image_after-push empty_image (commands_of before) entry.cmd)
       ∙ ap (image_after empty_image) (sym (ap commands_of pushed ∙ commands_of-push before entry)),
   subst IsLog (sym pushed) (log_push before entry log next.epoch next.fresh next.formed next.accepted),
   subst (λ l. AllFollow l fs) (sym pushed) (all_follow_on before entry fs next.epoch follow),
-  subst (λ l. AreOf (commands_of l) images) (sym pushed) (images_on before entry images are),
+  subst (λ l. AreKept l (length l) images) (sym pushed) (kept_on before entry images are),
 )
 
 -- ---- a line of a log file

@@ -90,9 +90,9 @@ refused_lines kinds number zero = []
 refused_lines kinds number (suc count) = refused_line kinds number ++ refused_lines kinds (number + 1) count
 
 -- the epoch of a follower
-abbrev pub epoch_of : Option NamedFollower → ℕ
-epoch_of None = 0
-epoch_of (Some f) = f.follower.image.epoch
+abbrev pub epoch_of_follower : Option NamedFollower → ℕ
+epoch_of_follower None = 0
+epoch_of_follower (Some f) = f.follower.image.epoch
 
 -- the numbers of lines, of accepted commits and of each refusal; then the last epoch, and the epoch of follower f
 unfoldable pub answers_text : List AnswerKind → List ℕ
@@ -103,7 +103,7 @@ answers_text kinds =
 unfoldable pub counts_text : Generation → List ℕ
 counts_text g =
     answers_text g.kinds ++ count_line (codes "EPOCH ") (length g.session.log)
-    ++ count_line (codes "FOLLOWER ") (epoch_of (follower_named g.session.followers (codes "f")))
+    ++ count_line (codes "FOLLOWER ") (epoch_of_follower (follower_named g.session.followers (codes "f")))
 
 -- what `gen START N` comes to, and what it prints
 abbrev pub generation_of : ℕ → ℕ → Generation

@@ -20,8 +20,8 @@ commit_line id command = codes "commit " ++ decimal id ++ codes " " ++ command
 
 -- the commands: the register of a node, named by a letter and a number, in a datacenter and a rack; a word on a node;
 -- and a word on a node and a token
-abbrev pub register : List ℕ → ℕ → ℕ → ℕ → List ℕ
-register letter number dc rack =
+abbrev pub register_words : List ℕ → ℕ → ℕ → ℕ → List ℕ
+register_words letter number dc rack =
     codes "register " ++ letter ++ decimal number ++ codes " dc" ++ decimal dc ++ codes " r" ++ decimal rack
 
 abbrev pub on_node : List ℕ → ℕ → List ℕ
@@ -48,7 +48,7 @@ each line number (suc count) = line number ∷ each line (number + 1) count
 
 -- node i is registered, and joins with one token
 abbrev pub register_line : ℕ → List ℕ
-register_line i = commit_line i (register (codes "n") i (2 - i % 2) ((i - 1) / 2 % 3 + 1))
+register_line i = commit_line i (register_words (codes "n") i (2 - i % 2) ((i - 1) / 2 % 3 + 1))
 
 abbrev pub opening_token : ℕ → ℤ
 opening_token i = pos ((i - 1) * 700000000000000000) -ℤ pos 8000000000000000000
@@ -92,7 +92,7 @@ unfoldable pub round_commits : ℕ → ℕ → List (List ℕ)
 round_commits s j =
     let id = 31 + 20 * j in
     let node = 23 + 2 * j in
-    commit_line id (register (codes "a") j 1 1) ∷ commit_line (id + 1) (register (codes "b") j 2 2)
+    commit_line id (register_words (codes "a") j 1 1) ∷ commit_line (id + 1) (register_words (codes "b") j 2 2)
     ∷ commit_line (id + 2) (with_token (codes "prepare-join") node (drawn_token (drawn s)))
     ∷ commit_line (id + 3) (with_token (codes "prepare-join") (node + 1) (drawn_token (drawn (drawn s))))
     ∷ step_lines (id + 4) node step_words

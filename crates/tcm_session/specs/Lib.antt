@@ -3,6 +3,7 @@ pub mod Endings
 pub mod Faults
 pub mod Generated
 pub mod GeneratedLines
+pub mod KeptImages
 pub mod Left
 pub mod Limits
 pub mod Lines

@@ -67,15 +67,15 @@ line_replayed replay bytes = read_replayed replay (reading bytes)
 -- ---- the lines of a file
 
 -- goes on after a line, or refuses the line with this number of this file
-abbrev pub after_line : ℕ → ℕ → Result Replay Cause → (Replay → Result Replay RefusedLine) → Result Replay RefusedLine
-after_line file number (Ok replay) next = next replay
-after_line file number (Err cause) next = Err (record { file = file; line = number; cause = cause })
+abbrev pub goes_on : ℕ → ℕ → Result Replay Cause → (Replay → Result Replay RefusedLine) → Result Replay RefusedLine
+goes_on file number (Ok replay) next = next replay
+goes_on file number (Err cause) next = Err (record { file = file; line = number; cause = cause })
 
 -- the replay after lines of a file, of which the first has this number; or the first line that is refused
 abbrev pub lines_replayed : ℕ → ℕ → Replay → List (List ℕ) → Result Replay RefusedLine
 lines_replayed file number replay [] = Ok replay
 lines_replayed file number replay (bytes ∷ lines) =
-    after_line file number (line_replayed replay bytes) (λ next. lines_replayed file (number + 1) next lines)
+    goes_on file number (line_replayed replay bytes) (λ next. lines_replayed file (number + 1) next lines)
 
 -- ---- files
 

@@ -62,7 +62,7 @@ ForgetsNothing log before at = (taken : Taken) → StandsFor log taken before �
 
 -- a follower follows the log, no further back than one follower and no further on than another; it forgets nothing that
 -- the first one took
-pub record IsBetween (log : List Entry) (before due at : FollowerState) : Type 0 where
+pub record IsOnTheWay (log : List Entry) (before due at : FollowerState) : Type 0 where
   pub from : before.image.epoch ≤ at.image.epoch
   pub to : at.image.epoch ≤ due.image.epoch
   pub follows : FollowsLog log at
@@ -72,7 +72,7 @@ pub record IsBetween (log : List Entry) (before due at : FollowerState) : Type 0
 pub record Stops (f : NamedFollower) (session : SessionState) (due : List NamedFollower) (session' : SessionState) : Type 0 where
   pub at : FollowerState
   pub is : session' ≡ record session { followers = with_follower session.followers f.name at }
-  pub between : IfSome (follower_named due f.name) (λ g. IsBetween session.log f.follower g.follower at)
+  pub between : IfSome (follower_named due f.name) (λ g. IsOnTheWay session.log f.follower g.follower at)
 
 -- what a fault leaves of the session: all as before, but if memory ran out the follower that the line hands something
 -- to may have stopped on the way

@@ -42,7 +42,7 @@ fn follower_named<'a>(followers: &'a [NamedFollower], name: &str) -> Option<&'a 
 
 /// The epoch of the first follower with this name, or 0 if there is none.
 pub fn epoch_of(followers: &[NamedFollower], name: &str) -> u64
-    ensures { result ≡ generated.epoch_of (machine.follower_named followers.now name.now) }
+    ensures { result ≡ generated.epoch_of_follower (machine.follower_named followers.now name.now) }
 {
     match follower_named(followers, name) {
         Some(f) => f.follower.epoch(),

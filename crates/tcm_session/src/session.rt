@@ -7,7 +7,7 @@ ghost use Rattle.script_lang.specs.Texts as spec;
 ghost use Rattle.transformations.specs.History.{commit_refusal, empty_image, image_after, is_command};
 ghost use Rattle.transformations.specs.Log.{commands_of, entry_with_id, repeated};
 ghost use Rattle.cluster_metadata.specs.Permission.{AdmitsUnless};
-ghost use Rattle.tcm_session.specs.Generated.{epoch_of};
+ghost use Rattle.tcm_session.specs.Generated.{epoch_of_follower};
 ghost use Rattle.tcm_session.specs.Faults.{count_by};
 ghost use Rattle.tcm_session.specs.LogFiles.{Gains, entry_lines};
 ghost use Rattle.tcm_session.specs.Machine.{accepted_reply, commit_reply, commit_text, follower_named, reply, reply_to, session_next, session_over};
@@ -22,6 +22,7 @@ use crate::fault::StepFault;
 use crate::followers::{NamedFollower, close_followers, epoch_of};
 use crate::noting::note;
 use crate::query::Query;
+use crate::session::keeping::keep_image;
 use cluster_metadata::{AdmitFault, Metadata, Permit};
 use cluster_terms::{ByteText, Memory};
 use epoch_log::Log;
@@ -35,7 +36,7 @@ use transformations::{Command, Entry, Refusal};
 /// The most commands that a session accepts; each accepted command makes an epoch.
 const MOST_EPOCHS: u64 = 65_536;
 
-/// The log, the metadata after its entries, images of the log at some of its epochs, and up to 16 followers.
+/// The log, the metadata after its entries, the image of every 256th epoch before the last, and up to 16 followers.
 ///
 /// The log's epochs are 1, 2 and so on, no id stands in it twice, and its commands are a history. Each follower shows
 /// a state of the log, and the entries that wait in it are distinct entries of the log, above its epoch. A session
@@ -49,10 +50,10 @@ pub struct Session {
 }
 
 impl Model for Session {
-    ghost use Rattle.std.specs.Prelude.{◌≡◌};
+    ghost use Rattle.std.specs.Prelude.{◌≡◌, length};
     ghost use Rattle.transformations.specs.History.{empty_image, image_after};
     ghost use Rattle.transformations.specs.Log.{IsLog, commands_of};
-    ghost use Rattle.snapshot_store.specs.Images.{AreOf};
+    ghost use Rattle.tcm_session.specs.KeptImages.{AreKept};
     ghost use Rattle.tcm_session.specs.Machine.{SessionState};
     ghost use Rattle.tcm_session.specs.Steps.{AllFollow};
 
@@ -63,7 +64,7 @@ impl Model for Session {
     ghost invariant = { λ session.
         (session.metadata ≡ image_after empty_image (commands_of session.log))
         × IsLog session.log × AllFollow session.log session.followers.items
-        × AreOf (commands_of session.log) session.snapshots };
+        × AreKept session.log (length session.log) session.snapshots };
 }
 
 /// Answers a line that is refused for this reason.
@@ -147,7 +148,7 @@ impl Session {
 
     /// The epoch of the follower with this name, or 0 if there is none.
     pub(crate) fn follower_epoch(&self, name: &str) -> u64
-        ensures { result ≡ epoch_of (follower_named self.now.followers name.now) }
+        ensures { result ≡ epoch_of_follower (follower_named self.now.followers name.now) }
     {
         epoch_of(&self.followers, name)
     }
@@ -162,8 +163,8 @@ impl Session {
     /// would have moved it. Fails with `Store` only if `log` names a file, the line adds an entry, and the store failed
     /// in this step; then the followers are unchanged, and the file may have gained the entry's line or a prefix of it.
     ///
-    /// Cost: a commit costs one look-up of its id, and the cost of `Metadata::admit`. The first one with a new id after
-    /// each 256th epoch also copies the image. A line on a follower costs a comparison with the names of the followers,
+    /// Cost: a commit costs one look-up of its id, and the cost of `Metadata::admit`. The first one that is accepted
+    /// after each 256th epoch also copies the image. A line on a follower costs a comparison with the names of the followers,
     /// and the cost of `Follower::deliver` or `Follower::snapshot`. The image of an earlier epoch costs as
     /// `Snapshots::state_at` says, with at most 255 commands.
     pub fn step<D: Store>(
@@ -260,7 +261,6 @@ impl Session {
             (D.files store.old) (D.files store.new) (D.faults store.old) (D.faults store.new) result }
         ensures unnamed { option_copied log.entry ≡ None → store.new ≡ store.old }
     {
-        self.keep_image()?;
         match self.admit(&command) {
             Ok(permit) => {
                 let epoch = self.log.last_epoch() + 1;
@@ -290,7 +290,8 @@ impl Session {
         self.metadata.permit(command)
     }
 
-    /// Adds the next entry to the log, and enacts its command.
+    /// Adds the next entry to the log, and enacts its command. First the image of the last epoch is kept, if it is to
+    /// be. After a fault, the log is unchanged.
     fn accept<D: Store>(
         &mut self,
         entry: Entry,
@@ -307,6 +308,10 @@ impl Session {
             (D.files store.old) (D.files store.new) (D.faults store.old) (D.faults store.new) result }
         ensures unnamed { option_copied log.entry ≡ None → store.new ≡ store.old }
     {
+        if let Err(memory) = keep_image(&self.log, &self.metadata, &mut self.snapshots) {
+            permit.decline();
+            return Err(StepFault::from(memory));
+        }
         match note(self.alloc, &mut self.log, entry, log, store, out) {
             Ok(()) => {
                 let _epoch = self.metadata.enact(permit);

@@ -15,7 +15,7 @@ use Rattle.cluster_terms.specs.Row.{last_token, is_last, is_past, is_within, row
 use Rattle.cluster_terms.specs.declared.row.TokenRange.{TokenRange}
 use Rattle.cluster_terms.specs.declared.token.RightEnd.{RightEnd}
 use Rattle.cluster_terms.specs.declared.token.RightEnd.TheVariants.{At, Max}
-use Rattle.token_ring.specs.Joining.{grown, ended, begun_range, joined_from}
+use Rattle.token_ring.specs.Joining.{grown, ended, begun_range, chosen_from}
 use Rattle.token_ring.specs.Ranges.{have_token, ends_before, ends_open, IsRangeList, is_cut_left, is_cut_right, is_cut_out, AreCutOut, have_chosen}
 use Rattle.token_ring.proofs.RangeLemmas.{list_nil, list_cons}
 
@@ -88,7 +88,7 @@ all_ended_has (Some range) t = ap (λ b. b || false) (ended_has range t)
 -- ---- the tokens
 
 joined_has : (begun : Option TokenRange) (left : Option ℤ) (rows : List TokenRange) (chosen : List Bool) (t : ℤ) → Fits begun left → AreNext left rows → length chosen ≡ length rows
-    → have_token (joined_from begun rows chosen) t ≡ (begun_has begun t || have_chosen rows chosen t)
+    → have_token (chosen_from begun rows chosen) t ≡ (begun_has begun t || have_chosen rows chosen t)
 joined_has begun left [] chosen t fits next one = (let all = all_ended_has begun t in grind arith)
 joined_has begun left (row ∷ rows) [] t fits next one = absurd (omega arith)
 joined_has begun left (row ∷ rows) (true ∷ chosen) t fits next one =
@@ -97,7 +97,7 @@ joined_has begun left (row ∷ rows) (true ∷ chosen) t fits next one =
     rest ∙ grind (arith, here)
 joined_has begun left (row ∷ rows) (false ∷ chosen) t fits next one =
     let rest = joined_has None (Some (last_token row.right)) rows chosen t tt next.3 (omega arith) in
-    list_any-append (is_within t) (begun_range begun) (joined_from None rows chosen) ∙ grind (arith, rest)
+    list_any-append (is_within t) (begun_range begun) (chosen_from None rows chosen) ∙ grind (arith, rest)
 
 -- ---- the order
 
@@ -114,7 +114,7 @@ later_ended w (Some range) first = (ap (ends_before (At w)) (ended_left range) �
 
 -- so do the ranges of those that are chosen
 later_joined : (w : ℤ) (begun : Option TokenRange) (rows : List TokenRange) (chosen : List Bool) → AllByRecursion (λ r. ends_before (At w) r.left ≡ true) (begun_range begun) → AllByRecursion (λ r. ends_before (At w) r.left ≡ true) rows
-    → AllByRecursion (λ r. ends_before (At w) r.left ≡ true) (joined_from begun rows chosen)
+    → AllByRecursion (λ r. ends_before (At w) r.left ≡ true) (chosen_from begun rows chosen)
 later_joined w begun [] chosen first rest = later_ended w begun first
 later_joined w begun (row ∷ rows) [] first rest = later_ended w begun first
 later_joined w begun (row ∷ rows) (true ∷ chosen) first rest =
@@ -126,8 +126,8 @@ later_joined w begun (row ∷ rows) (true ∷ chosen) first rest =
 later_joined w begun (row ∷ rows) (false ∷ chosen) first rest =
     both begun first (later_joined w None rows chosen tt rest.1)
   where
-    both : (begun : Option TokenRange) → AllByRecursion (λ r. ends_before (At w) r.left ≡ true) (begun_range begun) → AllByRecursion (λ r. ends_before (At w) r.left ≡ true) (joined_from None rows chosen)
-        → AllByRecursion (λ r. ends_before (At w) r.left ≡ true) (begun_range begun ++ joined_from None rows chosen)
+    both : (begun : Option TokenRange) → AllByRecursion (λ r. ends_before (At w) r.left ≡ true) (begun_range begun) → AllByRecursion (λ r. ends_before (At w) r.left ≡ true) (chosen_from None rows chosen)
+        → AllByRecursion (λ r. ends_before (At w) r.left ≡ true) (begun_range begun ++ chosen_from None rows chosen)
     both None first rest = rest
     both (Some range) first rest = (first.0, rest)
 
@@ -159,13 +159,13 @@ before_gap (Some range) left m ranges fits past token later list =
     apart Max after all = absurd (none_past after)
 
 -- the ranges of chosen rows that follow each other ascend, with a token between any two
-joined_list : (begun : Option TokenRange) (left : Option ℤ) (rows : List TokenRange) (chosen : List Bool) → Fits begun left → AreNext left rows → IsRangeList (joined_from begun rows chosen)
+joined_list : (begun : Option TokenRange) (left : Option ℤ) (rows : List TokenRange) (chosen : List Bool) → Fits begun left → AreNext left rows → IsRangeList (chosen_from begun rows chosen)
 joined_list begun left [] chosen fits next = ended_list begun left fits
 joined_list begun left (row ∷ rows) [] fits next = ended_list begun left fits
 joined_list begun left (row ∷ rows) (true ∷ chosen) fits next =
     joined_list (Some (grown begun row)) (Some (last_token row.right)) rows chosen (grown_fits begun left row fits next.0 next.1 next.2) next.3
 joined_list begun left (row ∷ rows) (false ∷ chosen) fits next =
-    before_gap begun left (last_token row.right) (joined_from None rows chosen) fits next.1 next.2
+    before_gap begun left (last_token row.right) (chosen_from None rows chosen) fits next.1 next.2
     (λ w after. later_joined w None rows chosen tt (later_rows w (last_token row.right) rows after next.3))
     (joined_list None (Some (last_token row.right)) rows chosen tt next.3)
 
@@ -183,7 +183,7 @@ all_ended_out cuts None first = tt
 all_ended_out cuts (Some range) first = (ended_out cuts range first.0, tt)
 
 -- where rows are cut out, so are the ranges of those that are chosen
-joined_out : (cuts : List ℤ) (begun : Option TokenRange) (rows : List TokenRange) (chosen : List Bool) → AreCutOut cuts (begun_range begun) → AreCutOut cuts rows → AreCutOut cuts (joined_from begun rows chosen)
+joined_out : (cuts : List ℤ) (begun : Option TokenRange) (rows : List TokenRange) (chosen : List Bool) → AreCutOut cuts (begun_range begun) → AreCutOut cuts rows → AreCutOut cuts (chosen_from begun rows chosen)
 joined_out cuts begun [] chosen first rest = all_ended_out cuts begun first
 joined_out cuts begun (row ∷ rows) [] first rest = all_ended_out cuts begun first
 joined_out cuts begun (row ∷ rows) (true ∷ chosen) first rest = joined_out cuts (Some (grown begun row)) rows chosen (grows begun first, tt) rest.1
@@ -196,7 +196,7 @@ joined_out cuts begun (row ∷ rows) (true ∷ chosen) first rest = joined_out c
         (and_parts (is_cut_left cuts row.left) (is_cut_right cuts row.right) rest.0).1
 joined_out cuts begun (row ∷ rows) (false ∷ chosen) first rest = both begun first (joined_out cuts None rows chosen tt rest.1)
   where
-    both : (begun : Option TokenRange) → AreCutOut cuts (begun_range begun) → AreCutOut cuts (joined_from None rows chosen) → AreCutOut cuts (begun_range begun ++ joined_from None rows chosen)
+    both : (begun : Option TokenRange) → AreCutOut cuts (begun_range begun) → AreCutOut cuts (chosen_from None rows chosen) → AreCutOut cuts (begun_range begun ++ chosen_from None rows chosen)
     both None first rest = rest
     both (Some range) first rest = (first.0, rest)
 
@@ -221,15 +221,15 @@ members (x ∷ xs) = (
 
 -- ---- what the ranges of chosen rows are
 
-pub chosen_list : (cuts : List ℤ) (chosen : List Bool) → IsStrictlySortedBy int_cmp cuts → AllByRecursion IsToken cuts → IsRangeList (joined_from None (rows_between cuts) chosen)
+pub chosen_list : (cuts : List ℤ) (chosen : List Bool) → IsStrictlySortedBy int_cmp cuts → AllByRecursion IsToken cuts → IsRangeList (chosen_from None (rows_between cuts) chosen)
 chosen_list cuts chosen up tokens = joined_list None None (rows_between cuts) chosen tt (rows_next cuts up tokens)
 
 pub chosen_have : (cuts : List ℤ) (chosen : List Bool) → IsStrictlySortedBy int_cmp cuts → AllByRecursion IsToken cuts → length chosen ≡ length (rows_between cuts)
-    → (t : ℤ) → have_token (joined_from None (rows_between cuts) chosen) t ≡ have_chosen (rows_between cuts) chosen t
+    → (t : ℤ) → have_token (chosen_from None (rows_between cuts) chosen) t ≡ have_chosen (rows_between cuts) chosen t
 chosen_have cuts chosen up tokens one t = joined_has None None (rows_between cuts) chosen t tt (rows_next cuts up tokens) one
 
-pub chosen_out : (cuts : List ℤ) (chosen : List Bool) → AreCutOut cuts (joined_from None (rows_between cuts) chosen)
+pub chosen_out : (cuts : List ℤ) (chosen : List Bool) → AreCutOut cuts (chosen_from None (rows_between cuts) chosen)
 chosen_out cuts chosen = joined_out cuts None (rows_between cuts) chosen tt (rows_out cuts None cuts refl (members cuts))
 
-pub joined_are : (items slice rows : List TokenRange) (cuts : List ℤ) (chosen : List Bool) → items ≡ joined_from None slice chosen → slice ≡ rows → rows ≡ rows_between cuts → items ≡ joined_from None (rows_between cuts) chosen
-joined_are items slice rows cuts chosen is seen are = is ∙ ap (λ l. joined_from None l chosen) (seen ∙ are)
+pub joined_are : (items slice rows : List TokenRange) (cuts : List ℤ) (chosen : List Bool) → items ≡ chosen_from None slice chosen → slice ≡ rows → rows ≡ rows_between cuts → items ≡ chosen_from None (rows_between cuts) chosen
+joined_are items slice rows cuts chosen is seen are = is ∙ ap (λ l. chosen_from None l chosen) (seen ∙ are)

@@ -22,7 +22,7 @@ begun_range None = []
 begun_range (Some range) = range ∷ []
 
 -- the ranges of the chosen rows, with adjacent rows joined; `begun`, if any, is a range that ends at the first row
-abbrev pub joined_from : Option TokenRange → List TokenRange → List Bool → List TokenRange
-joined_from begun (row ∷ rows) (true ∷ chosen) = joined_from (Some (grown begun row)) rows chosen
-joined_from begun (row ∷ rows) (false ∷ chosen) = begun_range begun ++ joined_from None rows chosen
-joined_from begun _ _ = map ended (begun_range begun)
+abbrev pub chosen_from : Option TokenRange → List TokenRange → List Bool → List TokenRange
+chosen_from begun (row ∷ rows) (true ∷ chosen) = chosen_from (Some (grown begun row)) rows chosen
+chosen_from begun (row ∷ rows) (false ∷ chosen) = begun_range begun ++ chosen_from None rows chosen
+chosen_from begun _ _ = map ended (begun_range begun)

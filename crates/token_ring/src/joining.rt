@@ -38,7 +38,7 @@ pub(crate) fn joined(
     chosen: &[bool],
 ) -> Result<Vec<TokenRange>, Memory>
     requires { length chosen.now ≡ length rows.now }
-    ensures { IfOk result (λ ranges. ranges.items ≡ spec.joined_from None rows.now chosen.now) }
+    ensures { IfOk result (λ ranges. ranges.items ≡ spec.chosen_from None rows.now chosen.now) }
 {
     let mut ranges = Vec::new(alloc);
     let mut begun = None;

@@ -30,6 +30,7 @@ pub use entry::Entry;
 pub use image::Image;
 pub use image_rules::{BadImage, bad_image};
 pub use keyspace::{KeyspaceRow, KeyspaceRows};
+pub use pair_search::ascend_by_token;
 pub use refusal::Refusal;
 pub use refusals::{early_refusal, register_refusal};
 pub use rings::{

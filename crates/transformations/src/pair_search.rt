@@ -1,6 +1,6 @@
 //! Binary searches in pairs whose tokens strictly ascend.
 
-ghost use Rattle.std.specs.Prelude.{◌≡◌, ◌<ℤ◌, ◌≤ℤ◌, ◌≤◌, length, IsTrue};
+ghost use Rattle.std.specs.Prelude.{◌≡◌, ◌<ℤ◌, ◌≤ℤ◌, ◌≤◌, ◌↔◌, length, IsTrue};
 ghost use Rattle.std.specs.List.{list_any};
 ghost use Rattle.std.specs.List.Sorted.{IsPartitionPoint, IsStrictlySortedBy};
 ghost use Rattle.std.specs.Ordering.{int_eq};
@@ -9,9 +9,9 @@ ghost use Rattle.transformations.specs.Orders.{by_token};
 
 use cluster_terms::{Pair, Token};
 
-/// Whether the tokens strictly ascend.
-pub(crate) fn ascend(pairs: &[Pair]) -> bool
-    ensures { IsTrue result → IsStrictlySortedBy by_token pairs.now }
+/// Whether the tokens of pairs strictly ascend. The cost is one pass.
+pub fn ascend_by_token(pairs: &[Pair]) -> bool
+    ensures { IsTrue result ↔ IsStrictlySortedBy by_token pairs.now }
 {
     pairs.is_sorted_by(|a, b| a.token < b.token)
 }

@@ -198,14 +198,14 @@ own_moves : (image after : Image) (delta : List ℕ → List ℕ → PlacementDe
 unfolding placed_before placed_with
 own_moves image after delta m moves = record { keyspaces = moves.keyspaces; changes = moves.changes }
 
+-- new sets are those that the deltas give, if there are as many deltas as maps
+abbrev pub SetsTurned : List MapRow → Turn → List (List RowChange) → List DeltaBookRow → Type 0
+SetsTurned book turn changes deltas = length book ≡ length deltas → each_exchanged changes book ≡ each_map (turned_rows turn) book deltas
+
 module _ (image : Image) (book : List MapRow) (running : List Running) (at : ℕ) (m : Running) (s : SeqRow) (are : AreMaps image book) (values : IsRunning image.sequences running) (have : HaveDeltas image running)
     (stands : slice_get image.sequences at ≡ Some s) (is : m ≡ get_or running at m) where
   abbrev plan : Plan
   plan = plan_of m
-
-  -- new sets are those that the deltas give, if there are as many deltas as maps
-  abbrev SetsTurned : Turn → List (List RowChange) → List DeltaBookRow → Type 0
-  SetsTurned turn changes deltas = length book ≡ length deltas → each_exchanged changes book ≡ each_map (turned_rows turn) book deltas
 
   own : movement_row m ≡ s
   own = value_at image.sequences running at s m values stands is
@@ -216,19 +216,19 @@ module _ (image : Image) (book : List MapRow) (running : List Running) (at : ℕ
   moved : (after : Image) (delta : SeqRow → List ℕ → List ℕ → PlacementDelta) → MovesOf image after at delta → MovesBy image after (deltas_of (delta s) image plan.row)
   moved after delta moves = own_moves image after (delta s) m (subst (λ q. MovesBy image after (deltas_of (delta s) image q)) (sym own) (moves s stands))
 
-  pub start_maps : (after : Image) (changes : List (List RowChange)) → SetsTurned Writes changes plan.gain → MovesAt image after at (step_delta goal.Start) → AreMaps after (each_exchanged changes book)
+  pub start_maps : (after : Image) (changes : List (List RowChange)) → SetsTurned book Writes changes plan.gain → MovesAt image after at (step_delta goal.Start) → AreMaps after (each_exchanged changes book)
   start_maps after changes sets steps =
       subst (AreMaps after) (sym (sets (same_count image book plan.gain (gained_by image plan.row) no_nodes are held.gains)))
       (maps_turned image after (gained_by image plan.row) no_nodes (deltas_of (step_delta goal.Start) image plan.row) Writes (start_turns image plan.row) book plan.gain steps.cuts
       (moved after (λ s. step_delta goal.Start) steps.moves) are held.gains)
 
-  pub mid_maps : (after : Image) (changes : List (List RowChange)) → SetsTurned Reads changes plan.swap → MovesAt image after at (step_delta goal.Mid) → AreMaps after (each_exchanged changes book)
+  pub mid_maps : (after : Image) (changes : List (List RowChange)) → SetsTurned book Reads changes plan.swap → MovesAt image after at (step_delta goal.Mid) → AreMaps after (each_exchanged changes book)
   mid_maps after changes sets steps =
       subst (AreMaps after) (sym (sets (same_count image book plan.swap (gained_by image plan.row) (lost_by image plan.row) are held.swaps)))
       (maps_turned image after (gained_by image plan.row) (lost_by image plan.row) (deltas_of (step_delta goal.Mid) image plan.row) Reads (mid_turns image plan.row) book plan.swap steps.cuts
       (moved after (λ s. step_delta goal.Mid) steps.moves) are held.swaps)
 
-  pub back_maps : (after : Image) (changes : List (List RowChange)) → SetsTurned ReadsBack changes plan.swap → MovesAt image after at (cancel_delta phase.Mid) → AreMaps after (each_exchanged changes book)
+  pub back_maps : (after : Image) (changes : List (List RowChange)) → SetsTurned book ReadsBack changes plan.swap → MovesAt image after at (cancel_delta phase.Mid) → AreMaps after (each_exchanged changes book)
   back_maps after changes sets steps =
       subst (AreMaps after) (sym (sets (same_count image book plan.swap (gained_by image plan.row) (lost_by image plan.row) are held.swaps)))
       (maps_turned image after (gained_by image plan.row) (lost_by image plan.row) (deltas_of (cancel_delta phase.Mid) image plan.row) ReadsBack (back_turns image plan.row) book plan.swap steps.cuts

@@ -104,6 +104,9 @@ const LOCKED: [(&str, &str); 4] = [
     (r#"{"kind":"prepare-leave","node":5}"#, "LOCKED 4 -100"),
 ];
 
+/// The epochs before and after the last command, with their states.
+const SHOWN: [(&str, &str); 2] = [("27", STATE_27), ("28", STATE_28)];
+
 /// Commits the script, and shows the states before and after the last command.
 fn shows<A: Abort>(rt: &A, alloc: Global, store: &mut MemStore) -> Result<(), Fail> {
     let name = "a log with four movements";
@@ -116,15 +119,10 @@ fn shows<A: Abort>(rt: &A, alloc: Global, store: &mut MemStore) -> Result<(), Fa
         store,
         (0, ANSWERS),
     )?;
-    for (epoch, state) in [("27", STATE_27), ("28", STATE_28)] {
-        is_shown(
-            rt,
-            alloc,
-            epoch,
-            &["snapshot", "x", epoch],
-            store,
-            (0, state),
-        )?;
+    for row in &SHOWN {
+        let (epoch, state) = *row;
+        let words = ["snapshot", "x", epoch];
+        is_shown(rt, alloc, epoch, &words, store, (0, state))?;
     }
     Ok(())
 }

@@ -352,21 +352,31 @@ fn times(alloc: Global, count: usize) -> Result<Vec<&'static str>, Fail> {
     Ok(words)
 }
 
+/// How many files are replayed, the status, and what is printed.
+const COUNTS: [(usize, u8, &str); 2] = [
+    (
+        64,
+        0,
+        "REPLAY 64 at 1 waiting 0 full 0\n\
+            NODES 1 1 0\n\
+            1 a dc1 r1 REGISTERED -\n",
+    ),
+    (65, 2, USAGE),
+];
+
 /// A replay has at most 64 files.
 fn limits_files<A: Abort>(rt: &A, alloc: Global) -> Result<(), Fail> {
-    let mut store = sure_store_of(alloc, Some("1"))?;
-    let text = "REPLAY 64 at 1 waiting 0 full 0\n\
-        NODES 1 1 0\n\
-        1 a dc1 r1 REGISTERED -\n";
-    for (count, wanted) in [(64, (0, text)), (65, (2, USAGE))] {
+    for row in &COUNTS {
+        let (count, status, text) = *row;
+        let mut store = sure_store_of(alloc, Some("1"))?;
         let words = times(alloc, count)?;
         is_shown(
             rt,
             alloc,
             "64 or 65 files",
-            words.as_slice(),
+            &words,
             &mut store,
-            wanted,
+            (status, text),
         )?;
     }
     Ok(())

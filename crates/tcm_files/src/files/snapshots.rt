@@ -161,25 +161,28 @@ fn states<A: Abort>(rt: &A, alloc: Global) -> Result<(), Fail> {
     Ok(())
 }
 
+/// Logs with a state in them, and why they are refused.
+const REFUSED: [(&str, &str); 3] = [
+    ("1A", "REFUSED 1 2 NOT-ENTRY\n"),
+    ("T4", "REFUSED 1 1 NOT-ENTRY\n"),
+    ("12NA", "REFUSED 1 3 NOT-ENTRY\n"),
+];
+
+/// Goes on with a log that is refused. The file is unchanged.
+fn is_refused<A: Abort>(rt: &A, alloc: Global, log: &'static str, text: &str) -> Result<(), Fail> {
+    let mut store = sure_store_of(alloc, Some(log))?;
+    let words = ["commit", "x"];
+    let script = "commit 9 register z dc1 r1\n";
+    is_run(rt, alloc, log, &words, script, &mut store, (3, text))?;
+    assert!(rt; holds(alloc, &store, Some(log))?, "{log}");
+    Ok(())
+}
+
 /// A log with a state in it can't go on.
 fn refuses_states<A: Abort>(rt: &A, alloc: Global) -> Result<(), Fail> {
-    let script = "commit 9 register z dc1 r1\n";
-    for (file, text) in [
-        ("1A", "REFUSED 1 2 NOT-ENTRY\n"),
-        ("T4", "REFUSED 1 1 NOT-ENTRY\n"),
-        ("12NA", "REFUSED 1 3 NOT-ENTRY\n"),
-    ] {
-        let mut store = sure_store_of(alloc, Some(file))?;
-        is_run(
-            rt,
-            alloc,
-            file,
-            &["commit", "x"],
-            script,
-            &mut store,
-            (3, text),
-        )?;
-        assert!(rt; holds(alloc, &store, Some(file))?, "{file}");
+    for row in &REFUSED {
+        let (log, text) = *row;
+        is_refused(rt, alloc, log, text)?;
     }
     Ok(())
 }

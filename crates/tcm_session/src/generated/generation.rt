@@ -69,7 +69,7 @@ impl Generation {
         rack: u64,
     ) -> Result<(), Memory>
         ensures { OnOk result (self.new ≡ spec.after_line self.old
-            (lines.commit_line id (lines.register letter.now number dc rack))) }
+            (lines.commit_line id (lines.register_words letter.now number dc rack))) }
     {
         let mut line = ByteText::empty(alloc);
         register_line(id, letter, number, dc, rack, &mut line)?;

@@ -25,7 +25,7 @@ pub fn register_line(
     out: &mut ByteText,
 ) -> Result<(), Memory>
     ensures { OnOk result (out.new
-        ≡ out.old ++ spec.commit_line id (spec.register letter.now number dc rack)) }
+        ≡ out.old ++ spec.commit_line id (spec.register_words letter.now number dc rack)) }
 {
     commit_text(id, out)?;
     out.extend(b"register ")?;

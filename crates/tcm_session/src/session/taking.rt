@@ -8,6 +8,7 @@ ghost use Rattle.tcm_session.specs.LogFiles.{entry_cause, entry_read, next_entry
 ghost use Rattle.tcm_session.specs.Steps.{IsNextEntry, TakesLine, with_next};
 
 use super::Session;
+use super::keeping::keep_image;
 use crate::noting::keep;
 use crate::refused_line::Cause;
 use cluster_metadata::{AdmitFault, Permit};
@@ -38,10 +39,7 @@ impl Session {
         ensures err { OnErr result (self.new ≡ self.old) }
     {
         match content {
-            Line::Entry(entry) => {
-                self.keep_image()?;
-                self.take_entry(entry)
-            }
+            Line::Entry(entry) => self.take_entry(entry),
             Line::Snapshot(_image) => Ok(Some(Cause::NotEntry)),
         }
     }
@@ -67,7 +65,7 @@ impl Session {
         }
     }
 
-    /// Adds the next entry to the log, and enacts its command. Returns `None`.
+    /// Adds the next entry to the log, and enacts its command, as `accept` does. Returns `None`.
     fn take_over(&mut self, entry: Entry, permit: Permit) -> Result<Option<Cause>, Memory>
         requires next { IsNextEntry self.old.log entry }
         requires permit { permit
@@ -75,6 +73,10 @@ impl Session {
         ensures ok { IfOk result (λ refused. (refused ≡ None) × (self.new ≡ with_next self.old entry)) }
         ensures err { OnErr result (self.new ≡ self.old) }
     {
+        if let Err(memory) = keep_image(&self.log, &self.metadata, &mut self.snapshots) {
+            permit.decline();
+            return Err(memory);
+        }
         match keep(&mut self.log, entry) {
             Ok(()) => {
                 let _epoch = self.metadata.enact(permit);

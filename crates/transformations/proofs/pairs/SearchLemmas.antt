@@ -1,5 +1,5 @@
 -- Searches in pairs whose tokens ascend.
-use Rattle.std.proofs.Common.{◌≡◌, ℕ, ◌<◌, ◌≤◌, Bool, true, false, true≢false, IsTrue, ℤ, ◌<ℤ◌, ◌≤ℤ◌, int_lt, pos, ◌==◌, ◌&&◌, ◌||◌, List, [], ◌∷◌, length, get_or, refl, sym, ap, ◌∙◌, ◌⊎◌, inl, inr, arith}
+use Rattle.std.proofs.Common.{◌≡◌, ℕ, ◌+◌, ◌<◌, ◌≤◌, ◌↔◌, Bool, true, false, true≢false, IsTrue, ℤ, ◌<ℤ◌, ◌≤ℤ◌, int_lt, pos, ◌==◌, ◌&&◌, ◌||◌, List, [], ◌∷◌, length, get_or, refl, sym, ap, ◌∙◌, ◌⊎◌, inl, inr, arith}
 use Rattle.std.proofs.lemmas.Bool.{cases_lt}
 use Rattle.std.proofs.lemmas.Int.{ints}
 use Rattle.std.proofs.lemmas.List.{get_or_default}
@@ -17,11 +17,12 @@ use Rattle.transformations.specs.Orders.{by_token}
 some_pair : Pair
 some_pair = record { token = pos 0; node = 0 }
 
--- if each token is below the next one, the tokens ascend
-pub ascend-from_answer : (ps : List Pair) (r : Bool) → IsAllAdjacentAnswer (λ p q b. b ≡ int_lt p.token q.token) ps r → IsTrue r → IsStrictlySortedBy by_token ps
-ascend-from_answer ps true answer = λ _.
-    sorted_from_all_adjacent by_token_total ps some_pair (λ k in_k. (let less = answer k some_pair in_k in grind (arith, ints, less)))
-ascend-from_answer ps false answer = λ yes. absurd (true≢false (sym yes))
+-- whether each token is below the next one tells whether the tokens ascend
+pub ascend-from_answer : (ps : List Pair) (r : Bool) → IsAllAdjacentAnswer (λ p q b. b ≡ int_lt p.token q.token) ps r → IsTrue r ↔ IsStrictlySortedBy by_token ps
+ascend-from_answer ps true answer =
+    (λ _. sorted_from_all_adjacent by_token_total ps some_pair (λ k in_k. (let less = answer k some_pair in_k in grind (arith, ints, less))), λ _. refl)
+ascend-from_answer ps false answer =
+    (λ yes. absurd (true≢false (sym yes)), λ up. (let less = Less-from_sorted by_token ps answer.0 (answer.0 + 1) some_pair up (omega arith) answer.1 in let other = answer.2 some_pair in grind (arith, ints, less, other)))
 
 -- the tokens at two positions are in the order of the positions
 token-le : (ps : List Pair) → IsStrictlySortedBy by_token ps → (i j : ℕ) (d e : Pair) → i ≤ j → j < length ps → (get_or ps i d).token ≤ℤ (get_or ps j e).token

@@ -1,5 +1,8 @@
-use Rattle.std.proofs.Common.{◌≡◌, refl}
+use Rattle.std.proofs.Common.{◌≡◌, refl, subst, sym}
 use Rattle.std.specs.List.{insert}
+use Rattle.placement_deltas.specs.declared.plan.Plan.{Plan}
+use Rattle.cluster_metadata.specs.Change.{Begins}
+use Rattle.cluster_metadata.specs.declared.change.Change.TheVariants.{Begun}
 use Rattle.cluster_metadata.proofs.StepLemmas.{begins}
 use Rattle.cluster_metadata.proofs.preparing.begun.Goals as goal
 
@@ -7,4 +10,5 @@ pub returns : goal.returns
 returns c =
     let place = rw c.as_slice.ensures at c.place_for-at.ensures in
     let after : c.insert.new.self ≡ insert c.args.image.now.sequences c.place_for-at.result c.args.plan.row = cc (c.in_ok-insert.ensures, c.in_ok-sequences.ensures, c.in_ok-copy.ensures) in
-    begins _ c.place_for-at.result c.args.plan _ c.requires.phase place.bound after (place.place _ refl) c.requires.deltas c.requires.ranges c.requires.cuts
+    let begun = begins _ c.place_for-at.result c.args.plan _ c.requires.phase place.bound after (place.place _ refl) c.requires.deltas c.requires.ranges c.requires.cuts in
+    subst (λ (plan : Plan). Begins c.args.image.now c.args.plan.row (Begun c.place_for-at.result plan c.insert.new.self)) (sym c.in_ok-plan.ensures) begun

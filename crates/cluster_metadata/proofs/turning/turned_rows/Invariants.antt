@@ -1,5 +1,5 @@
 use Rattle.std.proofs.Common.{◌≡◌, ◌++◌, List, take}
-use Rattle.range_placements.specs.Exchanging.{exchanged}
+use Rattle.range_placements.specs.Exchanging.{with_changes}
 use Rattle.range_placements.specs.declared.placement_row.PlacementRow.{PlacementRow}
 use Rattle.cluster_metadata.specs.Turns.{IsKnown, turned_rows}
 use Rattle.cluster_metadata.proofs.turning.turned_rows.Given as goal
@@ -8,5 +8,5 @@ use Rattle.cluster_metadata.proofs.turning.turned_rows.Given as goal
 abbrev pub invariant-loop-at : goal.invariant-loop-at
 invariant-loop-at l = record {
   known : IsKnown l.delta l.place.unchanged;
-  sets : (rest : List PlacementRow) → exchanged l.changes (take l.at l.row-items ++ rest) ≡ turned_rows l.turn (take l.at l.row-items) l.delta ++ rest;
+  sets : (rest : List PlacementRow) → with_changes l.changes (take l.at l.row-items ++ rest) ≡ turned_rows l.turn (take l.at l.row-items) l.delta ++ rest;
 }

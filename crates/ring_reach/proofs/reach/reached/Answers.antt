@@ -13,8 +13,8 @@ use Rattle.cluster_terms.specs.Row.{last_token, rows_between}
 use Rattle.cluster_terms.specs.declared.row.TokenRange.{TokenRange}
 use Rattle.token_ring.proofs.BoundLemmas.{out_more}
 use Rattle.token_ring.specs.Ranges.{have_chosen}
-use Rattle.ring_reach.specs.Moved.{AreAmong, HaveSameTokens}
-use Rattle.ring_reach.specs.Windows.{any_have, bounds_of}
+use Rattle.ring_reach.specs.Moved.{AreTokensAmong, HaveSameTokens}
+use Rattle.ring_reach.specs.Windows.{any_have, window_bounds}
 use Rattle.ring_reach.specs.declared.windows.Window.{Window}
 use Rattle.ring_reach.proofs.RowLemmas.{chosen_tested}
 use Rattle.ring_reach.proofs.TokenLemmas.{all_among}
@@ -22,11 +22,11 @@ use Rattle.ring_reach.proofs.WindowLemmas.{any_have-between}
 use Rattle.ring_reach.proofs.reach.reached.Goals as goal
 
 -- the cuts are the tokens at which the windows begin and end
-cuts_same : (c : goal.After-drop-groups-2) → HaveSameTokens c.as_slice.result.now (flat_map bounds_of c.in_ok-groups.groups.items)
+cuts_same : (c : goal.After-drop-groups-2) → HaveSameTokens c.as_slice.result.now (flat_map window_bounds c.in_ok-groups.groups.items)
 cuts_same c t =
     ap (λ (ts : List ℤ). is_member int_eq ts t) c.as_slice.ensures.tokens
     ∙ c.in_ok-cuts.ensures t
-    ∙ ap (λ (all : List (List Window)). is_member int_eq (flat_map bounds_of all) t) c.deref.ensures.value
+    ∙ ap (λ (all : List (List Window)). is_member int_eq (flat_map window_bounds all) t) c.deref.ensures.value
 
 -- the chosen rows have the tokens that are reached
 rows_reached : (c : goal.After-drop-groups-2) → (t : ℤ) → IsToken t
@@ -36,7 +36,7 @@ rows_reached c t token =
     let cuts = c.as_slice.result.now in
     let up = subst (IsStrictlySortedBy int_cmp) (sym c.as_slice.ensures.tokens) c.as_slice.ensures.ascend in
     let between : (x w : ℤ) → x ≤ℤ w → AllByRecursion (λ u. in_arc x w u ≡ false) cuts → any_have groups x ≡ any_have groups w =
-    λ x w le clear. any_have-between x w le groups (all_among (λ u. in_arc x w u ≡ false) (flat_map bounds_of groups) cuts (λ u h. cuts_same c u ∙ h) clear) in
+    λ x w le clear. any_have-between x w le groups (all_among (λ u. in_arc x w u ≡ false) (flat_map window_bounds groups) cuts (λ u h. cuts_same c u ∙ h) clear) in
     let one : c.as_slice-2.result.now ≡ cuts = c.as_slice-2.ensures.tokens ∙ sym c.as_slice.ensures.tokens in
     let rows : c.deref-3.result.now ≡ map (λ (row : TokenRange). any_have groups (last_token row.right)) (rows_between cuts) =
     c.deref-3.ensures.value ∙ c.in_ok-rows.ensures.rows
@@ -52,7 +52,7 @@ pub returns-clause-bounds : goal.returns-clause-bounds
 returns-clause-bounds c =
     let fixed = c.args.fixed.now in
     let moved = c.args.moved.now in
-    let among : AreAmong c.as_slice-2.result.now (tokens_of fixed ++ tokens_of moved) =
+    let among : AreTokensAmong c.as_slice-2.result.now (tokens_of fixed ++ tokens_of moved) =
     λ t h.
     c.in_ok-groups.ensures.bounds t
     (sym (cuts_same c t) ∙ ap (λ (ts : List ℤ). is_member int_eq ts t) (c.as_slice.ensures.tokens ∙ sym c.as_slice-2.ensures.tokens) ∙ h) in

@@ -1,6 +1,7 @@
 use Rattle.std.proofs.Common.{◌≡◌, ℕ, List, length, get_or, ap, sym, ◌∙◌, subst, arith, rules}
-use Rattle.range_placements.specs.Editing.{Edits}
-use Rattle.cluster_metadata.proofs.placement_maps.EditedMaps.{last_edited, last_held}
+use Rattle.range_placements.specs.Editing.{Edits, edited}
+use Rattle.cluster_metadata.proofs.placement_maps.EditedMaps.{last_held}
+use Rattle.cluster_metadata.proofs.placement_maps.RevisedBooks.{last_revised}
 use Rattle.cluster_metadata.specs.MapChanges.{HoldMaps, each_edited, edited_at}
 use Rattle.cluster_metadata.proofs.map_book.MapBook.edit.Goals as goal
 
@@ -19,6 +20,6 @@ loop-last-preserved c =
     let count : c.len.result ≡ length left = search rules in
     let led : each_edited left c.edit_at.new.rows.items ≡ each_edited c.loop-last.edits.items book =
     ap (each_edited left) (c.edit_at.ensures ∙ ap (λ (n : ℕ). edited_at n c.in-Some.last book) count)
-    ∙ sym (last_edited left c.in-Some.last book)
+    ∙ sym (last_revised edited left c.in-Some.last book)
     ∙ ap (λ (all : List Edits). each_edited all book) (sym c.in-Some.ensures.items) in
     record { same = led ∙ c.loop-last.invariant.same; maps = subst HoldMaps (sym led) c.loop-last.invariant.maps }

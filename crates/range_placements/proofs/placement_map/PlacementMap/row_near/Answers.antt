@@ -7,5 +7,5 @@ use Rattle.range_placements.specs.declared.placement_row.PlacementRow.{Placement
 pub returns-clause-placement : goal.returns-clause-placement
 returns-clause-placement c =
     ap placement_in c.index-rows-found.is
-    ∙ found_at c.rows-rows.result.now c.args.t c.count_near-found.result c.index-rows-found.result c.count_near-found.ensures.split c.count_near-found.ensures.bound
+    ∙ found_at c.rows-rows.result.now c.args.t c.row_index_near-found.result c.index-rows-found.result c.row_index_near-found.ensures.row c.row_index_near-found.ensures.bound
     ∙ ap (λ (rows : List PlacementRow). map_at rows c.args.t) c.rows-rows.ensures.rows

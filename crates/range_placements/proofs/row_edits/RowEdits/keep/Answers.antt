@@ -1,6 +1,6 @@
 use Rattle.std.proofs.Common.{◌≡◌, ℕ, ◌+◌, ◌-◌, ◌≤◌, ◌∷◌, ◌++◌, [], List, get_or, ap, sym, ◌∙◌, subst, arith}
 use Rattle.range_placements.proofs.EditedRows.{keep_passes, next_last, next_makes, next_passes, skip_last, skip_makes, skip_passes}
-use Rattle.range_placements.specs.Editing.{Edits, edited, edited_rows, passed, rows_made, rows_passed}
+use Rattle.range_placements.specs.Editing.{Edits, edited, edited_rows, all_passed, rows_made, rows_passed}
 use Rattle.range_placements.specs.declared.row_edits.RowEdit.{RowEdit}
 use Rattle.range_placements.proofs.row_edits.RowEdits.keep.Goals as goal
 
@@ -30,7 +30,7 @@ pub invariant_of-self-2 : goal.invariant_of-self-2
 invariant_of-self-2 c =
     let edits = c.self.inside.edits.items in
     let keep = c.self.inside.keep in
-    let place : rows_passed edits keep ≤ c.args.at = subst (λ (e : Edits). passed e ≤ c.args.at) (sym c.self.view_is) c.requires.place in
+    let place : rows_passed edits keep ≤ c.args.at = subst (λ (e : Edits). all_passed e ≤ c.args.at) (sym c.self.view_is) c.requires.place in
     let passes = c.self.invariant.0 in
     let all : c.args.at + 1 ≡ (rows_passed edits keep + (c.args.at - c.self.inside.passed)) + 1 = omega (arith, place, passes) in (
       all ∙ sym (skip_passes edits keep (c.args.at - c.self.inside.passed)) ∙ ap (λ (l : List RowEdit). rows_passed l 1) (sym c.in_ok-push.ensures.items),
@@ -44,7 +44,7 @@ returns-clause-rows c rows d within =
     let edits = c.self.inside.edits.items in
     let keep = c.self.inside.keep in
     let skip = c.args.at - c.self.inside.passed in
-    let place : rows_passed edits keep ≤ c.args.at = subst (λ (e : Edits). passed e ≤ c.args.at) (sym c.self.view_is) c.requires.place in
+    let place : rows_passed edits keep ≤ c.args.at = subst (λ (e : Edits). all_passed e ≤ c.args.at) (sym c.self.view_is) c.requires.place in
     let passes = c.self.invariant.0 in
     let here : rows_passed edits keep + skip ≡ c.args.at = omega (arith, place, passes) in
     ap (λ (l : List RowEdit). edited_rows l 1 rows) c.in_ok-push.ensures.items
@@ -62,7 +62,7 @@ pub returns-clause-passed : goal.returns-clause-passed
 returns-clause-passed c =
     let edits = c.self.inside.edits.items in
     let keep = c.self.inside.keep in
-    let place : rows_passed edits keep ≤ c.args.at = subst (λ (e : Edits). passed e ≤ c.args.at) (sym c.self.view_is) c.requires.place in
+    let place : rows_passed edits keep ≤ c.args.at = subst (λ (e : Edits). all_passed e ≤ c.args.at) (sym c.self.view_is) c.requires.place in
     let passes = c.self.invariant.0 in
     let all : c.args.at + 1 ≡ (rows_passed edits keep + (c.args.at - c.self.inside.passed)) + 1 = omega (arith, place, passes) in
     sym (all ∙ sym (skip_passes edits keep (c.args.at - c.self.inside.passed)) ∙ ap (λ (l : List RowEdit). rows_passed l 1) (sym c.in_ok-push.ensures.items))

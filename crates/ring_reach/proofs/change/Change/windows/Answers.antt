@@ -10,9 +10,9 @@ use Rattle.cluster_terms.specs.declared.token.Pair.{Pair}
 use Rattle.node_directory.specs.Members.{group_of}
 use Rattle.node_directory.specs.Shape.{shape_of}
 use Rattle.node_directory.specs.declared.shape.Shape.{Shape}
-use Rattle.ring_reach.specs.Moved.{AreAmong}
+use Rattle.ring_reach.specs.Moved.{AreTokensAmong}
 use Rattle.ring_reach.specs.Walk.{Course, leaves}
-use Rattle.ring_reach.specs.Windows.{have, bounds_of}
+use Rattle.ring_reach.specs.Windows.{have, window_bounds}
 use Rattle.ring_reach.specs.declared.windows.Window.{Window}
 use Rattle.ring_reach.proofs.ChangeLemmas.{common_some, common_none, none_reached, all_reached, leaves-reached, bounds_in_both, bounds_of_ring}
 use Rattle.ring_reach.proofs.TokenLemmas.{first_member}
@@ -46,7 +46,7 @@ pub returns-in-Some-2-clause-bounds : goal.returns-in-Some-2-clause-bounds
 returns-in-Some-2-clause-bounds c =
     let self = c.args.self.now in
     IfOk-weaker c.windows.result _ _
-    (λ ws h. bounds_in_both (group_of c.args.members.now) self.fixed.now self.widest.now self.moved.now c.in_ok-moved.moved c.in_ok-moved.ensures (bounds_of ws) h)
+    (λ ws h. bounds_in_both (group_of c.args.members.now) self.fixed.now self.widest.now self.moved.now c.in_ok-moved.moved c.in_ok-moved.ensures (window_bounds ws) h)
     c.windows.ensures.bounds
 
 pub returns-clause-reach : goal.returns-clause-reach
@@ -74,6 +74,6 @@ returns-clause-bounds c =
     let there : is_member int_eq tokens t ≡ true = first_member tokens t (c.in-Some.ensures.value ∙ ap (λ (ts : List ℤ). slice_get ts 0) c.as_slice.ensures.tokens) in
     IfOk-weaker c.whole_ring.result _ _
     (λ ws h.
-    subst (λ (l : List Window). AreAmong (bounds_of l) (tokens_of self.fixed.now ++ tokens_of self.moved.now)) (sym h)
+    subst (λ (l : List Window). AreTokensAmong (window_bounds l) (tokens_of self.fixed.now ++ tokens_of self.moved.now)) (sym h)
     (bounds_of_ring (group_of c.args.members.now) self.fixed.now self.widest.now self.moved.now tokens c.in_ok-moved.ensures t there))
     c.whole_ring.ensures

@@ -3,9 +3,9 @@ use Rattle.std.specs.List.{list_any}
 use Rattle.std.specs.List.Sorted.{IsStrictlySortedBy}
 use Rattle.std.specs.Ordering.{int_cmp}
 use Rattle.cluster_terms.specs.Pair.{tokens_of}
-use Rattle.ring_reach.specs.Moved.{AreAmong}
+use Rattle.ring_reach.specs.Moved.{AreTokensAmong}
 use Rattle.ring_reach.specs.Walk.{course_of, leaves}
-use Rattle.ring_reach.specs.Windows.{bounds_of, have}
+use Rattle.ring_reach.specs.Windows.{window_bounds, have}
 use Rattle.ring_reach.specs.declared.windows.Window.{Window}
 use Rattle.ring_reach.proofs.PartLemmas.{part_more, all_parts-have, all_parts-among}
 use Rattle.ring_reach.proofs.walk.Walk.parts.Goals as goal
@@ -36,6 +36,6 @@ pub returns-clause-bounds : goal.returns-clause-bounds
 returns-clause-bounds c =
     let course = course_of c.args.self.now in
     let tokens = c.as_slice-tokens.result.now in
-    subst (λ (ts : List ℤ). AreAmong (bounds_of c.from_ascending.result) (tokens_of course.fixed ++ ts)) c.as_slice-tokens.ensures.tokens
-    (subst (λ (ws : List Window). AreAmong (bounds_of ws) (tokens_of course.fixed ++ tokens)) (sym c.from_ascending.ensures)
+    subst (λ (ts : List ℤ). AreTokensAmong (window_bounds c.from_ascending.result) (tokens_of course.fixed ++ ts)) c.as_slice-tokens.ensures.tokens
+    (subst (λ (ws : List Window). AreTokensAmong (window_bounds ws) (tokens_of course.fixed ++ tokens)) (sym c.from_ascending.ensures)
     (all_parts-among course tokens c.loop-token.windows.items c.loop-token.invariant.parts))
