@@ -10,7 +10,7 @@ use Rattle.placement_deltas.specs.declared.unchanged.Unchanged.{Unchanged}
 use Rattle.range_placements.specs.Changing.{row_changed, rows_changed}
 use Rattle.range_placements.specs.Editing.{Edits, edited}
 use Rattle.range_placements.specs.Exchanging.{with_changes}
-use Rattle.range_placements.specs.Placements.{map_at, reads_changed, writes_changed}
+use Rattle.range_placements.specs.Placements.{map_at, reads_changed, right_ends, writes_changed}
 use Rattle.range_placements.specs.declared.placement_row.PlacementRow.{PlacementRow}
 use Rattle.range_placements.specs.declared.row_changes.RowChange.{RowChange}
 use Rattle.transformations.specs.declared.sequence.Phase.{Phase}
@@ -60,9 +60,13 @@ turned_at turn rows delta x = turned turn (map_at rows x) (delta_at delta x)
 abbrev pub recut_rows : Turn → List TokenRange → List PlacementRow → List DeltaRow → List PlacementRow
 recut_rows turn ranges rows delta = map (row_with (turned_at turn rows delta)) ranges
 
--- edits make one row more of the rows of a map
-abbrev pub AddsRow : List PlacementRow → PlacementRow → Edits → Edits → Type 0
-AddsRow rows row before after = edited after rows ≡ edited before rows ++ row ∷ []
+-- rows that a turn by a delta leaves as they are, and that have the right ends of these ranges
+abbrev pub AreKept : Turn → List DeltaRow → List PlacementRow → List TokenRange → Type 0
+AreKept turn delta rows ranges = (turned_rows turn rows delta ≡ rows) × (right_ends rows ≡ map (λ range. range.right) ranges)
+
+-- edits make these rows more of the rows of a map
+abbrev pub AddsRows : List PlacementRow → List PlacementRow → Edits → Edits → Type 0
+AddsRows rows more before after = edited after rows ≡ edited before rows ++ more
 
 -- a book with each map changed by the delta beside it
 abbrev pub each_map : (List PlacementRow → List DeltaRow → List PlacementRow) → List MapRow → List DeltaBookRow → List MapRow

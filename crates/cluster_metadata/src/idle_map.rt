@@ -10,7 +10,7 @@ ghost use Rattle.cluster_metadata.specs.Maps.{placement_rows};
 
 use cluster_terms::{Memory, Replication, Steps, TokenRange, TryCopy, rows_between};
 use node_directory::Directory;
-use range_placements::{PlacementMap, PlacementRow, PlacementRows};
+use range_placements::{PlacementMap, PlacementRow, PlacementRows, rows_with_room};
 use sequence_plans::Placer;
 use std::alloc::Global;
 use std::sync::ledger::Ledger;
@@ -43,7 +43,7 @@ fn rows_once<L: Ledger>(
 ) -> Result<PlacementRows, Memory>
     ensures { IfOk result (λ rows. rows.items ≡ map (row_placed_once placer.now) ranges.now) }
 {
-    let mut rows = Vec::with_capacity(alloc, ranges.len())?;
+    let mut rows = rows_with_room(alloc, ranges.len())?;
     for range in ranges {
         rows.push(row_once(alloc, placer, range, walks)?)?;
     }

@@ -81,7 +81,7 @@ impl MapBook {
         }
     }
 
-    /// Keeps some rows of each map, and puts in new ones. Takes no memory: each row that stays is moved.
+    /// Keeps some rows of each map, removes others and puts in new ones. Takes no memory, and copies no set.
     pub fn edit(&mut self, mut edits: BookEdits)
         requires { spec.HoldMaps (spec.each_edited edits.items self.old) }
         ensures { self.new ≡ spec.each_edited edits.items self.old }

@@ -151,8 +151,7 @@ pub fn maps_for(
     ensures { IfOk result (BringsMaps image.now change.now) }
 {
     match change {
-        Change::Registered(_) => Ok(MapChange::Keep),
-        Change::Unregistered { .. } => Ok(MapChange::Keep),
+        Change::Registered(_) | Change::Unregistered { .. } => Ok(MapChange::Keep),
         Change::Tokens(tokens) => maps_on(alloc, image, directory, tokens, change),
         Change::Keyspaces(rows) => maps_under(alloc, image, directory, maps, rows, change),
         Change::Begun { plan, .. } => {

@@ -175,9 +175,9 @@ impl Metadata {
     /// way make new sets for the rows that the deltas of the movement change, and search the delta for each row. If a
     /// movement begins or ends, the image is copied, and one pass over the tokens makes the next image's cuts. Under
     /// each replication one pass over the rows between these makes the rows that are new or change, and takes memory
-    /// for all rows. An unsafe join places the maps anew: under each replication, one walk for each row between the
-    /// cuts of the next image, which `walks` doesn't count. A command on keyspaces places that of a new replication,
-    /// and copies the others, or keeps all if the replications stay.
+    /// for all rows, which stays unused if the map has memory to spare. An unsafe join places the maps anew: under each
+    /// replication, one walk for each row between the cuts of the next image, which `walks` doesn't count. A command on
+    /// keyspaces places that of a new replication, and copies the others, or keeps all if the replications stay.
     ///
     /// Under each keyspace, a token is in the ranges of at most one movement. Whichever movements are done or given up,
     /// the placement at a token depends only on the movements that have it in their ranges. Reads and writes are
@@ -228,8 +228,8 @@ impl Metadata {
     ///
     /// Cost: a register adds one row to the nodes and to the directory, and moves the others only if there is no memory
     /// to spare. An unregister moves the rows after the removed one. A finish changes one row in place. If a movement
-    /// ends, one pass over the locks unlocks its ranges. If a movement begins or ends, each row of the placement maps
-    /// that stays is moved.
+    /// ends, one pass over the locks unlocks its ranges. If a movement begins or ends, rows of the placement maps are
+    /// moved past those that come or go, or to new memory if the map has none to spare.
     pub fn enact(&mut self, permit: Permit) -> u64
         requires { permit.image ≡ self.old }
         ensures image { self.new ≡ next_image self.old permit.command }

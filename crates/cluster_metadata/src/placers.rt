@@ -4,7 +4,7 @@ ghost use Rattle.cluster_metadata.specs.MapBasis.{PlaceOnRings, row_placed};
 use crate::rings::Rings;
 use cluster_terms::{Memory, Replication, Steps, TokenRange};
 use node_directory::Directory;
-use range_placements::{PlacementRow, PlacementRows};
+use range_placements::{PlacementRow, PlacementRows, rows_with_room};
 use sequence_plans::Placer;
 use std::alloc::Global;
 use std::sync::ledger::Ledger;
@@ -63,7 +63,7 @@ impl<'a> Placers<'a> {
     ) -> Result<PlacementRows, Memory>
         ensures { IfOk result (λ rows. rows.items ≡ map (row_placed self.now) ranges.now) }
     {
-        let mut rows = Vec::with_capacity(alloc, ranges.len())?;
+        let mut rows = rows_with_room(alloc, ranges.len())?;
         for range in ranges {
             rows.push(self.row(alloc, range, walks)?)?;
         }

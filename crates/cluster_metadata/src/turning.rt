@@ -1,6 +1,7 @@
 //! Changes placement maps by the deltas of a movement.
 
-ghost use Rattle.std.specs.Prelude.{◌≡◌, ◌<◌, ◌≤◌, ◌-◌, ◌^◌, ℕ, List, [], None, length, IfOk, IsTrue, OnOk};
+ghost use Rattle.std.specs.Prelude.{◌≡◌, ◌<◌, ◌≤◌, ◌^◌, ℕ, List, [], None, length, take, IfOk, IsTrue, OnOk};
+ghost use Rattle.cluster_terms.specs.Row.{last_token};
 ghost use Rattle.placement_deltas.specs.Deltas.{delta_at};
 ghost use Rattle.placement_deltas.specs.declared.delta_row.DeltaRow.{DeltaRow};
 ghost use Rattle.range_placements.specs.Editing.{edited, all_passed};
@@ -100,6 +101,23 @@ fn changes_nothing(delta: &Delta, t: Token, place: &mut DeltaPlace) -> bool
     is_among(place.unchanged, t)
 }
 
+/// A row with this right end and the sets of a row, changed by what the delta shows at the last token.
+fn turned_row(
+    turn: Turn,
+    right: &RightEnd,
+    row: &PlacementRow,
+    delta: &Delta,
+    place: &mut DeltaPlace,
+) -> Result<PlacementRow, Memory>
+    requires { spec.IsKnown delta.now place.old.unchanged }
+    ensures known { spec.IsKnown delta.now place.new.unchanged }
+    ensures row { IfOk result (λ new. new ≡ spec.row_to right.now
+        (spec.turned turn (row.now.reads, row.now.writes) (delta_at delta.now (last_token right.now)))) }
+{
+    let (gained, lost) = delta.at_near(right.last_token(), &mut place.near);
+    turned_sets(turn, *right, &row.reads, &row.writes, gained, lost)
+}
+
 /// Adds the new sets of a row, if the delta shows a change at its last token.
 fn push_turned(
     changes: &mut RowChanges,
@@ -113,16 +131,14 @@ fn push_turned(
     ensures known { spec.IsKnown delta.now place.new.unchanged }
     ensures sets { OnOk result (spec.AddsTurned turn delta.now at row.now changes.old changes.new) }
 {
-    let last = row.last_token();
-    if changes_nothing(delta, last, place) {
+    if changes_nothing(delta, row.last_token(), place) {
         return Ok(());
     }
-    let (gained, lost) = delta.at_near(last, &mut place.near);
     let PlacementRow {
         right: _,
         reads,
         writes,
-    } = turned_sets(turn, row.right, &row.reads, &row.writes, gained, lost)?;
+    } = turned_row(turn, &row.right, row, delta, place)?;
     changes.push(RowChange { at, reads, writes })
 }
 
@@ -166,37 +182,72 @@ fn leaves_sets(turn: Turn, delta: &Delta, t: Token, place: &mut DeltaPlace) -> b
 /// Whether a map has a row at an index, which no edit is past.
 fn is_ahead(edits: &RowEdits, map: &PlacementMap, at: usize) -> bool
     ensures place { IsTrue result → all_passed edits.now ≤ at }
-    ensures bound { IsTrue result → at < 2 ^ 64 - 1 }
+    ensures bound { IsTrue result → at < length map.now }
+    ensures fits { length map.now < 2 ^ 64 }
 {
-    edits.passed() <= at && at < map.rows().len()
+    let count = map.rows().len();
+    edits.passed() <= at && at < count
 }
 
-/// Adds the row of a range, with the sets of its last token in a map, changed by what the delta shows there. If this is
-/// the token's row in the map and no edit is past it, the row is kept. `places` is where the map and the delta are
-/// looked at.
-fn recut_row(
+/// How many of these rows of a map, from the first one on, have the right ends of these ranges and are left as they are
+/// by a turn.
+fn count_kept(
+    turn: Turn,
+    rows: &[PlacementRow],
+    delta: &Delta,
+    ranges: &[TokenRange],
+    place: &mut DeltaPlace,
+) -> usize
+    requires { spec.IsKnown delta.now place.old.unchanged }
+    ensures known { spec.IsKnown delta.now place.new.unchanged }
+    ensures rows { result ≤ length rows.now }
+    ensures ranges { result ≤ length ranges.now }
+    ensures kept { spec.AreKept turn delta.now (take result rows.now) (take result ranges.now) }
+{
+    let most = rows.len().min(ranges.len());
+    for at in 0..most {
+        let right = rows[at].right;
+        if right != ranges[at].right || !leaves_sets(turn, delta, right.last_token(), place) {
+            return at;
+        }
+    }
+    most
+}
+
+/// Adds the rows of some ranges, at least of the first, with the sets of their last tokens in a map, changed by what the
+/// delta shows there. Returns how many. Rows that the map has, and that no edit is past, are kept if they don't change.
+/// `places` is where the map and the delta are looked at.
+fn recut_some(
     edits: &mut RowEdits,
     turn: Turn,
     map: &PlacementMap,
     delta: &Delta,
-    range: &TokenRange,
+    ranges: &[TokenRange],
     places: &mut Places,
-) -> Result<(), Memory>
-    requires { spec.IsKnown delta.now places.old.delta.unchanged }
+) -> Result<usize, Memory>
+    requires known { spec.IsKnown delta.now places.old.delta.unchanged }
+    requires some { 0 < length ranges.now }
     ensures known { spec.IsKnown delta.now places.new.delta.unchanged }
-    ensures row { OnOk result (spec.AddsRow map.now
-        (spec.row_with (spec.turned_at turn map.now delta.now) range.now) edits.old edits.new) }
+    ensures some { IfOk result (λ count. 0 < count) }
+    ensures bound { IfOk result (λ count. count ≤ length ranges.now) }
+    ensures rows { IfOk result (λ count. spec.AddsRows map.now
+        (spec.recut_rows turn (take count ranges.now) map.now delta.now) edits.old edits.new) }
 {
-    let last = range.last_token();
-    let row = map.row_near(last, &mut places.map);
-    if row.right == range.right
-        && is_ahead(edits, map, places.map)
-        && leaves_sets(turn, delta, last, &mut places.delta)
-    {
-        return edits.keep(places.map);
+    let right = &ranges[0].right;
+    let row = map.row_near(right.last_token(), &mut places.map);
+    if row.right != *right || !is_ahead(edits, map, places.map) {
+        edits.put(turned_row(turn, right, row, delta, &mut places.delta)?)?;
+        return Ok(1);
     }
-    let (gained, lost) = delta.at_near(last, &mut places.delta.near);
-    edits.put(turned_sets(turn, range.right, &row.reads, &row.writes, gained, lost)?)
+    let rows = &map.rows()[places.map..];
+    let count = count_kept(turn, rows, delta, ranges, &mut places.delta);
+    if count > 0 {
+        edits.keep(places.map, count)?;
+        return Ok(count);
+    }
+    let new = turned_row(turn, right, row, delta, &mut places.delta)?;
+    edits.replace(places.map, new)?;
+    Ok(1)
 }
 
 /// The edits that make a map one of these ranges, with the sets of their last tokens in the map, changed by what the
@@ -215,8 +266,9 @@ fn recut_map(
         map: 0,
         delta: at_start(),
     };
-    for range in ranges {
-        recut_row(&mut edits, turn, map, delta, range, &mut places)?;
+    let mut done = 0;
+    while done < ranges.len() {
+        done += recut_some(&mut edits, turn, map, delta, &ranges[done..], &mut places)?;
     }
     Ok(edits)
 }

@@ -1,23 +1,11 @@
 -- Rows after edits: what one edit more does, and what is left after the first edit.
-use Rattle.std.proofs.Common.{◌≡◌, ℕ, zero, suc, ◌+◌, ◌<◌, ◌≤◌, List, [], ◌∷◌, ◌++◌, length, get_or, take, drop, refl, sym, ap, ◌∙◌, append_assoc, arith}
-use Rattle.std.proofs.lemmas.List.{get_or-drop, length-drop, take_more}
-use Rattle.range_placements.specs.Editing.{edited_rows, rows_made, rows_passed}
+use Rattle.std.proofs.Common.{◌≡◌, ℕ, zero, suc, ◌+◌, ◌-◌, ◌≤◌, List, [], ◌∷◌, ◌++◌, take, drop, refl, sym, ap, ◌∙◌, append_assoc, arith}
+use Rattle.std.specs.Prelude.{Option, Some, None}
+use Rattle.std.proofs.Math.Seq.{take-add}
+use Rattle.std.proofs.lemmas.List.{append-nil, drop-drop}
+use Rattle.range_placements.specs.Editing.{edited_rows, row_count, rows_added, rows_made, rows_passed, with_first}
 use Rattle.range_placements.specs.declared.placement_row.PlacementRow.{PlacementRow}
 use Rattle.range_placements.specs.declared.row_edits.RowEdit.{RowEdit}
-use Rattle.range_placements.specs.declared.row_edits.RowEdit.TheVariants.{Put, Skip}
-
--- ---- one row
-
-one_at : (rows : List PlacementRow) (n : ℕ) (d : PlacementRow) → n < length rows → take 1 (drop n rows) ≡ get_or rows n d ∷ []
-one_at [] n d within = absurd (omega arith)
-one_at (row ∷ rows) zero d within = refl
-one_at (row ∷ rows) (suc n) d within = one_at rows n d (omega arith)
-
-at_past : (k : ℕ) (rows : List PlacementRow) (n : ℕ) (d : PlacementRow) → get_or (drop k rows) n d ≡ get_or rows (k + n) d
-at_past k rows n d = get_or-drop k rows n d
-
-within_past : (k : ℕ) (rows : List PlacementRow) (n : ℕ) → k + n < length rows → n < length (drop k rows)
-within_past k rows n within = let count = length-drop k rows in omega (arith, count)
 
 -- ---- the rows of an iterator that are left
 
@@ -62,88 +50,87 @@ module _ (rows : List PlacementRow) (n : ℕ) where
   pub none_left : [] ≡ drop n rows → drop (n + 1) rows ≡ []
   none_left is = ap (λ m. drop m rows) one_more ∙ none_after rows n is
 
+-- ---- rows behind a row, if there is one
+
+pub first_append : (row : Option PlacementRow) (xs ys : List PlacementRow) → with_first row (xs ++ ys) ≡ with_first row xs ++ ys
+first_append None xs ys = refl
+first_append (Some row) xs ys = refl
+
+-- the last rows, behind kept ones and a row
+behind : (kept : List PlacementRow) (row : Option PlacementRow) (before after last : List PlacementRow) → after ≡ before ++ last → kept ++ with_first row after ≡ (kept ++ with_first row before) ++ last
+behind kept row before after last is =
+    ap (λ l. kept ++ with_first row l) is ∙ ap (λ l. kept ++ l) (first_append row before last) ∙ sym (append_assoc kept (with_first row before) last)
+
 -- ---- one edit more
 
--- the last row of some rows, behind kept ones
-behind : (kept more : List PlacementRow) (before after : List PlacementRow) (last : PlacementRow) → after ≡ before ++ last ∷ [] → kept ++ (more ++ after) ≡ (kept ++ (more ++ before)) ++ last ∷ []
-behind kept more before after last is =
-    ap (λ l. kept ++ (more ++ l)) is ∙ ap (λ l. kept ++ l) (sym (append_assoc more before (last ∷ []))) ∙ sym (append_assoc kept (more ++ before) (last ∷ []))
+-- the rows that edits come to, past an edit
+past_edit : (edit : RowEdit) (edits : List RowEdit) (keep : ℕ) (rows : List PlacementRow) → drop (rows_passed edits keep) (drop edit.skip (drop edit.keep rows)) ≡ drop (rows_passed (edit ∷ edits) keep) rows
+past_edit edit edits keep rows =
+    ap (λ l. drop (rows_passed edits keep) l) (drop-drop edit.skip edit.keep rows) ∙ drop-drop (rows_passed edits keep) (edit.keep + edit.skip) rows
+    ∙ ap (λ n. drop n rows) on
+  where
+    on : (edit.keep + edit.skip) + rows_passed edits keep ≡ edit.keep + (edit.skip + rows_passed edits keep)
+    on = omega arith
 
-pub put_last : (edits : List RowEdit) (keep : ℕ) (row : PlacementRow) (rows : List PlacementRow) → edited_rows (edits ++ Put keep row ∷ []) 0 rows ≡ edited_rows edits keep rows ++ row ∷ []
-put_last [] keep row rows = refl
-put_last (Put k r ∷ edits) keep row rows = behind (take k rows) (r ∷ []) _ _ row (put_last edits keep row (drop k rows))
-put_last (Skip k s ∷ edits) keep row rows = behind (take k rows) [] _ _ row (put_last edits keep row (drop s (drop k rows)))
+-- an edit more, after which some rows are kept
+pub one_edited : (edits : List RowEdit) (edit : RowEdit) (last : ℕ) (rows : List PlacementRow)
+    → edited_rows (edits ++ edit ∷ []) last rows ≡ edited_rows edits edit.keep rows ++ with_first edit.row (take last (drop edit.skip (drop (rows_passed edits edit.keep) rows)))
+one_edited [] edit last rows = refl
+one_edited (e ∷ edits) edit last rows =
+    behind (take e.keep rows) e.row _ _ _
+    (one_edited edits edit last (drop e.skip (drop e.keep rows))
+    ∙ ap (λ l. edited_rows edits edit.keep (drop e.skip (drop e.keep rows)) ++ with_first edit.row (take last (drop edit.skip l))) (past_edit e edits edit.keep rows))
 
-pub next_last : (edits : List RowEdit) (keep : ℕ) (rows : List PlacementRow) (d : PlacementRow) → rows_passed edits keep < length rows
-    → edited_rows edits (keep + 1) rows ≡ edited_rows edits keep rows ++ get_or rows (rows_passed edits keep) d ∷ []
-next_last [] keep rows d within = take_more rows keep d within
-next_last (Put k r ∷ edits) keep rows d within =
-    behind (take k rows) (r ∷ []) _ _ _ (next_last edits keep (drop k rows) d (within_past k rows _ within) ∙ ap (λ row. edited_rows edits keep (drop k rows) ++ row ∷ []) (at_past k rows (rows_passed edits keep) d))
-next_last (Skip k s ∷ edits) keep rows d within =
-    let rest = drop s (drop k rows) in
-    let p = rows_passed edits keep in
-    behind (take k rows) [] _ _ _
-    (next_last edits keep rest d (within_past s (drop k rows) p (within_past k rows (s + p) within))
-    ∙ ap (λ row. edited_rows edits keep rest ++ row ∷ []) (at_past s (drop k rows) p d ∙ at_past k rows (s + p) d))
+module _ (edits : List RowEdit) (keep skip : ℕ) (rows : List PlacementRow) where
+  -- an edit that puts in a row
+  pub put_edited : (row : PlacementRow) → edited_rows (edits ++ (record { keep = keep; skip = skip; row = Some row }) ∷ []) 0 rows ≡ edited_rows edits keep rows ++ row ∷ []
+  put_edited row = one_edited edits (record { keep = keep; skip = skip; row = Some row }) 0 rows
 
-pub skip_last : (edits : List RowEdit) (keep skip : ℕ) (rows : List PlacementRow) (d : PlacementRow) → rows_passed edits keep + skip < length rows
-    → edited_rows (edits ++ Skip keep skip ∷ []) 1 rows ≡ edited_rows edits keep rows ++ get_or rows (rows_passed edits keep + skip) d ∷ []
-skip_last [] keep skip rows d within =
-    ap (λ l. take keep rows ++ l) (one_at (drop keep rows) skip d (within_past keep rows skip within) ∙ ap (λ row. row ∷ []) (at_past keep rows skip d))
-skip_last (Put k r ∷ edits) keep skip rows d within =
-    let p = rows_passed edits keep in
-    let on : (k + p) + skip ≡ k + (p + skip) = omega arith in
-    behind (take k rows) (r ∷ []) _ _ _
-    (skip_last edits keep skip (drop k rows) d (within_past k rows (p + skip) (omega arith))
-    ∙ ap (λ row. edited_rows edits keep (drop k rows) ++ row ∷ []) (at_past k rows (p + skip) d ∙ ap (λ n. get_or rows n d) (sym on)))
-skip_last (Skip k s ∷ edits) keep skip rows d within =
-    let rest = drop s (drop k rows) in
-    let p = rows_passed edits keep in
-    let on : (k + (s + p)) + skip ≡ k + (s + (p + skip)) = omega arith in
-    behind (take k rows) [] _ _ _
-    (skip_last edits keep skip rest d (within_past s (drop k rows) (p + skip) (within_past k rows (s + (p + skip)) (omega arith)))
-    ∙ ap (λ row. edited_rows edits keep rest ++ row ∷ []) (at_past s (drop k rows) (p + skip) d ∙ at_past k rows (s + (p + skip)) d ∙ ap (λ n. get_or rows n d) (sym on)))
+  -- an edit that puts in none
+  pub skip_edited : edited_rows (edits ++ (record { keep = keep; skip = skip; row = None }) ∷ []) 0 rows ≡ edited_rows edits keep rows
+  skip_edited = one_edited edits (record { keep = keep; skip = skip; row = None }) 0 rows ∙ append-nil (edited_rows edits keep rows)
 
--- ---- how many rows are passed, and how many are made
+-- more rows kept after the edits
+pub more_kept : (edits : List RowEdit) (keep more : ℕ) (rows : List PlacementRow) → edited_rows edits (keep + more) rows ≡ edited_rows edits keep rows ++ take more (drop (rows_passed edits keep) rows)
+more_kept [] keep more rows = take-add keep more rows
+more_kept (e ∷ edits) keep more rows =
+    behind (take e.keep rows) e.row _ _ _
+    (more_kept edits keep more (drop e.skip (drop e.keep rows))
+    ∙ ap (λ l. edited_rows edits keep (drop e.skip (drop e.keep rows)) ++ take more l) (past_edit e edits keep rows))
 
-pub put_passes : (edits : List RowEdit) (keep : ℕ) (row : PlacementRow) → rows_passed (edits ++ Put keep row ∷ []) 0 ≡ rows_passed edits keep
-put_passes [] keep row = omega arith
-put_passes (Put k r ∷ edits) keep row = ap (λ n. k + n) (put_passes edits keep row)
-put_passes (Skip k s ∷ edits) keep row = ap (λ n. k + (s + n)) (put_passes edits keep row)
+-- ---- how many rows are passed, made and added
 
-pub next_passes : (edits : List RowEdit) (keep : ℕ) → rows_passed edits (keep + 1) ≡ rows_passed edits keep + 1
-next_passes [] keep = refl
-next_passes (Put k r ∷ edits) keep = let rest = next_passes edits keep in omega (arith, rest)
-next_passes (Skip k s ∷ edits) keep = let rest = next_passes edits keep in omega (arith, rest)
+pub one_passes : (edits : List RowEdit) (edit : RowEdit) (last : ℕ) → rows_passed (edits ++ edit ∷ []) last ≡ rows_passed edits edit.keep + (edit.skip + last)
+one_passes [] edit last = refl
+one_passes (e ∷ edits) edit last = let rest = one_passes edits edit last in omega (arith, rest)
 
-pub skip_passes : (edits : List RowEdit) (keep skip : ℕ) → rows_passed (edits ++ Skip keep skip ∷ []) 1 ≡ (rows_passed edits keep + skip) + 1
-skip_passes [] keep skip = omega arith
-skip_passes (Put k r ∷ edits) keep skip = let rest = skip_passes edits keep skip in omega (arith, rest)
-skip_passes (Skip k s ∷ edits) keep skip = let rest = skip_passes edits keep skip in omega (arith, rest)
+pub more_passes : (edits : List RowEdit) (keep more : ℕ) → rows_passed edits (keep + more) ≡ rows_passed edits keep + more
+more_passes [] keep more = refl
+more_passes (e ∷ edits) keep more = let rest = more_passes edits keep more in omega (arith, rest)
 
-pub put_makes : (edits : List RowEdit) (keep : ℕ) (row : PlacementRow) → rows_made (edits ++ Put keep row ∷ []) 0 ≡ rows_made edits keep + 1
-put_makes [] keep row = omega arith
-put_makes (Put k r ∷ edits) keep row = let rest = put_makes edits keep row in omega (arith, rest)
-put_makes (Skip k s ∷ edits) keep row = let rest = put_makes edits keep row in omega (arith, rest)
+pub one_makes : (edits : List RowEdit) (edit : RowEdit) (last : ℕ) → rows_made (edits ++ edit ∷ []) last ≡ rows_made edits edit.keep + (row_count edit.row + last)
+one_makes [] edit last = refl
+one_makes (e ∷ edits) edit last = let rest = one_makes edits edit last in omega (arith, rest)
 
-pub next_makes : (edits : List RowEdit) (keep : ℕ) → rows_made edits (keep + 1) ≡ rows_made edits keep + 1
-next_makes [] keep = refl
-next_makes (Put k r ∷ edits) keep = let rest = next_makes edits keep in omega (arith, rest)
-next_makes (Skip k s ∷ edits) keep = let rest = next_makes edits keep in omega (arith, rest)
+pub more_makes : (edits : List RowEdit) (keep more : ℕ) → rows_made edits (keep + more) ≡ rows_made edits keep + more
+more_makes [] keep more = refl
+more_makes (e ∷ edits) keep more = let rest = more_makes edits keep more in omega (arith, rest)
 
-pub skip_makes : (edits : List RowEdit) (keep skip : ℕ) → rows_made (edits ++ Skip keep skip ∷ []) 1 ≡ rows_made edits keep + 1
-skip_makes [] keep skip = omega arith
-skip_makes (Put k r ∷ edits) keep skip = let rest = skip_makes edits keep skip in omega (arith, rest)
-skip_makes (Skip k s ∷ edits) keep skip = let rest = skip_makes edits keep skip in omega (arith, rest)
+pub one_adds : (edits : List RowEdit) (edit : RowEdit) → rows_added (edits ++ edit ∷ []) ≡ rows_added edits + (row_count edit.row - edit.skip)
+one_adds [] edit = omega arith
+one_adds (e ∷ edits) edit = let rest = one_adds edits edit in omega (arith, rest)
+
+-- no more rows are added than made
+pub adds_make : (edits : List RowEdit) (keep : ℕ) → rows_added edits ≤ rows_made edits keep
+adds_make [] keep = omega arith
+adds_make (e ∷ edits) keep = let rest = adds_make edits keep in omega (arith, rest)
 
 -- the rows kept last are passed
 pub keep_passes : (edits : List RowEdit) (keep : ℕ) → keep ≤ rows_passed edits keep
 keep_passes [] keep = omega arith
-keep_passes (Put k r ∷ edits) keep = let rest = keep_passes edits keep in omega (arith, rest)
-keep_passes (Skip k s ∷ edits) keep = let rest = keep_passes edits keep in omega (arith, rest)
+keep_passes (e ∷ edits) keep = let rest = keep_passes edits keep in omega (arith, rest)
 
 -- ---- the first edit
 
 pub first_makes : (edit : RowEdit) (edits : List RowEdit) (last : ℕ) → rows_made (edit ∷ edits) last ≡ rows_made (edit ∷ []) 0 + rows_made edits last
-first_makes (Put k r) edits last = omega arith
-first_makes (Skip k s) edits last = omega arith
+first_makes edit edits last = omega arith

@@ -1,6 +1,8 @@
 -- The rows of a placement map: their order, and the row of a token.
-use Rattle.std.proofs.Common.{◌≡◌, ℕ, zero, suc, ◌-◌, ◌<◌, ◌≤◌, true, false, ℤ, ◌≤ℤ◌, int_lt, List, [], ◌∷◌, length, get_or, refl, arith}
+use Rattle.std.proofs.Common.{◌≡◌, ℕ, zero, suc, ◌-◌, ◌<◌, ◌≤◌, true, false, if◌then◌else◌, ℤ, ◌≤ℤ◌, int_lt, int_le, List, [], ◌∷◌, length, get_or, refl, ap, ◌∙◌, arith}
+use Rattle.std.specs.List.{AllByRecursion}
 use Rattle.std.proofs.lemmas.Int.{ints}
+use Rattle.cluster_terms.proofs.AscendingLemmas.{weaker}
 use Rattle.cluster_terms.proofs.RingRows.{told_by_row}
 use Rattle.cluster_terms.specs.Arc.{greatest_token}
 use Rattle.cluster_terms.specs.Row.{EndBefore, last_token}
@@ -39,6 +41,39 @@ Splits t rows k = EndBefore (λ (r : PlacementRow). r.right) t rows k
 -- where k rows end before a token, the next row has the reads and the writes at the token
 pub found_at : (rows : List PlacementRow) (t : ℤ) (k : ℕ) (d : PlacementRow) → Splits t rows k → k < length rows → placement_in (get_or rows k d) ≡ map_at rows t
 found_at = told_by_row (λ (r : PlacementRow). r.right) placement_in map_at (λ row rows x. refl)
+
+-- where rows are later ones of a map, they end past its first row
+later_ends : (row : PlacementRow) (rows : List PlacementRow) → IsPlacementMap (row ∷ rows) → AllByRecursion (λ (r : PlacementRow). int_le (last_token r.right) (last_token row.right) ≡ false) rows
+later_ends row [] map = tt
+later_ends row (next ∷ rows) map = (
+  first (last_token row.right) (last_token next.right) map.0,
+  weaker (λ (r : PlacementRow). int_le (last_token r.right) (last_token next.right) ≡ false) (λ (r : PlacementRow). int_le (last_token r.right) (last_token row.right) ≡ false)
+      (λ r past. further (last_token row.right) (last_token next.right) (last_token r.right) map.0 past) rows (later_ends next rows map.1),
+)
+  where
+    first : (a b : ℤ) → int_lt a b ≡ true → int_le b a ≡ false
+    first a b h = grind (arith, ints)
+
+    further : (a b c : ℤ) → int_lt a b ≡ true → int_le c b ≡ false → int_le c a ≡ false
+    further a b c h k = grind (arith, ints)
+
+-- what rows tell at a token past the first one, they tell behind it
+told_behind : (row : PlacementRow) (rows part : List PlacementRow) → AllByRecursion (λ (r : PlacementRow). int_le (last_token r.right) (last_token row.right) ≡ false) part
+    → AllByRecursion (λ (r : PlacementRow). map_at rows (last_token r.right) ≡ placement_in r) part → AllByRecursion (λ (r : PlacementRow). map_at (row ∷ rows) (last_token r.right) ≡ placement_in r) part
+told_behind row rows [] past told = tt
+told_behind row rows (r ∷ part) past told = (ap (λ b. if b then placement_in row else map_at rows (last_token r.right)) past.0 ∙ told.0, told_behind row rows part past.1 told.1)
+
+first_tells : (row : PlacementRow) (rows : List PlacementRow) → map_at (row ∷ rows) (last_token row.right) ≡ placement_in row
+first_tells row rows = ap (λ b. if b then placement_in row else map_at rows (last_token row.right)) (upto (last_token row.right))
+  where
+    upto : (w : ℤ) → int_le w w ≡ true
+    upto w = grind (arith, ints)
+
+-- each row of a map tells the reads and the writes at its last token
+pub rows_tell : (rows : List PlacementRow) → IsPlacementMap rows → AllByRecursion (λ (r : PlacementRow). map_at rows (last_token r.right) ≡ placement_in r) rows
+rows_tell [] map = tt
+rows_tell (row ∷ []) map = (first_tells row [], tt)
+rows_tell (row ∷ next ∷ rows) map = (first_tells row (next ∷ rows), told_behind row (next ∷ rows) (next ∷ rows) (later_ends row (next ∷ rows) map) (rows_tell (next ∷ rows) map.1))
 
 -- ---- a search for the row of a token
 

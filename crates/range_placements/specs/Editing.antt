@@ -1,21 +1,24 @@
 -- The rows of a map after rows are put in and removed.
 -- The contracts of `RowEdits` and `PlacementMap::edit` cite `edited` and `all_passed`. Of the code: no promise rests on
--- `rows_made`.
-use Rattle.std.specs.Prelude.{ℕ, suc, ◌+◌, List, [], ◌∷◌, ◌++◌, take, drop}
+-- `rows_made` and `rows_added`.
+use Rattle.std.specs.Prelude.{ℕ, ◌+◌, ◌-◌, List, [], ◌∷◌, ◌++◌, take, drop, Option, Some, None}
 use Rattle.range_placements.specs.declared.placement_row.PlacementRow.{PlacementRow}
 use Rattle.range_placements.specs.declared.row_edits.RowEdit.{RowEdit}
-use Rattle.range_placements.specs.declared.row_edits.RowEdit.TheVariants.{Put, Skip}
 
 -- some edits from the first row on, and how many rows are kept after them; the others are removed
 pub record Edits : Type 0 where
   pub edits : List RowEdit
   pub keep : ℕ
 
--- the rows after edits
+-- rows behind a row, if there is one
+abbrev pub with_first : Option PlacementRow → List PlacementRow → List PlacementRow
+with_first None rows = rows
+with_first (Some row) rows = row ∷ rows
+
+-- the rows after edits: each keeps some rows, removes the next ones, and puts in its row, if it has one
 abbrev pub edited_rows : List RowEdit → ℕ → List PlacementRow → List PlacementRow
 edited_rows [] last rows = take last rows
-edited_rows (Put keep row ∷ edits) last rows = take keep rows ++ row ∷ edited_rows edits last (drop keep rows)
-edited_rows (Skip keep skip ∷ edits) last rows = take keep rows ++ edited_rows edits last (drop skip (drop keep rows))
+edited_rows (edit ∷ edits) last rows = take edit.keep rows ++ with_first edit.row (edited_rows edits last (drop edit.skip (drop edit.keep rows)))
 
 abbrev pub edited : Edits → List PlacementRow → List PlacementRow
 edited edits rows = edited_rows edits.edits edits.keep rows
@@ -23,13 +26,20 @@ edited edits rows = edited_rows edits.edits edits.keep rows
 -- how many rows edits have kept or removed, and how many there are at most after them
 abbrev pub rows_passed : List RowEdit → ℕ → ℕ
 rows_passed [] last = last
-rows_passed (Put keep row ∷ edits) last = keep + rows_passed edits last
-rows_passed (Skip keep skip ∷ edits) last = keep + (skip + rows_passed edits last)
+rows_passed (edit ∷ edits) last = edit.keep + (edit.skip + rows_passed edits last)
 
 abbrev pub all_passed : Edits → ℕ
 all_passed edits = rows_passed edits.edits edits.keep
 
+abbrev pub row_count : Option PlacementRow → ℕ
+row_count None = 0
+row_count (Some row) = 1
+
 abbrev pub rows_made : List RowEdit → ℕ → ℕ
 rows_made [] last = last
-rows_made (Put keep row ∷ edits) last = keep + suc (rows_made edits last)
-rows_made (Skip keep skip ∷ edits) last = keep + rows_made edits last
+rows_made (edit ∷ edits) last = edit.keep + (row_count edit.row + rows_made edits last)
+
+-- how many rows edits put in where they remove none
+abbrev pub rows_added : List RowEdit → ℕ
+rows_added [] = 0
+rows_added (edit ∷ edits) = (row_count edit.row - edit.skip) + rows_added edits

@@ -1,4 +1,5 @@
 pub mod Changing
 pub mod Editing
 pub mod Exchanging
+pub mod InPlace
 pub mod Placements

@@ -1,6 +1,8 @@
 //! The placements of a keyspace: the nodes that are read and the nodes that are written at each token of the ring.
 #![tactic(auto)]
 
+mod edits_in_place;
+mod edits_in_room;
 pub mod placement_map;
 pub mod placement_row;
 pub mod row_changes;
@@ -8,6 +10,6 @@ pub mod row_edits;
 pub mod validity;
 
 pub use placement_map::PlacementMap;
-pub use placement_row::{PlacementRow, PlacementRows, with_change};
+pub use placement_row::{PlacementRow, PlacementRows, rows_with_room, with_change};
 pub use row_changes::{RowChange, RowChanges};
 pub use row_edits::{RowEdit, RowEdits};

@@ -220,7 +220,10 @@ impl PlacementMap {
         Ok(PlacementMap { rows })
     }
 
-    /// Keeps some rows, removes others and puts in new ones. Takes no memory: each row that stays is moved.
+    /// Keeps some rows, removes others and puts in new ones. Takes no memory, and copies no set.
+    ///
+    /// If the rows have memory to spare for those that are put in, a row moves past the rows that come or go after it,
+    /// and no further. Otherwise each row moves into the memory that the edits hold.
     pub fn edit(&mut self, edits: RowEdits)
         requires { IsPlacementMap (edited edits self.old) }
         ensures { self.new ≡ edited edits self.old }

@@ -1,4 +1,4 @@
-ghost use Rattle.std.specs.Prelude.{◌≡◌, IfOk};
+ghost use Rattle.std.specs.Prelude.{◌≡◌, ◌+◌, ◌<◌, ◌≤◌, ◌∷◌, ◌++◌, [], IfOk, vec_capacity, vec_len};
 ghost use Rattle.cluster_terms.specs.Row.{last_token};
 ghost use Rattle.cluster_terms.specs.declared.token.RightEnd.TheVariants as right_end;
 ghost use Rattle.range_placements.specs.Changing as spec;
@@ -7,6 +7,7 @@ ghost use Rattle.range_placements.specs.Placements.{with_change, row_until, read
 use cluster_terms::{Memory, RightEnd, RingRow, Token, TryCopy};
 use node_sets::NodeSet;
 use placement_deltas::Delta;
+use std::alloc::Global;
 
 /// The nodes that are read and the nodes that are written at the tokens of a range. The range begins where the row
 /// before it ends, or with the least token.
@@ -19,6 +20,28 @@ pub struct PlacementRow {
 
 /// The rows of a placement map.
 pub type PlacementRows = Vec<PlacementRow>;
+
+/// An empty list with room for this many rows and an eighth more, so that rows can be put in without new memory. `Err`
+/// means that memory ran out.
+pub fn rows_with_room(alloc: Global, count: usize) -> Result<PlacementRows, Memory>
+    ensures empty { IfOk result (λ rows. vec_len rows ≡ 0) }
+    ensures room { IfOk result (λ rows. count ≤ vec_capacity rows) }
+{
+    Ok(Vec::with_capacity(alloc, count.saturating_add(count / 8))?)
+}
+
+/// Adds a row at the end. There is room for it.
+pub(crate) fn put_row(rows: &mut PlacementRows, row: PlacementRow)
+    requires { vec_len rows.old < vec_capacity rows.old }
+    ensures items { rows.new.items ≡ rows.old.items ++ row ∷ [] }
+    ensures count { vec_len rows.new ≡ vec_len rows.old + 1 }
+    ensures room { vec_capacity rows.old ≤ vec_capacity rows.new }
+{
+    match rows.push(row) {
+        Ok(()) => {}
+        Err(_) => unreachable!(),
+    }
+}
 
 /// A set of nodes without the nodes that it loses, and with those that it gains. Fails only if memory runs out.
 pub fn with_change(set: &NodeSet, gained: &NodeSet, lost: &NodeSet) -> Result<NodeSet, Memory>

@@ -7,11 +7,17 @@ ghost use Rattle.cluster_terms.specs.ReplicationText as spec;
 use cluster_terms::Memory;
 use std::alloc::Global;
 
+/// How many words have room at once: most lines have no more.
+const USUAL_WORDS: usize = 8;
+
 /// The words of a line, separated by single spaces. Fails only if memory runs out.
 pub fn words_of(alloc: Global, bytes: &[u8]) -> Result<Vec<&[u8]>, Memory>
     ensures { IfOk result (λ words. map (λ word. word.now) words.items ≡ spec.words_of bytes.now) }
 {
-    let words = bytes.split(|byte| *byte == b' ').collect(alloc)?;
+    let mut words = Vec::with_capacity(alloc, USUAL_WORDS)?;
+    for word in bytes.split(|byte| *byte == b' ') {
+        words.push(word)?;
+    }
     Ok(words)
 }
 

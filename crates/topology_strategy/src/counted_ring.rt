@@ -59,7 +59,7 @@ fn take_in_all(
         let mut walk = Walk::begin(alloc, *shape)?;
         walk.go_along(&members, shape.wanted, rest)?;
         walk.go_along(&members, shape.wanted, front)?;
-        taken.extend_from_slice(&walk.taken)?;
+        walk.add_to(&mut taken)?;
     }
     Ok(taken)
 }

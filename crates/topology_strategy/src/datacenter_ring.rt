@@ -85,7 +85,6 @@ impl<'a> DatacenterRing<'a> {
         let mut walk = Walk::begin(*pairs.allocator(), self.shape)?;
         walk.go_among(self.shape.wanted, rest, rest_racks)?;
         walk.go_among(self.shape.wanted, front, front_racks)?;
-        taken.extend_from_slice(&walk.taken)?;
-        Ok(())
+        walk.add_to(taken)
     }
 }

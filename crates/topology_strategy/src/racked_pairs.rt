@@ -36,7 +36,8 @@ pub fn first_at(pairs: &[Pair], t: Token) -> usize
     if below < pairs.len() { below } else { 0 }
 }
 
-/// The pairs whose nodes are in the group, in their order. A pair costs a look-up in the directory.
+/// The pairs whose nodes are in the group, in their order. Takes memory for all pairs at once. A pair costs a look-up in
+/// the directory.
 pub fn racked_pairs<'a>(
     alloc: Global,
     members: &Members<'a>,
@@ -44,8 +45,8 @@ pub fn racked_pairs<'a>(
 ) -> Result<RackedPairs<'a>, Memory>
     ensures { IfOk result (AreWithin (group_of members.now) ring.now) }
 {
-    let mut pairs = Vec::new(alloc);
-    let mut racks = Vec::new(alloc);
+    let mut pairs = Vec::with_capacity(alloc, ring.len())?;
+    let mut racks = Vec::with_capacity(alloc, ring.len())?;
     for pair in ring {
         if let Some(rack) = members.rack_of(pair.node) {
             pairs.push(*pair)?;

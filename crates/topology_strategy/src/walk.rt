@@ -1,4 +1,4 @@
-ghost use Rattle.std.specs.Prelude.{◌≡◌, [], length, IfOk, IsTrue, OnOk, Some, nat_eq};
+ghost use Rattle.std.specs.Prelude.{◌≡◌, ◌++◌, [], length, IfOk, IsTrue, OnOk, Some, nat_eq};
 ghost use Rattle.std.specs.Set.{is_member};
 ghost use Rattle.cluster_terms.specs.Group.{nodes_of};
 ghost use Rattle.node_directory.specs.Members.{group_of};
@@ -130,6 +130,24 @@ impl<'a> Walk<'a> {
             }
             self.meet(pairs[i].node, racks[i])?;
         }
+        Ok(())
+    }
+
+    /// Adds the nodes that the walk took to a list, at its end. If memory runs out, the list is unchanged. An empty list
+    /// takes no memory: it gets that of the walk.
+    pub fn add_to(self, nodes: &mut Vec<NodeId>) -> Result<(), Memory>
+        ensures { OnOk result (nodes.new.items ≡ nodes.old.items ++ self.entry.taken) }
+    {
+        let Walk {
+            taken,
+            racks: _,
+            repeats: _,
+        } = self;
+        if nodes.is_empty() {
+            *nodes = taken;
+            return Ok(());
+        }
+        nodes.extend_from_slice(&taken)?;
         Ok(())
     }
 }

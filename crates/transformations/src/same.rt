@@ -37,13 +37,9 @@ fn test_same(command: &Command, other: &Command) -> bool
             },
         ) => { same_name(name, n) && same_name(dc, d) && same_name(rack, r) }
         (Command::Unregister { node }, Command::Unregister { node: n }) => node == n,
-        (
-            Command::UnsafeJoin { node, tokens },
-            Command::UnsafeJoin {
-                node: n,
-                tokens: ts,
-            },
-        ) => { node == n && same_tokens(tokens, ts) }
+        (Command::UnsafeJoin { node, tokens }, Command::UnsafeJoin { node: n, tokens: t }) => {
+            node == n && same_tokens(tokens, t)
+        }
         (
             Command::Keyspace { name, replication },
             Command::Keyspace {
@@ -52,13 +48,9 @@ fn test_same(command: &Command, other: &Command) -> bool
             },
         ) => { same_name(name, n) && replication.same(r) }
         (Command::DropKeyspace { name }, Command::DropKeyspace { name: n }) => same_name(name, n),
-        (
-            Command::PrepareJoin { node, tokens },
-            Command::PrepareJoin {
-                node: n,
-                tokens: ts,
-            },
-        ) => { node == n && same_tokens(tokens, ts) }
+        (Command::PrepareJoin { node, tokens }, Command::PrepareJoin { node: n, tokens: t }) => {
+            node == n && same_tokens(tokens, t)
+        }
         (Command::PrepareMove { node, token }, Command::PrepareMove { node: n, token: t }) => {
             node == n && token == t
         }

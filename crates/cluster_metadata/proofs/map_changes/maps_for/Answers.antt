@@ -1,4 +1,4 @@
-use Rattle.std.proofs.Common.{◌≡◌, ℤ, List, ap, sym, subst, ◌∙◌}
+use Rattle.std.proofs.Common.{◌≡◌, ℤ, List, ap, sym, subst, ◌∙◌, inl, inr}
 use Rattle.std.specs.List.{AllByRecursion}
 use Rattle.cluster_terms.specs.Arc.{IsToken}
 use Rattle.cluster_terms.specs.Row.{rows_between}
@@ -28,11 +28,12 @@ use Rattle.cluster_metadata.proofs.map_changes.maps_for.Goals as goal
 
 pub returns-in-Registered : goal.returns-in-Registered
 returns-in-Registered c book are =
-    nodes_maps c.args.image.now (changed c.args.image.now c.args.change.now) (registered_stays c.args.image.now c.args.change.now _ c.in-Registered.is c.requires.steps) book are
-
-pub returns-in-Unregistered : goal.returns-in-Unregistered
-returns-in-Unregistered c book are =
-    nodes_maps c.args.image.now (changed c.args.image.now c.args.change.now) (unregistered_stays c.args.image.now c.args.change.now _ c.in-Unregistered.is c.requires.steps) book are
+    let image = c.args.image.now in
+    let change = c.args.change.now in
+    elim c.in-Registered.is [
+      | inl registered ↦ nodes_maps image (changed image change) (registered_stays image change registered.0 registered.1 c.requires.steps) book are
+      | inr unregistered ↦ nodes_maps image (changed image change) (unregistered_stays image change unregistered.0 unregistered.1 c.requires.steps) book are
+    ]
 
 pub returns-in_ok-next-in-Begun : goal.returns-in_ok-next-in-Begun
 returns-in_ok-next-in-Begun c =

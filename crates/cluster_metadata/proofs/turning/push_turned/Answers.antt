@@ -11,7 +11,7 @@ use Rattle.cluster_metadata.proofs.turning.push_turned.Goals as goal
 
 pub returns-then-changes_nothing-clause-sets : goal.returns-then-changes_nothing-clause-sets
 returns-then-changes_nothing-clause-sets c =
-    turned_kept c.args.turn c.args.delta.now c.args.at c.args.row.now c.args.changes.now (ap (delta_at c.args.delta.now) (sym c.last_token-last.ensures) ∙ c.changes_nothing.ensures.unchanged c.if-changes_nothing.true)
+    turned_kept c.args.turn c.args.delta.now c.args.at c.args.row.now c.args.changes.now (ap (delta_at c.args.delta.now) (sym c.last_token.ensures) ∙ c.changes_nothing.ensures.unchanged c.if-changes_nothing.true)
 
 -- what holds in both cases holds if there is a value
 at_ok : {T E : Type 0} (r : Result T E) (P Q : Type 0) → MatchResult r (λ _. P) (λ _. Q) → OnOk r P
@@ -21,9 +21,8 @@ at_ok (Err y) P Q holds = tt
 pub returns-clause-sets : goal.returns-clause-sets
 returns-clause-sets c =
     let row = c.args.row.now in
-    let at = c.at_near.ensures.delta ∙ ap (delta_at c.args.delta.now) c.last_token-last.ensures in
     let sets : (c.in_ok-reads.field-0.reads, c.in_ok-reads.field-0.writes) ≡ turned c.args.turn (row.reads, row.writes) (delta_at c.args.delta.now (last_token row.right)) =
-    ap (λ (r : PlacementRow). (r.reads, r.writes)) c.in_ok-reads.ensures ∙ ap (turned c.args.turn (row.reads, row.writes)) at in
+    ap (λ (r : PlacementRow). (r.reads, r.writes)) c.in_ok-reads.ensures.row in
     let change : RowChange = record { at = c.args.at; reads = c.in_ok-reads.field-0.reads; writes = c.in_ok-reads.field-0.writes } in
     on_ok_weaker c.push.result
     (λ made. subst (AddsTurned c.args.turn c.args.delta.now c.args.at row c.args.changes.now) (sym made)

@@ -1,11 +1,15 @@
-use Rattle.std.proofs.Common.{◌≡◌, map, take}
+use Rattle.std.proofs.Common.{◌≡◌, ◌-◌, ◌≤◌, length, take}
 use Rattle.range_placements.specs.Editing.{edited}
-use Rattle.cluster_metadata.specs.Turns.{IsKnown, row_with, turned_at}
+use Rattle.cluster_metadata.specs.Turns.{IsKnown, recut_rows}
 use Rattle.cluster_metadata.proofs.turning.recut_map.Given as goal
 
 -- the rows of the ranges so far
-abbrev pub invariant-loop-range : goal.invariant-loop-range
-invariant-loop-range l = record {
+abbrev pub invariant-loop-done : goal.invariant-loop-done
+invariant-loop-done l = record {
   known : IsKnown l.delta l.places.delta.unchanged;
-  rows : edited l.edits l.map ≡ map (row_with (turned_at l.turn l.map l.delta)) (take l.range-index l.ranges);
+  bound : l.done ≤ length l.ranges;
+  rows : edited l.edits l.map ≡ recut_rows l.turn (take l.done l.ranges) l.map l.delta;
 }
+
+abbrev pub decreases-loop-done : goal.decreases-loop-done
+decreases-loop-done l = length l.ranges - l.done

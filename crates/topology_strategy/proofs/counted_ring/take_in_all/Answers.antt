@@ -5,7 +5,7 @@ use Rattle.std.specs.Iterator.Adapters.{zip_first, zip_second}
 use Rattle.std.specs.Slice.Iter.{iter_rest}
 use Rattle.cluster_terms.specs.Group.{nodes_of}
 use Rattle.cluster_terms.specs.Replication.{datacenter_group}
-use Rattle.topology_strategy.specs.Walk.{Found, taken_along, taken_in_all}
+use Rattle.topology_strategy.specs.Walk.{taken_along, taken_in_all}
 use Rattle.node_directory.specs.declared.shape.Shape.{Shape}
 use Rattle.topology_strategy.proofs.MappedLists.{zip_whole}
 use Rattle.topology_strategy.proofs.TopologyPlacement.{taken_more, taken_in_parts}
@@ -24,13 +24,9 @@ loop-name-preserved c =
     let shape = c.in-Some.shape.now in
     let parts = taken_in_parts (datacenter_group c.args.dir.now.rows f) shape (nodes_of c.args.rest.now) (nodes_of c.args.front.now) c.in_ok-walk.walk c.go_along.new.self c.go_along-in-loop-name.new.self
     c.in_ok-walk.ensures c.in_ok-go_along.ensures c.in_ok-go_along-2.ensures in
-    let found : c.walk-in-loop-name.inside.taken.items ≡ taken_along walk (datacenter_group c.args.dir.now.rows f) shape =
-    ap (λ (t : Found). t.taken) c.walk-in-loop-name.view_is ∙ parts in
-    let items : c.extend_from_slice.new.self.items ≡ c.loop-name.taken.items ++ c.walk-in-loop-name.inside.taken.items =
-    c.in_ok-extend_from_slice.ensures.items ∙ ap (λ l. c.loop-name.taken.items ++ l) c.deref.ensures.value in
     let push = length_push c.loop-name.yielded (c.in-Some.field-0-0, c.in-Some.shape) in
     let long : suc k ≡ length (c.loop-name.yielded ++ (c.in-Some.field-0-0, c.in-Some.shape) ∷ []) = sym (add-one k) ∙ sym push in
-    items ∙ (λ j. c.loop-name.invariant j ++ found j)
+    c.in_ok-add_to.ensures ∙ (λ j. c.loop-name.invariant j ++ parts j)
     ∙ sym (taken_more walk c.args.dir.now.rows factors shapes k f shape turn.0 turn.1 (turn.2 f) (turn.3 shape))
     ∙ ap (λ m. taken_in_all walk c.args.dir.now.rows (take m factors) (take m shapes)) long
 

@@ -1,6 +1,7 @@
-use Rattle.std.proofs.Common.{◌≡◌, ◌<◌, ◌||◌, ◌++◌, ℕ, List, nat_eq, length, take, drop, ap, sym, ◌∙◌}
+use Rattle.std.proofs.Common.{◌≡◌, ◌<◌, ◌||◌, ℕ, List, nat_eq, length, take, drop, ap, sym, ◌∙◌}
 use Rattle.std.proofs.lemmas.List.{drop-map, take-map}
 use Rattle.std.proofs.lemmas.List.Folds.{list_any-append}
+use Rattle.std.proofs.lemmas.Result.{on_ok_weaker}
 use Rattle.std.specs.Borrow.{Bor}
 use Rattle.std.specs.Set.{is_member}
 use Rattle.cluster_terms.specs.Group.{nodes_of}
@@ -8,7 +9,7 @@ use Rattle.cluster_terms.specs.Replication.{datacenter_group}
 use Rattle.node_directory.specs.Tally.{racks_in}
 use Rattle.token_ring.specs.Ring.{IsFirstAt}
 use Rattle.topology_strategy.specs.DatacenterRing.{RingPart, is_replica_in}
-use Rattle.topology_strategy.specs.Walk.{Found, found_among}
+use Rattle.topology_strategy.specs.Walk.{found_among}
 use Rattle.topology_strategy.proofs.RackedLemmas.{listed_ring, taken_within}
 use Rattle.topology_strategy.proofs.datacenter_ring.DatacenterRing.take_at.Goals as goal
 
@@ -17,7 +18,8 @@ first_at-first-requires c = rw c.deref.ensures.value (listed_ring _ _ _ _ c.self
 
 pub returns : goal.returns
 returns c =
-    λ v.
+    on_ok_weaker c.add_to.result
+    (λ items v.
     let part = c.self.inside in
     let own = part.racked.pairs.items in
     let bors = part.racked.racks.items in
@@ -36,8 +38,6 @@ returns c =
     c.args.t j part.shape first c.self.invariant.1.1 begun middle c.go_among-2.new.self c.in_ok-walk.ensures
     (c.in_ok-go_among.ensures ∙ (λ i. found_among part.shape.wanted (nodes_of (rest i)) (rest_racks i) begun))
     (c.in_ok-go_among-2.ensures ∙ (λ i. found_among part.shape.wanted (nodes_of (front i)) (front_racks i) middle)) v in
-    let items : c.extend_from_slice.new.self.items ≡ old ++ c.walk-2.inside.taken.items =
-    c.in_ok-extend_from_slice.ensures.items ∙ ap (λ l. old ++ l) c.deref-4.ensures.value in
-    ap (λ l. is_member nat_eq l v) items ∙ list_any-append (nat_eq v) old c.walk-2.inside.taken.items
-    ∙ ap (λ b. is_member nat_eq old v || b)
-    (ap (λ (f : Found). is_member nat_eq f.taken v) c.walk-2.view_is ∙ walked ∙ ap (λ (r : RingPart). is_replica_in r c.args.t v) c.self.view_is)
+    ap (λ l. is_member nat_eq l v) items ∙ list_any-append (nat_eq v) old c.go_among-2.new.self.taken
+    ∙ ap (λ b. is_member nat_eq old v || b) (walked ∙ ap (λ (r : RingPart). is_replica_in r c.args.t v) c.self.view_is))
+    c.add_to.ensures

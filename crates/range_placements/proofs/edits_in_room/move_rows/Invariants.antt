@@ -1,6 +1,6 @@
 use Rattle.std.proofs.Common.{◌≡◌, ◌+◌, ◌≤◌, ◌++◌, take, drop, vec_capacity, vec_len}
 use Rattle.std.specs.Vec.Iter.{into_iter_items}
-use Rattle.range_placements.proofs.row_edits.move_rows.Given as goal
+use Rattle.range_placements.proofs.edits_in_room.move_rows.Given as goal
 
 -- the rows so far are moved, and the others are left
 abbrev pub invariant-loop-done : goal.invariant-loop-done

@@ -3,7 +3,7 @@ use Rattle.std.specs.Vec.Iter.{into_iter_items}
 use Rattle.std.specs.Prelude.{List, MatchOption, Option, Some, None}
 use Rattle.range_placements.proofs.EditedRows.{none_left, one_left}
 use Rattle.range_placements.specs.declared.placement_row.PlacementRow.{PlacementRow}
-use Rattle.range_placements.proofs.row_edits.skip_rows.Goals as goal
+use Rattle.range_placements.proofs.edits_in_room.skip_rows.Goals as goal
 
 -- one row less is left
 less : (rows left after : List PlacementRow) (n : ℕ) (r : Option PlacementRow) → left ≡ drop n rows → MatchOption r ((left ≡ []) × (after ≡ [])) (λ row. left ≡ row ∷ after) → after ≡ drop (n + 1) rows

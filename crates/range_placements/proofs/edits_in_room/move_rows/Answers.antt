@@ -2,8 +2,8 @@ use Rattle.std.proofs.Common.{◌≡◌, ℕ, ◌+◌, ◌∷◌, ◌++◌, [], 
 use Rattle.std.specs.Vec.Iter.{into_iter_items}
 use Rattle.range_placements.proofs.EditedRows.{none_left, none_taken, one_left, one_taken}
 use Rattle.range_placements.specs.declared.placement_row.PlacementRow.{PlacementRow}
-use Rattle.range_placements.proofs.row_edits.move_rows.Goals.{in-Some, in_default}
-use Rattle.range_placements.proofs.row_edits.move_rows.Goals as goal
+use Rattle.range_placements.proofs.edits_in_room.move_rows.Goals.{in-Some, in_default}
+use Rattle.range_placements.proofs.edits_in_room.move_rows.Goals as goal
 
 pub put_row-requires : goal.put_row-requires
 put_row-requires c = let count = c.loop-done.invariant.count in let room = c.loop-done.invariant.room in omega (arith, count, room, c.requires, c.loop-done-test.true)

@@ -1,6 +1,6 @@
 use Rattle.std.proofs.Common.{◌≡◌, drop}
 use Rattle.std.specs.Vec.Iter.{into_iter_items}
-use Rattle.range_placements.proofs.row_edits.skip_rows.Given as goal
+use Rattle.range_placements.proofs.edits_in_room.skip_rows.Given as goal
 
 -- the rows so far are removed
 abbrev pub invariant-loop-done : goal.invariant-loop-done
