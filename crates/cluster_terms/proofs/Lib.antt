@@ -22,6 +22,7 @@ pub mod ReachKept
 pub mod ReachLemmas
 pub mod ReachNodes
 pub mod ReachSame
+pub mod ReadWords
 pub mod ReplicaAt
 pub mod ReplicaCounts
 pub mod ReplicationLemmas

@@ -1,4 +1,4 @@
-ghost use Rattle.std.specs.Prelude.{◌≡◌, ◌↔◌, if◌then◌else◌, Some, None, IfOk, IfSome, IsSome, IsTrue};
+ghost use Rattle.std.specs.Prelude.{◌≡◌, ◌↔◌, if◌then◌else◌, Some, None, IfOk, IfSome, IsOk, IsSome, IsTrue};
 ghost use Rattle.std.specs.List.{list_all};
 ghost use Rattle.cluster_terms.specs.Name as spec;
 
@@ -55,6 +55,7 @@ impl Name {
     pub fn from_text(_alloc: Global, text: &str) -> Result<Option<Name>, Memory>
         ensures valid { IfOk result (λ found. IsSome found ↔ IsTrue (spec.is_name text.now)) }
         ensures value { IfOk result (λ found. IfSome found (λ name. name ≡ text.now)) }
+        ensures sure { IsOk result }
     {
         if !is_name(text) {
             return Ok(None);
@@ -66,7 +67,8 @@ impl Name {
     /// The name with these bytes. Returns `None` if and only if they are not a name. Never returns `Memory`.
     #[tactic(auto, using(crate::proofs::NameTexts::no_name))]
     pub fn from_bytes(alloc: Global, bytes: &[u8]) -> Result<Option<Name>, Memory>
-        ensures { IfOk result (λ found. found ≡ (if spec.is_name bytes.now then Some bytes.now else None)) }
+        ensures name { IfOk result (λ found. found ≡ (if spec.is_name bytes.now then Some bytes.now else None)) }
+        ensures sure { IsOk result }
     {
         match std::str::from_utf8(bytes) {
             Ok(text) => Name::from_text(alloc, text),

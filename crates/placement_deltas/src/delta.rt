@@ -1,8 +1,9 @@
-ghost use Rattle.std.specs.Prelude.{◌≡◌, ◌≢◌, ◌≤ℤ◌, int_lt, true, false, [], length, IfOk, IfSome, IsFalse, IsNone, IsTrue};
+ghost use Rattle.std.specs.Prelude.{◌≡◌, ◌≢◌, ◌≤ℤ◌, int_lt, true, false, [], get_or, length, IfOk, IfSome, IsFalse, IsNone, IsTrue};
 ghost use Rattle.std.specs.List.Sorted.{IsPartitionPoint, IsStrictlySortedBy};
 ghost use Rattle.std.specs.Ordering.{int_cmp};
 ghost use Rattle.cluster_terms.specs.Row.{last_token, rows_between};
 ghost use Rattle.placement_deltas.specs.Deltas.{ChangesNothing, EndAtCuts, IsDelta, ShowsChanges, change_in, delta_at, exchanged, inverse_of};
+ghost use Rattle.placement_deltas.specs.declared.delta_row.DeltaRow.{DeltaRow as AnyRow};
 
 use crate::delta_row::{DeltaRow, DeltaRows};
 use crate::joining::joined;
@@ -110,6 +111,10 @@ impl Delta {
         ensures changed { IsNone result → delta_at self.now t ≢ ([], []) }
         ensures ends { IfSome result (λ tokens. (tokens.first ≡ t) × (t ≤ℤ tokens.last)) }
         ensures unchanged { IfSome result (λ tokens. ChangesNothing self.now tokens.first tokens.last) }
+        ensures first { IsPartitionPoint (λ r. int_lt (last_token r.right) t ≡ true)
+            (λ r. int_lt (last_token r.right) t ≡ false) self.now near.new }
+        ensures end { IfSome result
+            (λ tokens. (d : AnyRow) → tokens.last ≡ last_token (get_or self.now near.new d).right) }
     {
         let rows = self.rows();
         let found = row_index_near(rows, *near, t);

@@ -9,8 +9,8 @@ use cluster_terms::Memory;
 use std::alloc::Global;
 use std::marker::Model;
 
-/// A step in a pass over the rows of a placement map: it keeps some rows, removes the next ones, and then puts in a row,
-/// if it has one.
+/// A step in a pass over the rows of a placement map: it keeps some rows, removes the next ones, and then puts in its
+/// row, if it has one.
 #[derive(Debug, Drop)]
 pub struct RowEdit {
     /// How many rows are kept.
@@ -64,7 +64,7 @@ fn make_room(room: &mut PlacementRows, made: usize, more: usize) -> Result<(), M
 }
 
 impl RowEdits {
-    /// No edit yet, with room for this many rows and some more. `Err` means that memory ran out.
+    /// No edit yet. Memory for this many rows and an eighth more is taken at once. `Err` means that memory ran out.
     pub fn with_room(alloc: Global, count: usize) -> Result<RowEdits, Memory>
         ensures { IfOk result (λ edits. edits ≡ record { edits = []; keep = 0 }) }
     {

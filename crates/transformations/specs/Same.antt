@@ -17,6 +17,16 @@ same_goal goal.Mid goal.Mid = true
 same_goal goal.Finish goal.Finish = true
 same_goal _ _ = false
 
+-- whether two commands are equal and on a movement
+abbrev pub same_movement : Command → Command → Bool
+same_movement (PrepareJoin node tokens) (PrepareJoin n ts) = (node == n) && pointwise int_eq tokens ts
+same_movement (PrepareMove node token) (PrepareMove n t) = (node == n) && int_eq token t
+same_movement (PrepareLeave node) (PrepareLeave n) = node == n
+same_movement (PrepareReplace node gone) (PrepareReplace n g) = (node == n) && (gone == g)
+same_movement (Step goal kind node) (Step g k n) = same_goal goal g && (same_kind kind k && (node == n))
+same_movement (Cancel node) (Cancel n) = node == n
+same_movement _ _ = false
+
 -- whether two commands are equal
 abbrev pub same_command : Command → Command → Bool
 same_command (Register name dc rack) (Register n d r) = bytes_eq name n && (bytes_eq dc d && bytes_eq rack r)
@@ -24,10 +34,4 @@ same_command (Unregister node) (Unregister n) = node == n
 same_command (UnsafeJoin node tokens) (UnsafeJoin n ts) = (node == n) && pointwise int_eq tokens ts
 same_command (Keyspace name replication) (Keyspace n r) = bytes_eq name n && same_replication replication r
 same_command (DropKeyspace name) (DropKeyspace n) = bytes_eq name n
-same_command (PrepareJoin node tokens) (PrepareJoin n ts) = (node == n) && pointwise int_eq tokens ts
-same_command (PrepareMove node token) (PrepareMove n t) = (node == n) && int_eq token t
-same_command (PrepareLeave node) (PrepareLeave n) = node == n
-same_command (PrepareReplace node gone) (PrepareReplace n g) = (node == n) && (gone == g)
-same_command (Step goal kind node) (Step g k n) = same_goal goal g && (same_kind kind k && (node == n))
-same_command (Cancel node) (Cancel n) = node == n
-same_command _ _ = false
+same_command command other = same_movement command other

@@ -4,7 +4,7 @@ ghost use Rattle.std.specs.Prelude.{◌≡◌, ◌↔◌, IsTrue};
 ghost use Rattle.std.specs.Cmp.Lexicographic.{pointwise};
 ghost use Rattle.std.specs.Ordering.{int_eq};
 ghost use Rattle.std.specs.Str.{bytes_eq};
-ghost use Rattle.transformations.specs.Same.{same_command};
+ghost use Rattle.transformations.specs.Same.{same_command, same_movement};
 
 use crate::command::Command;
 use cluster_terms::{Name, TokenList};
@@ -21,6 +21,34 @@ fn same_tokens(tokens: &TokenList, others: &TokenList) -> bool
     ensures { result ≡ pointwise int_eq tokens.now others.now }
 {
     tokens.as_slice() == others.as_slice()
+}
+
+/// Whether two commands are on a movement and equal in all their fields, as a test of the definitions.
+fn test_same_movement(command: &Command, other: &Command) -> bool
+    ensures { result ≡ same_movement command.now other.now }
+{
+    match (command, other) {
+        (Command::PrepareJoin { node, tokens }, Command::PrepareJoin { node: n, tokens: t }) => {
+            node == n && same_tokens(tokens, t)
+        }
+        (Command::PrepareMove { node, token }, Command::PrepareMove { node: n, token: t }) => {
+            node == n && token == t
+        }
+        (Command::PrepareLeave { node }, Command::PrepareLeave { node: n }) => node == n,
+        (Command::PrepareReplace { node, gone }, Command::PrepareReplace { node: n, gone: g }) => {
+            node == n && gone == g
+        }
+        (
+            Command::Step { goal, kind, node },
+            Command::Step {
+                goal: g,
+                kind: k,
+                node: n,
+            },
+        ) => { goal == g && kind == k && node == n }
+        (Command::Cancel { node }, Command::Cancel { node: n }) => node == n,
+        _ => false,
+    }
 }
 
 /// Whether two commands are equal in all their fields, as a test of the definitions.
@@ -48,26 +76,7 @@ fn test_same(command: &Command, other: &Command) -> bool
             },
         ) => { same_name(name, n) && replication.same(r) }
         (Command::DropKeyspace { name }, Command::DropKeyspace { name: n }) => same_name(name, n),
-        (Command::PrepareJoin { node, tokens }, Command::PrepareJoin { node: n, tokens: t }) => {
-            node == n && same_tokens(tokens, t)
-        }
-        (Command::PrepareMove { node, token }, Command::PrepareMove { node: n, token: t }) => {
-            node == n && token == t
-        }
-        (Command::PrepareLeave { node }, Command::PrepareLeave { node: n }) => node == n,
-        (Command::PrepareReplace { node, gone }, Command::PrepareReplace { node: n, gone: g }) => {
-            node == n && gone == g
-        }
-        (
-            Command::Step { goal, kind, node },
-            Command::Step {
-                goal: g,
-                kind: k,
-                node: n,
-            },
-        ) => { goal == g && kind == k && node == n }
-        (Command::Cancel { node }, Command::Cancel { node: n }) => node == n,
-        _ => false,
+        _ => test_same_movement(command, other),
     }
 }
 
