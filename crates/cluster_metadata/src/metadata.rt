@@ -1,4 +1,4 @@
-ghost use Rattle.std.specs.Prelude.{◌≡◌, ◌*◌, ◌-◌, ◌<◌, ◌≤◌, ◌^◌, ℤ, true, false, None, length, map, option_map, IfErr, IfOk, IfSome, IsSome, IsTrue, MatchResult};
+ghost use Rattle.std.specs.Prelude.{◌≡◌, ◌*◌, ◌-◌, ◌<◌, ◌≤◌, ◌^◌, ℤ, true, false, None, length, map, option_map, IfErr, IfOk, IfSome, IsNone, IsSome, IsTrue, MatchResult};
 ghost use Rattle.std.specs.List.{All};
 ghost use Rattle.std.specs.Option.{option_copied};
 ghost use Rattle.std.specs.Ordering.{int_eq};
@@ -283,6 +283,7 @@ impl Metadata {
         ensures itself { QuorumsMeet self.now self.now }
         ensures together { QuorumsExistTogether self.now }
         ensures written { ReadsAreWritten self.now }
+        ensures none { IsNone result → steps.new ≡ steps.old }
         ensures rises { steps.old ≤ steps.new }
         ensures bound { 2 ^ (steps.new - steps.old) ≤ 2 * length (rows_between (cuts self.now)) }
         ensures enough { IfSome result

@@ -48,11 +48,11 @@ module _ (history : List Command) (image : Image) (is : image ≡ image_after em
 
 -- before the first entry no image is to be kept
 pub none_kept : AreKept [] 0 []
-none_kept = record { states = tt; each = λ k above below. absurd (omega (arith, below)) }
+none_kept = record { states = tt; rare = tt; each = λ k above below. absurd (omega (arith, below)) }
 
 -- those up to an epoch have each multiple before it
 pub kept_before : (log : List Entry) (images : List Image) (epoch : ℕ) → AreKept log (epoch + 1) images → AreKept log epoch images
-kept_before log images epoch kept = record { states = kept.states; each = λ k above below. kept.each k above (omega (arith, below)) }
+kept_before log images epoch kept = record { states = kept.states; rare = kept.rare; each = λ k above below. kept.each k above (omega (arith, below)) }
 
 -- where an epoch that is a multiple has its image, too
 each_to : (images : List Image) (last : ℕ) → HasEach last images → ((k : ℕ) → 0 < k → 256 * k ≡ last → Contains (epochs_of images) (256 * k)) → HasEach (last + 1) images
@@ -65,6 +65,7 @@ each_to images last each at k above below = by (cases_lt (256 * k) last)
 -- no image is to be kept of an epoch between two multiples
 pub kept_between : (log : List Entry) (images : List Image) (last : ℕ) → (last % 256 ≡ 0 → ⊥) → AreKept log last images → AreKept log (last + 1) images
 kept_between log images last apart kept = record {
+  rare = kept.rare;
   states = kept.states;
   each = each_to images last kept.each (λ k above is. absurd (apart (ap (λ n. n % 256) (sym is) ∙ mul-mod_right 256 k)));
 }
@@ -72,6 +73,7 @@ kept_between log images last apart kept = record {
 -- the last image is that of the last epoch
 pub kept_already : (log : List Entry) (images : List Image) (last : ℕ) → last ≡ length log → last ≤ epoch_of (slice_get images (length images - 1)) → AreKept log last images → AreKept log (last + 1) images
 kept_already log images last is upto kept = record {
+  rare = kept.rare;
   states = kept.states;
   each = each_to images last kept.each (λ k above same. at (slice_get images (length images - 1)) refl upto (256 * k) (omega (arith, above)) same);
 }
@@ -87,8 +89,9 @@ kept_already log images last is upto kept = record {
         (length images - 1, omega (arith, within, length-map images (λ (i : Image). i.epoch)), get_or_from_slice_get (epochs_of images) (length images - 1) image.epoch e read ∙ epoch)
 
 -- the image of the last epoch is added
-pub kept_with : (log : List Entry) (images : List Image) (image : Image) → image ≡ image_after empty_image (commands_of log) → AreKept log (length log) images → AreKept log (length log + 1) (images ++ image ∷ [])
-kept_with log images image is kept = record {
+pub kept_with : (log : List Entry) (images : List Image) (image : Image) → image ≡ image_after empty_image (commands_of log) → length log % 256 ≡ 0 → AreKept log (length log) images → AreKept log (length log + 1) (images ++ image ∷ [])
+kept_with log images image is due kept = record {
+  rare = all_append (λ (i : Image). i.epoch % 256 ≡ 0) images (image ∷ []) kept.rare (subst (λ n. n % 256 ≡ 0) (sym at) due, tt);
   states = images_with (commands_of log) image is images kept.states;
   each = each_to (images ++ image ∷ []) (length log) (λ k above below. among (256 * k) (Contains-append_left (epochs_of images) (image.epoch ∷ []) (256 * k) (kept.each k above below)))
       (λ k above same. among (256 * k) (subst (Contains (epochs_of images ++ image.epoch ∷ [])) (at ∙ sym same) (Contains-push (epochs_of images) image.epoch)));
@@ -103,6 +106,7 @@ kept_with log images image is kept = record {
 -- the log goes on
 pub kept_on : (log : List Entry) (entry : Entry) (images : List Image) → AreKept log (length log + 1) images → AreKept (log ++ entry ∷ []) (length (log ++ entry ∷ [])) images
 kept_on log entry images kept = record {
+  rare = kept.rare;
   states = images_on log entry images kept.states;
   each = subst (λ n. HasEach n images) (sym (length-append log (entry ∷ []))) kept.each;
 }

@@ -1,6 +1,6 @@
 -- The images that a session keeps of its log.
-use Rattle.std.specs.Prelude.{ℕ, ◌*◌, ◌<◌, List, map}
-use Rattle.std.specs.List.{Contains}
+use Rattle.std.specs.Prelude.{◌%◌, ◌≡◌, ℕ, ◌*◌, ◌<◌, List, map}
+use Rattle.std.specs.List.{AllByRecursion, Contains}
 use Rattle.transformations.specs.Log.{commands_of}
 use Rattle.transformations.specs.declared.entry.Entry.{Entry}
 use Rattle.transformations.specs.declared.image.Image.{Image}
@@ -13,7 +13,8 @@ epochs_of images = map (λ image. image.epoch) images
 abbrev pub HasEach : ℕ → List Image → Type 0
 HasEach epoch images = (k : ℕ) → 0 < k → 256 * k < epoch → Contains (epochs_of images) (256 * k)
 
--- the images are states of a log, one of every 256th epoch below an epoch
+-- the images are states of a log, one of every 256th epoch below an epoch, and none of another epoch
 pub record AreKept (log : List Entry) (epoch : ℕ) (images : List Image) : Type 0 where
   pub states : AreOf (commands_of log) images
   pub each : HasEach epoch images
+  pub rare : AllByRecursion (λ image. image.epoch % 256 ≡ 0) images

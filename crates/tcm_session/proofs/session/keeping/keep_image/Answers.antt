@@ -30,4 +30,4 @@ keep-requires c =
 pub returns-in-Ok : goal.returns-in-Ok
 returns-in-Ok c =
     let is : c.in_ok-image.image ≡ image_after empty_image (commands_of c.args.log.now) = c.in_ok-image.ensures.image ∙ c.requires.state in
-    subst (AreKept c.args.log.now (length c.args.log.now + 1)) (sym c.in-Ok.ensures) (kept_with c.args.log.now c.args.snapshots.now c.in_ok-image.image is c.requires.kept)
+    subst (AreKept c.args.log.now (length c.args.log.now + 1)) (sym c.in-Ok.ensures) (kept_with c.args.log.now c.args.snapshots.now c.in_ok-image.image is (subst (λ n. n % 256 ≡ 0) c.last_epoch-epoch.ensures.last c.if-epoch-ne0.false) c.requires.kept)
