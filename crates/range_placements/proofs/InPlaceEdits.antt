@@ -1,6 +1,6 @@
 -- Edits made in place, from the last to the first: the rows before the gap are as they were, and those behind it are as
 -- they are to be.
-use Rattle.std.proofs.Common.{◌≡◌, ℕ, ◌+◌, ◌-◌, ◌≤◌, List, [], ◌∷◌, ◌++◌, length, take, drop, refl, sym, ap, ◌∙◌, append_assoc, arith}
+use Rattle.std.proofs.Common.{◌≡◌, ℕ, ◌+◌, ◌-◌, ◌≤◌, List, [], ◌∷◌, ◌++◌, length, take, drop, refl, sym, ap, ◌∙◌, append_assoc, subst, arith}
 use Rattle.std.proofs.Math.ListN.{drop_of_length-le}
 use Rattle.std.proofs.lemmas.List.{append-nil, drop-drop, drop-take, length-drop, length-take, take-take, take_all}
 use Rattle.range_placements.proofs.EditedRows.{first_append, one_adds, one_edited, one_passes}
@@ -24,7 +24,10 @@ only_passed (e ∷ edits) last rows =
 
 -- ---- the last edit
 
-module _ (edits : List RowEdit) (edit : RowEdit) (keep from to : ℕ) (rows last : List PlacementRow) (leads : LeadsTo (edits ++ edit ∷ []) keep from to rows last) where
+module _ (edits : List RowEdit) (edit : RowEdit) {all : List RowEdit} {keep from to : ℕ} {rows last : List PlacementRow} (is : all ≡ edits ++ edit ∷ []) (held : LeadsTo all keep from to rows last) where
+  leads : LeadsTo (edits ++ edit ∷ []) keep from to rows last
+  leads = subst (λ (es : List RowEdit). LeadsTo es keep from to rows last) is held
+
   pub all_passed : from ≡ rows_passed edits edit.keep + (edit.skip + keep)
   all_passed = leads.passed ∙ one_passes edits edit keep
 

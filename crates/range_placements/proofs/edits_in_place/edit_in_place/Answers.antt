@@ -1,9 +1,8 @@
-use Rattle.std.proofs.Common.{◌≡◌, ℕ, ◌+◌, ◌-◌, ◌++◌, ◌∷◌, [], List, take, drop, ap, sym, ◌∙◌, subst, arith}
+use Rattle.std.proofs.Common.{◌≡◌, ℕ, ◌+◌, ◌-◌, ◌++◌, take, drop, ap, sym, ◌∙◌, subst, arith}
 use Rattle.range_placements.proofs.InPlaceEdits.{all_added, all_passed, begin, last_made}
 use Rattle.range_placements.specs.Editing.{edited_rows, row_count, rows_added, rows_passed, with_first}
 use Rattle.range_placements.specs.InPlace.{LeadsTo}
 use Rattle.range_placements.specs.declared.edits_in_place.Gap.{Gap}
-use Rattle.range_placements.specs.declared.row_edits.RowEdit.{RowEdit}
 use Rattle.range_placements.proofs.edits_in_place.edit_in_place.Goals as goal
 
 pub loop-keep-init : goal.loop-keep-init
@@ -22,43 +21,19 @@ loop-keep-init c =
 
 pub keep_rows-requires-clause-count : goal.keep_rows-requires-clause-count
 keep_rows-requires-clause-count c =
-    let rest = c.pop.new.self.items in
-    let edit = c.in-Some.field-0 in
-    let kept = c.loop-keep.kept in
-    let from = c.loop-keep.gap.from in
-    let to = c.loop-keep.gap.to in
-    let rows = c.loop-keep.rows.items in
-    let last = edited_rows c.args.edits.items c.args.keep c.args.rows.now.items in
-    let leads : LeadsTo (rest ++ edit ∷ []) kept from to rows last = subst (λ (es : List RowEdit). LeadsTo es kept from to rows last) c.in-Some.ensures.items c.loop-keep.invariant in
-    let all = all_passed rest edit kept from to rows last leads in
+    let all = all_passed c.pop.new.self.items c.in-Some.field-0 c.in-Some.ensures.items c.loop-keep.invariant in
     omega (arith, all)
 
 pub put_first-requires-clause-skip : goal.put_first-requires-clause-skip
 put_first-requires-clause-skip c =
-    let rest = c.pop.new.self.items in
-    let edit = c.in-Some.field-0 in
-    let kept = c.loop-keep.kept in
-    let from = c.loop-keep.gap.from in
-    let to = c.loop-keep.gap.to in
-    let rows = c.loop-keep.rows.items in
-    let last = edited_rows c.args.edits.items c.args.keep c.args.rows.now.items in
-    let leads : LeadsTo (rest ++ edit ∷ []) kept from to rows last = subst (λ (es : List RowEdit). LeadsTo es kept from to rows last) c.in-Some.ensures.items c.loop-keep.invariant in
-    let all = all_passed rest edit kept from to rows last leads in
+    let all = all_passed c.pop.new.self.items c.in-Some.field-0 c.in-Some.ensures.items c.loop-keep.invariant in
     let at = ap (λ (gap : Gap). gap.from) c.keep_rows.ensures.gap in
     omega (arith, all, at)
 
 pub put_first-requires-clause-order : goal.put_first-requires-clause-order
 put_first-requires-clause-order c =
-    let rest = c.pop.new.self.items in
-    let edit = c.in-Some.field-0 in
-    let kept = c.loop-keep.kept in
-    let from = c.loop-keep.gap.from in
-    let to = c.loop-keep.gap.to in
-    let rows = c.loop-keep.rows.items in
-    let last = edited_rows c.args.edits.items c.args.keep c.args.rows.now.items in
-    let leads : LeadsTo (rest ++ edit ∷ []) kept from to rows last = subst (λ (es : List RowEdit). LeadsTo es kept from to rows last) c.in-Some.ensures.items c.loop-keep.invariant in
-    let all = all_passed rest edit kept from to rows last leads in
-    let added = all_added rest edit kept from to rows last leads in
+    let all = all_passed c.pop.new.self.items c.in-Some.field-0 c.in-Some.ensures.items c.loop-keep.invariant in
+    let added = all_added c.pop.new.self.items c.in-Some.field-0 c.in-Some.ensures.items c.loop-keep.invariant in
     let at = ap (λ (gap : Gap). gap.from) c.keep_rows.ensures.gap in
     let until = ap (λ (gap : Gap). gap.to) c.keep_rows.ensures.gap in
     omega (arith, all, added, at, until)
@@ -72,7 +47,6 @@ loop-keep-preserved c =
     let to = c.loop-keep.gap.to in
     let rows = c.loop-keep.rows.items in
     let last = edited_rows c.args.edits.items c.args.keep c.args.rows.now.items in
-    let leads : LeadsTo (rest ++ edit ∷ []) kept from to rows last = subst (λ (es : List RowEdit). LeadsTo es kept from to rows last) c.in-Some.ensures.items c.loop-keep.invariant in
     let middle = c.keep_rows.new.rows.items in
     let after = c.put_first.new.rows.items in
     let at : c.keep_rows.new.gap.from ≡ from - kept = ap (λ (gap : Gap). gap.from) c.keep_rows.ensures.gap in
@@ -84,6 +58,6 @@ loop-keep-preserved c =
     ap (λ (n : ℕ). drop n middle) (sym until) ∙ c.keep_rows.ensures.after ∙ ap (λ (n : ℕ). drop n (take from rows) ++ drop to rows) at in
     let front_last = subst (λ (n : ℕ). take n after ≡ take n middle) at_last c.put_first.ensures.before in
     let back_last = ap (λ (n : ℕ). drop n after) (sym until_last) ∙ c.put_first.ensures.after ∙ ap (λ (n : ℕ). with_first edit.row (drop n middle)) until in
-    let made = last_made rest edit kept from to rows last leads middle after front back c.keep_rows.ensures.len front_last back_last c.put_first.ensures.len in
+    let made = last_made rest edit c.in-Some.ensures.items c.loop-keep.invariant middle after front back c.keep_rows.ensures.len front_last back_last c.put_first.ensures.len in
     subst (λ (n : ℕ). LeadsTo rest edit.keep n c.put_first.new.gap.to after last) (sym at_last)
     (subst (λ (n : ℕ). LeadsTo rest edit.keep ((from - kept) - edit.skip) n after last) (sym until_last) made)
