@@ -36,8 +36,11 @@ pub record IsLeftRow (nodes : List NodeRow) (left : LeftRow) : Type 0 where
   pub marks : slice_set nodes left.at left.row ≡ map (marked left.row.id) nodes
 
 -- the image with a new node, without a node, and with a node that has left; the epoch is as before
+abbrev pub with_row : Image → NodeRow → ℕ → Image
+with_row image row next = record image { next = next; nodes = image.nodes ++ row ∷ [] }
+
 abbrev pub with_node : Image → NewNode → Image
-with_node image node = record image { next = node.next; nodes = image.nodes ++ node.row ∷ [] }
+with_node image node = with_row image node.row node.next
 
 abbrev pub without_node : Image → ℕ → Image
 without_node image n = record image { nodes = other_rows image.nodes n }

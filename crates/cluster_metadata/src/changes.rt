@@ -93,7 +93,7 @@ fn drop_keyspace(image: &Image, name: &Name) -> Result<Change, Memory>
 }
 
 /// The change of a command that prepares no movement.
-fn settled(alloc: Global, image: &Image, cmd: &Command) -> Result<Change, Memory>
+pub fn settled(alloc: Global, image: &Image, cmd: &Command) -> Result<Change, Memory>
     requires next { image.now.next < 2 ^ 32 - 1 }
     requires sound { IsSound image.now }
     requires early { early_refusal_of image.now cmd.now ≡ None }

@@ -2,6 +2,7 @@
 #![tactic(auto)]
 
 mod admit_fault;
+mod advancing;
 mod applying;
 mod cancelling;
 mod change;
@@ -35,6 +36,7 @@ mod turn;
 mod turning;
 
 pub use admit_fault::AdmitFault;
+pub use advancing::{advance, empty_image};
 pub use image_fault::ImageFault;
 pub use metadata::Metadata;
 pub use permit::Permit;

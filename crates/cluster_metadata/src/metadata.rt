@@ -20,6 +20,7 @@ ghost use Rattle.cluster_metadata.specs.Maps.{placement_rows};
 ghost use Rattle.cluster_metadata.specs.Served as spec;
 
 use crate::admit_fault::AdmitFault;
+use crate::advancing::empty_image;
 use crate::enact::{exchange, make};
 use crate::image_fault::ImageFault;
 use crate::keyspaces::keyspace_of;
@@ -28,7 +29,7 @@ use crate::maps::find_map;
 use crate::parts::parts_of;
 use crate::permit::{Permit, permit_for};
 use crate::running::{Running, close_all};
-use cluster_terms::{Memory, Name, Replication, SmallList, Steps, Token, TryCopy};
+use cluster_terms::{Memory, Name, Replication, Steps, Token, TryCopy};
 use locked_ranges::LockTable;
 use node_directory::Directory;
 use node_sets::NodeSet;
@@ -80,14 +81,7 @@ impl Metadata {
     pub fn empty(alloc: Global) -> Result<Metadata, Memory>
         ensures { IfOk result (λ metadata. metadata ≡ empty_image) }
     {
-        let image = Image {
-            epoch: 0,
-            next: 1,
-            nodes: SmallList::empty(alloc),
-            tokens: SmallList::empty(alloc),
-            keyspaces: SmallList::empty(alloc),
-            sequences: SmallList::empty(alloc),
-        };
+        let image = empty_image(alloc);
         let directory = Directory::from_valid(alloc, &[], 1)?;
         Ok(Metadata {
             alloc,
@@ -271,7 +265,7 @@ impl Metadata {
     ///
     /// Takes no memory. Cost: a comparison with each keyspace and each replication, and a binary search in the
     /// placement map, whose comparisons `steps` counts. For n rows between the cuts of the image, 2^steps is more than
-    /// n / 2 and at most 2 n.
+    /// n / 2 and at most 2 n. If no keyspace has this name, no step is counted.
     pub fn replicas<L: Ledger>(
         &self,
         keyspace: &Name,

@@ -43,7 +43,7 @@ fn room_beside(count: usize) -> usize
 }
 
 impl NewNode {
-    /// The new node of a row, with memory for all nodes of the image and 64 to 128 more, and with a room for the
+    /// The new node of a row, with memory for all nodes of the image and 65 to 128 more, and with a room for the
     /// directory. The memory is used only if the image or the directory has none to spare. Fails only if memory runs
     /// out.
     pub fn of_row(alloc: Global, image: &Image, row: NodeRow) -> Result<NewNode, Memory>

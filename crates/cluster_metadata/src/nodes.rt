@@ -1,16 +1,25 @@
 //! Changes one node in an image and in its directory. Nothing here allocates memory.
 
-ghost use Rattle.std.specs.Prelude.{◌≡◌, ◌==◌, not, filter, IfSome, IsSome};
+ghost use Rattle.std.specs.Prelude.{◌≡◌, ◌==◌, ◌<◌, not, filter, length, IfSome, IsSome};
 ghost use Rattle.cluster_terms.specs.NodeRow.{row_of};
 ghost use Rattle.cluster_metadata.specs.Change.{directory_of};
-ghost use Rattle.cluster_metadata.specs.Nodes.{IsLeftRow, IsNew, with_node, with_node_left, without_node};
+ghost use Rattle.cluster_metadata.specs.Nodes.{IsLeftRow, IsNew, with_node, with_node_left, with_row, without_node};
 
 use crate::leaving::LeftRow;
 use crate::new_node::NewNode;
 use crate::on_heap::OnHeap;
-use cluster_terms::{NodeId, NodeRow, NodeRows};
+use cluster_terms::{NodeId, NodeRow, NodeRows, Room};
 use node_directory::Directory;
 use transformations::Image;
+
+/// Adds the row of a new node, which is followed by the node of the id `next`.
+pub fn add_row(image: &mut Image, row: NodeRow, next: u32, room: Room<NodeRow>)
+    requires { length image.old.nodes < room }
+    ensures { image.new ≡ with_row image.old row next }
+{
+    image.nodes.push_in(row, room);
+    image.next = next;
+}
 
 /// Registers a node.
 pub fn register(image: &mut Image, directory: &mut Directory, node: NewNode)
@@ -33,8 +42,7 @@ pub fn register(image: &mut Image, directory: &mut Directory, node: NewNode)
         rack,
         left: _,
     } = entry;
-    image.nodes.push_in(row, nodes);
-    image.next = next;
+    add_row(image, row, next, nodes);
     let _id = directory.register_in(name, dc, rack, room);
 }
 

@@ -13,7 +13,7 @@ enum Ids {
     Many(Vec<NodeId>),
 }
 
-/// A list of ids. Up to 13 ids are stored inline and take no memory.
+/// A list of ids. Up to 7 ids are stored inline and take no memory.
 #[derive(Drop)]
 pub(crate) struct IdList {
     alloc: Global,
@@ -117,7 +117,7 @@ impl IdList {
     }
 }
 
-/// A vector of these ids and one more, with room for at least 26 ids.
+/// A vector of these ids and one more, with room for at least 14 ids.
 fn grown(alloc: Global, ids: &[NodeId], id: NodeId) -> Result<Vec<NodeId>, Memory>
     ensures { IfOk result (λ all. all.items ≡ ids.now ++ id ∷ []) }
 {

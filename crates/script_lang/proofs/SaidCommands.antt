@@ -1,5 +1,5 @@
 -- What holds of the command of each form holds of the commands of lines.
-use Rattle.std.proofs.Common.{◌≡◌, ℕ, ◌^◌, ◌<◌, if◌then◌else◌, ℤ, Bool, true, false, ◌&&◌, nat_le, List, [], ◌∷◌, length, Option, Some, None, option_map, codes, IsTrue, refl}
+use Rattle.std.proofs.Common.{◌≡◌, ℕ, ◌^◌, ◌<◌, if◌then◌else◌, ℤ, Bool, true, false, ◌&&◌, nat_le, List, [], ◌∷◌, length, Option, Some, None, option_and_then, option_map, codes, IsTrue, refl}
 use Rattle.std.specs.List.{AllByRecursion}
 use Rattle.std.specs.Option.{IfSome}
 use Rattle.std.specs.Str.{bytes_eq}
@@ -63,22 +63,23 @@ module _ (P : Command → Type 0) (of : HoldsOfForms P) where
   unfolding spec.prepare_join_command
   of_prepare_join words = of_pair (λ ((node, tokens) : ℕ × List ℤ). PrepareJoin node tokens) (λ p are. of.prepare_join p.0 p.1 are.0 are.1) words
 
+  -- a node and one word more
+  of_node_and : {A : Type 0} {R : A → Type 0} (made : ℕ → A → Command) (holds : (n : ℕ) → IsNode n → (a : A) → R a → P (made n a)) (node : List ℕ) (o : Option A) → IfSome o R → IfSome (option_and_then (λ n. option_map (made n) o) (spec.node_of node)) P
+  of_node_and {A} {R} made holds node o read =
+      chained _ IsNode P (λ n is. mapped (made n) P o (IfSome_then o {P = R} {Q = λ a. P (made n a)} read (holds n is))) (spec.node_of node) (of_node node)
+
   of_prepare_move : (words : List (List ℕ)) → IfSome (spec.prepare_move_command words) P
   unfolding spec.prepare_move_command
   of_prepare_move [] = tt
   of_prepare_move (node ∷ []) = tt
-  of_prepare_move (node ∷ token ∷ []) =
-      chained _ IsNode P (λ n is. mapped (PrepareMove n) P (spec.token_of token) (IfSome_then (spec.token_of token) {P = IsToken} {Q = λ t. P (PrepareMove n t)} (of_token token) (λ t. of.prepare_move n t is)))
-      (spec.node_of node) (of_node node)
+  of_prepare_move (node ∷ token ∷ []) = of_node_and PrepareMove (λ n is t. of.prepare_move n t is) node (spec.token_of token) (of_token token)
   of_prepare_move (node ∷ token ∷ word ∷ words) = tt
 
   of_prepare_replace : (words : List (List ℕ)) → IfSome (spec.prepare_replace_command words) P
   unfolding spec.prepare_replace_command
   of_prepare_replace [] = tt
   of_prepare_replace (node ∷ []) = tt
-  of_prepare_replace (node ∷ gone ∷ []) =
-      chained _ IsNode P (λ n is. mapped (PrepareReplace n) P (spec.node_of gone) (IfSome_then (spec.node_of gone) {P = IsNode} {Q = λ m. P (PrepareReplace n m)} (of_node gone) (λ m. of.prepare_replace n m is)))
-      (spec.node_of node) (of_node node)
+  of_prepare_replace (node ∷ gone ∷ []) = of_node_and PrepareReplace (λ n is m. of.prepare_replace n m is) node (spec.node_of gone) (of_node gone)
   of_prepare_replace (node ∷ gone ∷ word ∷ words) = tt
 
   of_keyspace : (words : List (List ℕ)) → IfSome (spec.keyspace_command words) P

@@ -8,13 +8,8 @@ use Rattle.transformations.proofs.histories.HistoryLemmas.{IsNext, next_at, stat
 use Rattle.transformations.proofs.histories.LogLemmas.{length-commands_of}
 use Rattle.transformations.specs.History.{IsHistory, next_image, state_after}
 use Rattle.transformations.specs.Log.{commands_of}
-use Rattle.transformations.specs.Refusals.{refusal_of}
 use Rattle.transformations.specs.declared.entry.Entry.{Entry}
 use Rattle.transformations.specs.declared.image.Image.{Image}
-use Rattle.transformations.specs.declared.refusal.Refusal.{Refusal}
-use Rattle.cluster_metadata.specs.Permission.{ShowsRefusal}
-use Rattle.cluster_metadata.specs.declared.admit_fault.AdmitFault.{AdmitFault}
-use Rattle.cluster_metadata.specs.declared.admit_fault.AdmitFault.TheVariants as admit
 use Rattle.epoch_log.specs.Epochs.{entry_at}
 
 entry_at-next : (log : List Entry) (before : ℕ) → entry_at log (before + 1) ≡ slice_get log before
@@ -42,12 +37,6 @@ module _ (log : List Entry) (before : ℕ) (entry : Entry) (within : before < le
   -- its command can be taken over next, and leads to the next state
   pub is_next : (image : Image) → IsHistory (commands_of log) → image ≡ state_after (commands_of log) before → IsNext image entry.cmd
   is_next image history is = subst (λ (i : Image). IsNext i entry.cmd) (sym is) (next_at (commands_of log) before entry.cmd history within_commands command_there)
-
-  -- so it isn't refused
-  pub not_refused : (image : Image) (fault : AdmitFault) (refusal : Refusal) → IsHistory (commands_of log) → image ≡ state_after (commands_of log) before → fault ≡ admit.Refused refusal → ShowsRefusal (refusal_of image entry.cmd) fault → ⊥
-  not_refused image fault refusal history is named shows =
-      let shown : refusal_of image entry.cmd ≡ Some refusal = subst (ShowsRefusal (refusal_of image entry.cmd)) named shows in
-      none-some refusal (sym (is_next image history is).accepted ∙ shown)
 
   pub next_state : (image image' : Image) → image ≡ state_after (commands_of log) before → image' ≡ next_image image entry.cmd → image' ≡ state_after (commands_of log) (before + 1)
   next_state image image' is enacted =

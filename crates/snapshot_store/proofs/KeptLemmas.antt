@@ -8,15 +8,12 @@ use Rattle.std.proofs.lemmas.List.{get_or_default}
 use Rattle.std.proofs.lemmas.List.Elements.{All-from_recursion, All-head, All-tail}
 use Rattle.std.proofs.lemmas.List.Quantifiers.{all_pairs_push}
 use Rattle.std.proofs.lemmas.Option.{get_or_from_slice_get, none-some}
-use Rattle.transformations.proofs.histories.HistoryLemmas.{valid_at}
 use Rattle.transformations.proofs.images.ValidLaws.{valid_to}
-use Rattle.transformations.specs.History.{IsHistory}
 use Rattle.transformations.specs.ImageRules.{bad_of}
 use Rattle.transformations.specs.Valid.{IsValid}
-use Rattle.transformations.specs.declared.command.Command.{Command}
 use Rattle.transformations.specs.declared.image_rules.BadImage.{BadImage}
 use Rattle.transformations.specs.declared.image.Image.{Image}
-use Rattle.snapshot_store.specs.Images.{AreOf, Ascend, IsNearest}
+use Rattle.snapshot_store.specs.Images.{Ascend, IsNearest}
 
 from_all : (P : Image → Type 0) (images : List Image) → ((k : ℕ) (d : Image) → k < length images → P (get_or images k d)) → AllByRecursion P images
 from_all P [] all = tt
@@ -30,11 +27,7 @@ to_all P images all = All-from_recursion P images all
 pub kept_push : (images : List Image) (image : Image) → Ascend images → AllByRecursion (λ kept. kept.epoch < image.epoch) images → Ascend (images ++ image ∷ [])
 kept_push images image kept past = all_pairs_push (λ (one later : Image). one.epoch < later.epoch) images image kept (to_all (λ (one : Image). one.epoch < image.epoch) images past)
 
--- ---- the images of a history
-
-pub all_valid : (h : List Command) (images : List Image) → IsHistory h → AreOf h images → AllByRecursion IsValid images
-all_valid h [] is of = tt
-all_valid h (image ∷ images) is of = (subst IsValid (sym of.0.1) (valid_at h image.epoch is), all_valid h images is of.1)
+-- ---- valid images
 
 -- a valid image isn't bad
 pub not_bad : (image : Image) (bad : BadImage) → IsValid image → bad_of image ≡ Some bad → ⊥

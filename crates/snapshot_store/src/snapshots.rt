@@ -2,11 +2,12 @@ ghost use Rattle.std.specs.Prelude.{◌≡◌, ◌-◌, ◌<◌, ◌≤◌, [], 
 ghost use Rattle.std.specs.List.{AllByRecursion};
 ghost use Rattle.transformations.specs.History.{IsHistory, state_after};
 ghost use Rattle.transformations.specs.Log.{commands_of};
+ghost use Rattle.transformations.specs.Valid.{IsValid};
 ghost use Rattle.snapshot_store.specs.Images.{AreOf, epoch_of};
 
 use crate::nearest::nearest;
 use crate::replay::take_all;
-use cluster_metadata::Metadata;
+use cluster_metadata::{ImageFault, Metadata};
 use cluster_terms::Memory;
 use epoch_log::Log;
 use std::alloc::Global;
@@ -30,6 +31,20 @@ impl Model for Snapshots {
     ghost view = { λ snapshots. snapshots.images.items };
 
     ghost invariant = { λ snapshots. Ascend snapshots.images.items };
+}
+
+/// The metadata of a valid image. Fails only if memory runs out.
+fn metadata_of(alloc: Global, image: Image) -> Result<Metadata, Memory>
+    requires { IsValid image }
+    ensures { IfOk result (λ metadata. metadata ≡ image) }
+{
+    match Metadata::from_image(alloc, image) {
+        Ok(metadata) => Ok(metadata),
+        Err((_image, fault)) => match fault {
+            ImageFault::Memory => Err(Memory),
+            ImageFault::Bad(_) => unreachable!(),
+        },
+    }
 }
 
 impl Snapshots {
@@ -67,27 +82,34 @@ impl Snapshots {
         }
     }
 
-    /// The metadata at an epoch of a log, of which the images are. The commands of the log are a history, and the epoch
-    /// is at most the last one. Fails only if memory runs out.
+    /// The image at an epoch of a log, of which the images are. The commands of the log are a history, and the epoch is
+    /// at most the last one. Fails only if memory runs out.
     ///
-    /// Cost: a binary search for the greatest image at or below the epoch, a copy of this image, and the metadata made
-    /// from it, at the cost of `Metadata::from_image`. Each command after the image, up to the epoch, is admitted and
-    /// enacted again, at the cost of its commit. If the image of every 256th epoch is kept, these are at most 255
-    /// commands.
+    /// Cost: a binary search for the greatest image at or below the epoch, and a copy of this image. Each command after
+    /// it, up to the epoch, changes the copy, at the cost of `cluster_metadata::advance`. If the image of every 256th
+    /// epoch is kept, these are at most 255 commands.
+    pub fn image_at(&self, log: &Log, e: u64) -> Result<Image, Memory>
+        requires history { IsHistory (commands_of log.now) }
+        requires within { e ≤ length log.now }
+        requires kept { AreOf (commands_of log.now) self.now }
+        ensures { IfOk result (λ image. image ≡ state_after (commands_of log.now) e) }
+    {
+        let mut image = nearest(self.alloc, &self.images, e)?;
+        let from = image.epoch;
+        take_all(self.alloc, &mut image, log, from, e)?;
+        Ok(image)
+    }
+
+    /// The metadata at an epoch of a log, of which the images are, as `image_at` says.
+    ///
+    /// Cost: that of `image_at`, and of `Metadata::from_image`.
     pub fn state_at(&self, log: &Log, e: u64) -> Result<Metadata, Memory>
         requires history { IsHistory (commands_of log.now) }
         requires within { e ≤ length log.now }
         requires kept { AreOf (commands_of log.now) self.now }
         ensures { IfOk result (λ metadata. metadata ≡ state_after (commands_of log.now) e) }
     {
-        let mut metadata = nearest(self.alloc, &self.images, e)?;
-        let from = metadata.epoch();
-        match take_all(&mut metadata, log, from, e) {
-            Ok(()) => Ok(metadata),
-            Err(memory) => {
-                metadata.close();
-                Err(memory)
-            }
-        }
+        let image = self.image_at(log, e)?;
+        metadata_of(self.alloc, image)
     }
 }

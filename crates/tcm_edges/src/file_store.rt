@@ -12,15 +12,36 @@ use std::io::{self, ErrorKind, Read, Write};
 use std::marker::Model;
 use std::rt::Files;
 
-/// The files of the operating system. A name is a path from the current folder. The store tells nothing of the bytes in
-/// its files. A file whose name ends in `.new` may be overwritten by `replace`.
+/// A file that is open to be appended to, and its name, if there was memory for it.
 #[derive(Drop)]
-pub struct FileStore<R> {
-    rt: R,
-    failed: u64,
+struct Appended<F> {
+    name: Option<String>,
+    file: F,
 }
 
-impl<R> Model for FileStore<R> {
+impl<F> Appended<F> {
+    /// Whether this is known to be the file with this name.
+    fn has_name(&self, name: &str) -> bool {
+        match &self.name {
+            Some(own) => own.as_str() == name,
+            None => false,
+        }
+    }
+}
+
+/// The files of the operating system. A name is a path from the current folder. The store tells nothing of the bytes in
+/// its files. A file whose name ends in `.new` may be overwritten by `replace`.
+///
+/// The file of the last append stays open, until another file is appended to, a file is replaced or an append fails. If
+/// such a file is renamed meanwhile, appends still reach it.
+#[derive(Drop)]
+pub struct FileStore<R: Files> {
+    rt: R,
+    failed: u64,
+    appended: Option<Appended<R::File>>,
+}
+
+impl<R: Files> Model for FileStore<R> {
     ghost use Rattle.tcm_edges.specs.Counted.{Counted};
 
     ghost Value = { Counted R };
@@ -28,12 +49,16 @@ impl<R> Model for FileStore<R> {
     ghost view = { λ store. record { inner = store.rt; failures = store.failed } };
 }
 
-impl<R> FileStore<R> {
+impl<R: Files> FileStore<R> {
     /// A store over this runtime, with a count of 0 failures.
     pub fn new(rt: R) -> Self
         ensures { result ≡ record { inner = rt; failures = 0 } }
     {
-        FileStore { rt, failed: 0 }
+        FileStore {
+            rt,
+            failed: 0,
+            appended: None,
+        }
     }
 
     /// Counts a failure.
@@ -71,11 +96,29 @@ fn load_file<R: Files + AllocGlobal>(rt: &R, name: &str, limit: u64) -> io::Resu
     Ok(Loaded::Bytes(ByteText::from_vec(bytes)))
 }
 
-/// Adds bytes at the end of a file, and makes the file if it is absent.
-fn append_file<R: Files>(rt: &R, name: &str, bytes: &[u8]) -> io::Result<()> {
-    let mut file = OpenOptions::new().append(true).create(true).open(rt, name)?;
+/// Adds bytes at the end of an open file. At `Ok` the operating system has them.
+fn write_all<F: Write>(file: &mut F, bytes: &[u8]) -> io::Result<()> {
     file.write_all(bytes)?;
     file.flush()
+}
+
+/// Opens a file to be appended to, and makes it if it is absent.
+fn open_to_append<R: Files + AllocGlobal>(rt: &R, name: &str) -> io::Result<Appended<R::File>> {
+    let file = OpenOptions::new().append(true).create(true).open(rt, name)?;
+    let name = String::from_str(rt.alloc(), name).ok();
+    Ok(Appended { name, file })
+}
+
+/// The file with this name if it is the one that is open, or else opened anew.
+fn reopened<R: Files + AllocGlobal>(
+    rt: &R,
+    appended: Option<Appended<R::File>>,
+    name: &str,
+) -> io::Result<Appended<R::File>> {
+    match appended {
+        Some(file) if file.has_name(name) => Ok(file),
+        _ => open_to_append(rt, name),
+    }
 }
 
 /// The name of the file that holds the new contents until they are whole.
@@ -133,10 +176,15 @@ impl<R: Files + AllocGlobal> Store for FileStore<R> {
         ensures counted { OnErr result (self.new ≡ with_failure self.old) }
         ensures uncounted { OnOk result (self.new ≡ self.old) }
     {
-        if append_file(&self.rt, name, bytes).is_err() {
+        let Ok(mut appended) = reopened(&self.rt, self.appended.take(), name) else {
+            self.fail();
+            return Err(WriteFault::Failed);
+        };
+        if write_all(&mut appended.file, bytes).is_err() {
             self.fail();
             return Err(WriteFault::Failed);
         }
+        self.appended = Some(appended);
         Ok(())
     }
 
@@ -156,6 +204,7 @@ impl<R: Files + AllocGlobal> Store for FileStore<R> {
         ensures unchanged { IfErr result (λ fault. OnMemory fault (self.new ≡ self.old)) }
     {
         let beside = beside(&self.rt, name)?;
+        self.appended = None;
         if replace_file(&self.rt, beside.as_str(), name, bytes).is_err() {
             self.fail();
             return Err(WriteFault::Failed);

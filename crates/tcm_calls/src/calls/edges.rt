@@ -216,32 +216,38 @@ fn new_folder<R: AllocGlobal + Files>(rt: &R) -> Result<String, Fail> {
     Err(Fail::from("no folder for temporary files"))
 }
 
-/// Stores a file in a folder.
+/// Stores two files in a folder.
 fn real_files<R: Abort + AllocGlobal + Files>(rt: &R, folder: &str) -> Result<(), Fail> {
     let path = format!(in rt.alloc(); "{folder}/log")?;
-    let name = path.as_str();
+    let other_path = format!(in rt.alloc(); "{folder}/other")?;
+    let (name, other) = (path.as_str(), other_path.as_str());
     let mut store = FileStore::new(rt);
     assert!(rt; matches!(store.load(name, 9)?, Loaded::Absent));
-    store.append(name, b"ab")?;
-    store.append(name, b"c")?;
-    assert!(rt; matches!(store.load(name, 2)?, Loaded::TooLarge(3)));
-    for text in &["abcd", "xyz"] {
-        is_replaced(rt, &mut store, name, text)?;
+    for text in &["ab", "c"] {
+        store.append(name, text.as_bytes())?;
+        store.append(other, text.as_bytes())?;
     }
+    assert!(rt; matches!(store.load(name, 2)?, Loaded::TooLarge(3)));
+    has_bytes(rt, &mut store, other, "abc")?;
+    for text in &["abcd", "xyz"] {
+        store.replace(other, text.as_bytes())?;
+        has_bytes(rt, &mut store, other, text)?;
+    }
+    store.append(other, b"!")?;
+    has_bytes(rt, &mut store, other, "xyz!")?;
     is_no_file(rt, &mut store, folder);
     is_no_file(rt, &mut store, "/dev/null/log");
     assert_eq!(rt; store.replace("/dev/null/log", b"ab"), FAILED);
     Ok(())
 }
 
-/// Replaces a file, and loads it.
-fn is_replaced<A: Abort, D: Store>(
+/// Loads a file, which has this text.
+fn has_bytes<A: Abort, D: Store>(
     rt: &A,
     store: &mut D,
     name: &str,
     text: &str,
 ) -> Result<(), Fail> {
-    store.replace(name, text.as_bytes())?;
     let loaded = store.load(name, 4)?;
     assert!(rt; matches!(&loaded, Loaded::Bytes(bytes) if bytes.as_slice() == text.as_bytes()));
     Ok(())

@@ -84,9 +84,6 @@ impl Session {
         if epoch == self.log.last_epoch() {
             return self.metadata.image();
         }
-        let metadata = self.metadata_at(epoch)?;
-        let image = metadata.image();
-        metadata.close();
-        image
+        self.snapshots.image_at(&self.log, epoch)
     }
 }

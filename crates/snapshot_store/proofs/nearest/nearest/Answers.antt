@@ -11,5 +11,5 @@ returns c =
     let count = c.count_to-count.result in
     let within : count - 1 < length images = omega arith in
     let next : count ≡ count - 1 + 1 = omega arith in
-    let near = nearest_found images c.args.e count c.requires.ascend c.count_to-count.ensures.split (count - 1) c.index-images-last.result within next c.index-images-last.is in
-    IfOk-weaker c.metadata_of.result (λ (image : Image). image ≡ c.index-images-last.result) (IsNearest images c.args.e) (λ image is. subst (IsNearest images c.args.e) (sym is) near) c.metadata_of.ensures
+    let near = nearest_found images c.args.e count c.requires c.count_to-count.ensures.split (count - 1) c.index-images-last.result within next c.index-images-last.is in
+    IfOk-weaker c.copy.result (λ (image : Image). image ≡ c.index-images-last.result) (IsNearest images c.args.e) (λ image is. subst (IsNearest images c.args.e) (sym is) near) c.copy.ensures
