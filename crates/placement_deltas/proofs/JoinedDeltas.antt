@@ -45,7 +45,7 @@ abbrev Climbs : DeltaRow → List DeltaRow → Type 0
 Climbs row rows = CoverRing (λ (r : DeltaRow). r.right) (row ∷ rows)
 
 -- joined rows change the same at each token
-joined_at : (row : DeltaRow) (rows : List DeltaRow) (x : ℤ) → Climbs row rows → int_le x greatest_token ≡ true → delta_at (joined_from (Some row) rows) x ≡ delta_at (row ∷ rows) x
+pub joined_at : (row : DeltaRow) (rows : List DeltaRow) (x : ℤ) → Climbs row rows → int_le x greatest_token ≡ true → delta_at (joined_from (Some row) rows) x ≡ delta_at (row ∷ rows) x
 joined_at row [] x climbs top =
     ap (λ b. if b then change_in row else ([], [])) (top ∙ sym (ap (int_le x) climbs ∙ top))
 joined_at row (next ∷ rows) x climbs top =
@@ -92,7 +92,7 @@ joined_begins row (next ∷ rows) climbs = by (same_change row next) refl (joine
     by false other rest = (self (last_token row.right), refl)
 
 -- joined rows are a delta
-joined_is : (row : DeltaRow) (rows : List DeltaRow) → Climbs row rows → IsDelta (joined_from (Some row) rows)
+pub joined_is : (row : DeltaRow) (rows : List DeltaRow) → Climbs row rows → IsDelta (joined_from (Some row) rows)
 joined_is row [] climbs = refl
 joined_is row (next ∷ rows) climbs = by (same_change row next) refl (joined_is next rows climbs.1) (joined_begins next rows climbs.1)
   where

@@ -2,3 +2,4 @@ mod DeltaExamples
 pub mod DeltaLemmas
 mod JoinedDeltas
 pub mod ShownChanges
+mod SideDeltas

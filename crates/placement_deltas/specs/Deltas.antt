@@ -6,11 +6,18 @@ use Rattle.cluster_terms.specs.declared.row.TokenRange.{TokenRange}
 use Rattle.cluster_terms.specs.declared.token.RightEnd.TheVariants.{Max}
 use Rattle.node_sets.specs.NodeSets.{without}
 use Rattle.placement_deltas.specs.declared.delta_row.DeltaRow.{DeltaRow}
+use Rattle.placement_deltas.specs.declared.side.Side.{Side}
+use Rattle.placement_deltas.specs.declared.side.Side.TheVariants.{Gained, Lost}
 use Rattle.token_ring.specs.Ranges.{is_cut_right}
 
 -- the nodes gained and the nodes lost between two sets of nodes
 abbrev pub change : List ℕ → List ℕ → List ℕ × List ℕ
 change before after = (without after before, without before after)
+
+-- one side of a change, and no node on the other
+abbrev pub only : Side → List ℕ × List ℕ → List ℕ × List ℕ
+only Gained nodes = (nodes.0, [])
+only Lost nodes = ([], nodes.1)
 
 -- the nodes gained and the nodes lost in a row
 abbrev pub change_in : DeltaRow → List ℕ × List ℕ

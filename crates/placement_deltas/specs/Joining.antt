@@ -1,4 +1,4 @@
--- The changes of rows between cuts, with adjacent rows joined if their changes are equal.
+-- The changes of rows between cuts, or one side of them, with adjacent rows joined if their changes are equal.
 -- Of the code: no promise rests on these.
 use Rattle.std.specs.Prelude.{Bool, ◌&&◌, if◌then◌else◌, ℕ, nat_eq, List, [], ◌∷◌, ◌++◌, Option, Some, None}
 use Rattle.std.specs.Cmp.Lexicographic.{pointwise}
@@ -6,7 +6,9 @@ use Rattle.cluster_terms.specs.declared.row.TokenRange.{TokenRange}
 use Rattle.cluster_terms.specs.declared.token.RightEnd.{RightEnd}
 use Rattle.cluster_terms.specs.declared.token.RightEnd.TheVariants.{Max}
 use Rattle.node_sets.specs.NodeSets.{without}
+use Rattle.placement_deltas.specs.Deltas.{change_in, only}
 use Rattle.placement_deltas.specs.declared.delta_row.DeltaRow.{DeltaRow}
+use Rattle.placement_deltas.specs.declared.side.Side.{Side}
 
 -- a row up to a right end, and a row for each range, with what changes there
 abbrev pub change_row : RightEnd → List ℕ → List ℕ → DeltaRow
@@ -15,6 +17,10 @@ change_row right before after = record { right = right; gained = without after b
 abbrev pub change_rows : List TokenRange → List (List ℕ) → List (List ℕ) → List DeltaRow
 change_rows (range ∷ ranges) (b ∷ before) (a ∷ after) = change_row range.right b a ∷ change_rows ranges before after
 change_rows _ _ _ = []
+
+-- a row with one side of its change
+abbrev pub row_of_side : Side → DeltaRow → DeltaRow
+row_of_side side row = record { right = row.right; gained = (only side (change_in row)).0; lost = (only side (change_in row)).1 }
 
 -- whether two rows have the same nodes gained and the same nodes lost
 abbrev pub same_change : DeltaRow → DeltaRow → Bool

@@ -1,12 +1,14 @@
-ghost use Rattle.std.specs.Prelude.{◌≡◌, ◌≢◌, ◌≤ℤ◌, int_lt, true, false, [], get_or, length, IfOk, IfSome, IsFalse, IsNone, IsTrue};
+ghost use Rattle.std.specs.Prelude.{◌≡◌, ◌≢◌, ℤ, ◌≤ℤ◌, int_lt, true, false, [], get_or, length, IfOk, IfSome, IsFalse, IsNone, IsTrue};
 ghost use Rattle.std.specs.List.Sorted.{IsPartitionPoint, IsStrictlySortedBy};
 ghost use Rattle.std.specs.Ordering.{int_cmp};
+ghost use Rattle.cluster_terms.specs.Arc.{IsToken};
 ghost use Rattle.cluster_terms.specs.Row.{last_token, rows_between};
-ghost use Rattle.placement_deltas.specs.Deltas.{ChangesNothing, EndAtCuts, IsDelta, ShowsChanges, change_in, delta_at, exchanged, inverse_of};
+ghost use Rattle.placement_deltas.specs.Deltas.{ChangesNothing, EndAtCuts, IsDelta, ShowsChanges, change_in, delta_at, exchanged, inverse_of, only};
 ghost use Rattle.placement_deltas.specs.declared.delta_row.DeltaRow.{DeltaRow as AnyRow};
 
 use crate::delta_row::{DeltaRow, DeltaRows};
-use crate::joining::joined;
+use crate::joining::{joined, joined_side};
+use crate::side::Side;
 use crate::unchanged::Unchanged;
 use cluster_terms::{Memory, Token, TryCopy, row_index, row_index_near, rows_between};
 use node_sets::NodeSet;
@@ -125,6 +127,19 @@ impl Delta {
         }
         let last = row.last_token();
         Some(Unchanged { first: t, last })
+    }
+
+    /// The delta of one side alone: the nodes gained, and none lost, or the nodes lost, and none gained. Fails only if
+    /// memory runs out. The cost is a copy of the sets of this side.
+    pub fn only(&self, side: Side) -> Result<Delta, Memory>
+        ensures { IfOk result
+            (λ delta. (x : ℤ) → IsToken x → delta_at delta x ≡ only side (delta_at self.now x)) }
+    {
+        let rows = joined_side(self.alloc, side, self.rows())?;
+        Ok(Delta {
+            alloc: self.alloc,
+            rows,
+        })
     }
 
     /// The delta with the nodes gained and the nodes lost exchanged. Fails only if memory runs out. The cost is a

@@ -1,8 +1,9 @@
-ghost use Rattle.std.specs.Prelude.{◌≡◌, ◌++◌, None, length, IfOk};
+ghost use Rattle.std.specs.Prelude.{◌≡◌, ◌++◌, None, length, map, IfOk};
 ghost use Rattle.placement_deltas.specs.Joining as spec;
 
 use crate::delta_row::{DeltaRow, DeltaRows};
-use cluster_terms::{Memory, RightEnd, TokenRange};
+use crate::side::Side;
+use cluster_terms::{Memory, RightEnd, TokenRange, TryCopy};
 use node_sets::NodeSet;
 use std::alloc::Global;
 
@@ -14,6 +15,21 @@ fn change_row(right: RightEnd, before: &NodeSet, after: &NodeSet) -> Result<Delt
     let lost = before.minus(after)?;
     Ok(DeltaRow {
         right,
+        gained,
+        lost,
+    })
+}
+
+/// The row with the nodes of one side alone.
+fn row_of_side(alloc: Global, side: Side, row: &DeltaRow) -> Result<DeltaRow, Memory>
+    ensures { IfOk result (λ other. other ≡ spec.row_of_side side row.now) }
+{
+    let (gained, lost) = match side {
+        Side::Gained => (row.gained.copy()?, NodeSet::empty(alloc)),
+        Side::Lost => (NodeSet::empty(alloc), row.lost.copy()?),
+    };
+    Ok(DeltaRow {
+        right: row.right,
         gained,
         lost,
     })
@@ -38,6 +54,20 @@ fn push_begun(rows: &mut DeltaRows, begun: Option<DeltaRow>, next: &DeltaRow) ->
     Ok(())
 }
 
+/// Adds the row that has begun, up to the end of the ring.
+fn push_last(rows: &mut DeltaRows, begun: Option<DeltaRow>) -> Result<(), Memory>
+    ensures { IfOk result (λ _. rows.new ≡ rows.old ++ spec.row_ended begun) }
+{
+    if let Some(last) = begun {
+        rows.push(DeltaRow {
+            right: RightEnd::Max,
+            gained: last.gained,
+            lost: last.lost,
+        })?;
+    }
+    Ok(())
+}
+
 /// The changes of the rows between cuts, with adjacent rows joined if their changes are equal.
 pub(crate) fn joined(
     alloc: Global,
@@ -57,12 +87,22 @@ pub(crate) fn joined(
         push_begun(&mut joined, begun, &next)?;
         begun = Some(next);
     }
-    if let Some(last) = begun {
-        joined.push(DeltaRow {
-            right: RightEnd::Max,
-            gained: last.gained,
-            lost: last.lost,
-        })?;
+    push_last(&mut joined, begun)?;
+    Ok(joined)
+}
+
+/// The rows with the nodes of one side alone, with adjacent rows joined if these nodes are equal.
+pub(crate) fn joined_side(alloc: Global, side: Side, rows: &[DeltaRow]) -> Result<DeltaRows, Memory>
+    ensures { IfOk result
+        (λ joined. joined ≡ spec.joined_from None (map (spec.row_of_side side) rows.now)) }
+{
+    let mut joined = DeltaRows::empty(alloc);
+    let mut begun = None;
+    for row in rows {
+        let next = row_of_side(alloc, side, row)?;
+        push_begun(&mut joined, begun, &next)?;
+        begun = Some(next);
     }
+    push_last(&mut joined, begun)?;
     Ok(joined)
 }

@@ -7,10 +7,12 @@ pub mod delta;
 pub mod delta_row;
 mod joining;
 pub mod plan;
+pub mod side;
 pub mod unchanged;
 
 pub use book::{DeltaBook, DeltaBookRow};
 pub use delta::Delta;
 pub use delta_row::{DeltaRow, DeltaRows};
 pub use plan::Plan;
+pub use side::Side;
 pub use unchanged::Unchanged;

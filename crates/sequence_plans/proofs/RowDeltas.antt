@@ -15,7 +15,7 @@ use Rattle.placement_deltas.specs.declared.delta_row.DeltaRow.{DeltaRow}
 use Rattle.token_ring.specs.Ranges.{AreCutOut, HaveTokens, IsRangeList, have_token}
 use Rattle.transformations.proofs.deltas.DeltaRows.{IsWithPart, before-between, with-between, with_parts}
 use Rattle.transformations.proofs.deltas.OutsideDeltas.{none_outside}
-use Rattle.transformations.proofs.lists.ListLemmas.{all_both, all_each, all_weaker, filter_all}
+use Rattle.transformations.proofs.lists.ListLemmas.{all_weaker}
 use Rattle.transformations.proofs.ranges.RowEndLemmas.{IsUpTo}
 use Rattle.transformations.proofs.ranges.RowsServed.{cuts_ascend}
 use Rattle.transformations.specs.Deltas.{gained_at, lost_at}
@@ -26,17 +26,13 @@ use Rattle.transformations.specs.declared.image.Image.{Image}
 use Rattle.transformations.specs.declared.sequence.SeqRow.{SeqRow}
 use Rattle.sequence_plans.proofs.NearCuts.{near_ascend}
 use Rattle.sequence_plans.proofs.NearRows.{IsNearRow, near_rows}
-use Rattle.sequence_plans.specs.Deltas.{IsExact, gained_by, lost_by, no_nodes}
+use Rattle.sequence_plans.specs.Deltas.{IsExact, gained_by, lost_by}
 use Rattle.sequence_plans.specs.MovementPlacers.{PlacesMovement}
 use Rattle.sequence_plans.specs.NearCuts.{near_cuts}
 use Rattle.sequence_plans.specs.Placers.{placed_by}
 use Rattle.sequence_plans.specs.RowSets.{AreRowSets}
 use Rattle.sequence_plans.specs.declared.movement_rings.MovementPlacers.{MovementPlacers}
 use Rattle.sequence_plans.specs.declared.row_sets.RowSets.{RowSets}
-
--- all nodes are not among none
-without_none : (ids : List ℕ) → without ids [] ≡ ids
-without_none ids = filter_all (λ n. true) ids (all_each (λ (n : ℕ). true ≡ true) (λ n. refl) ids)
 
 -- nodes at the tokens of ranges, and none elsewhere
 abbrev inside : List TokenRange → (ℤ → List ℕ) → ℤ → List ℕ
@@ -95,35 +91,14 @@ module _ (image : Image) (s : SeqRow) (r : Replication) (h : IsSound image) (the
       let part = All-contains (IsWithPart image) image.sequences s (All-from_recursion (IsWithPart image) image.sequences (with_parts image)) there in
       stands (placed_by placers.after) (λ x w u. places.after x ∙ with-between image x w u.upto u.clear r s part ∙ sym (places.after w))
 
-  without_stands : (one other : ℤ → List ℕ) → StandInRows one (rows_between near) → StandInRows other (rows_between near) → StandInRows (λ x. without (one x) (other x)) (rows_between near)
-  without_stands one other =
-      all_both (λ row. (x : ℤ) → IsToken x → is_within x row ≡ true → one x ≡ one (last_token row.right)) (λ row. (x : ℤ) → IsToken x → is_within x row ≡ true → other x ≡ other (last_token row.right))
-      (λ row. (x : ℤ) → IsToken x → is_within x row ≡ true → without (one x) (other x) ≡ without (one (last_token row.right)) (other (last_token row.right)))
-      (λ row a b x token here i. without (a x token here i) (b x token here i)) (rows_between near)
-
-  none_stands : StandInRows (λ x. []) (rows_between near)
-  none_stands = all_each (λ (row : TokenRange). (x : ℤ) → IsToken x → is_within x row ≡ true → [] ≡ []) (λ row x token here. refl) (rows_between near)
-
-  -- ---- so the deltas are exact
+  -- ---- so the delta is exact
 
   module _ (rows : List TokenRange) (rows_is : rows ≡ rows_between near) (sets : RowSets) (are : AreRowSets ranges (placed_by placers.before) (placed_by placers.after) rows sets) (delta : List DeltaRow) where
     up : IsStrictlySortedBy int_cmp near
     up = near_ascend (cuts image) ranges near is (cuts_ascend image)
-
-    pub gain_found : ShowsChanges (rows_between near) sets.none.items sets.gained.items delta → IsExact (gained_by image s r) (no_nodes r) delta
-    gain_found shows x token =
-        shown_at near sets.none.items sets.gained.items delta (λ y. []) gained up tokens shows
-        (are.none ∙ ap (map (λ row. [])) rows_is) (are.gained ∙ ap (map (λ row. gained (last_token row.right))) rows_is) none_stands (without_stands after before after_stands before_stands) x token
-        ∙ (λ i. (without_none (gained x) i, [])) ∙ (λ i. (gained_is x token i, []))
 
     pub swap_found : ShowsChanges (rows_between near) sets.before.items sets.after.items delta → IsExact (gained_by image s r) (lost_by image s r) delta
     swap_found shows x token =
         shown_at near sets.before.items sets.after.items delta before after up tokens shows
         (are.before ∙ ap (map (λ row. before (last_token row.right))) rows_is) (are.after ∙ ap (map (λ row. after (last_token row.right))) rows_is) before_stands after_stands x token
         ∙ (λ i. (gained_is x token i, lost_is x token i))
-
-    pub lose_found : ShowsChanges (rows_between near) sets.lost.items sets.none.items delta → IsExact (no_nodes r) (lost_by image s r) delta
-    lose_found shows x token =
-        shown_at near sets.lost.items sets.none.items delta lost (λ y. []) up tokens shows
-        (are.lost ∙ ap (map (λ row. lost (last_token row.right))) rows_is) (are.none ∙ ap (map (λ row. [])) rows_is) (without_stands before after before_stands after_stands) none_stands x token
-        ∙ (λ i. ([], without_none (lost x) i)) ∙ (λ i. ([], lost_is x token i))

@@ -2,7 +2,6 @@
 use Rattle.std.specs.Prelude.{◌≡◌, ℕ, ℤ, if◌then◌else◌, List, [], ◌∷◌, ◌++◌, map}
 use Rattle.cluster_terms.specs.Row.{last_token}
 use Rattle.cluster_terms.specs.declared.row.TokenRange.{TokenRange}
-use Rattle.node_sets.specs.NodeSets.{without}
 use Rattle.token_ring.specs.Ranges.{have_token}
 use Rattle.sequence_plans.specs.declared.row_sets.RowSets.{RowSets}
 
@@ -10,18 +9,12 @@ use Rattle.sequence_plans.specs.declared.row_sets.RowSets.{RowSets}
 abbrev pub nodes_in_ranges : List TokenRange → (ℤ → List ℕ) → TokenRange → List ℕ
 nodes_in_ranges ranges nodes row = if have_token ranges (last_token row.right) then nodes (last_token row.right) else []
 
--- the nodes before and after the movement in each row, those that are gained and lost there, and none for each row
+-- the nodes before and after the movement in each row
 pub record AreRowSets (ranges : List TokenRange) (one other : ℤ → List ℕ) (rows : List TokenRange) (sets : RowSets) : Type 0 where
   pub before : sets.before.items ≡ map (nodes_in_ranges ranges one) rows
   pub after : sets.after.items ≡ map (nodes_in_ranges ranges other) rows
-  pub gained : sets.gained.items ≡ map (λ row. without (nodes_in_ranges ranges other row) (nodes_in_ranges ranges one row)) rows
-  pub lost : sets.lost.items ≡ map (λ row. without (nodes_in_ranges ranges one row) (nodes_in_ranges ranges other row)) rows
-  pub none : sets.none.items ≡ map (λ row. []) rows
 
 -- the sets with one more row, which has these nodes before and after the movement
 pub record AreWithRow (old : RowSets) (one other : List ℕ) (new : RowSets) : Type 0 where
   pub before : new.before.items ≡ old.before.items ++ one ∷ []
   pub after : new.after.items ≡ old.after.items ++ other ∷ []
-  pub gained : new.gained.items ≡ old.gained.items ++ without other one ∷ []
-  pub lost : new.lost.items ≡ old.lost.items ++ without one other ∷ []
-  pub none : new.none.items ≡ old.none.items ++ [] ∷ []

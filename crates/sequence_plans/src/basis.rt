@@ -12,19 +12,20 @@ ghost use Rattle.sequence_plans.specs.Replications.{replications_of};
 
 use crate::deltas::DeltaBooks;
 use crate::replications::{Replications, replications_of};
+use crate::wide_image::WideImage;
 use cluster_terms::{Memory, NodeId, PairList, Replication, Steps, Token, TryCopy};
 use node_directory::Directory;
 use ring_reach::reached;
 use std::alloc::Global;
 use std::sync::ledger::Ledger;
 use token_ring::{LockRow, LockRows, RangeBook, RangeList, RangeRow, Ring};
-use transformations::{Image, SeqRow, fixed_ring, widest};
+use transformations::{SeqRow, fixed_among, widest_among};
 
 /// The values from which the ranges of an image's movements are computed. They are the same for all movements.
 #[derive(Drop)]
 pub struct Basis<'a> {
     alloc: Global,
-    image: &'a Image,
+    image: &'a WideImage<'a>,
     fixed: Ring,
     widest: PairList,
     directory: &'a Directory,
@@ -44,7 +45,7 @@ impl<'a> Basis<'a> {
     /// The basis of an image's ranges. The directory must hold the nodes of the image. Fails only if memory runs out.
     pub fn of_image(
         alloc: Global,
-        image: &'a Image,
+        image: &'a WideImage<'a>,
         directory: &'a Directory,
     ) -> Result<Basis<'a>, Memory>
         requires sound { IsSound image.now }
@@ -52,14 +53,14 @@ impl<'a> Basis<'a> {
         ensures image { IfOk result (λ basis. basis.image.now ≡ image.now) }
         ensures basis { IfOk result IsBasis }
     {
-        let fixed = fixed_ring(alloc, image)?;
+        let fixed = fixed_among(alloc, image.tokens(), image.sequences())?;
         Ok(Basis {
             alloc,
             image,
             fixed: Ring::from_distinct(alloc, fixed.as_slice())?,
-            widest: widest(image)?,
+            widest: widest_among(image.tokens(), image.sequences())?,
             directory,
-            replications: replications_of(alloc, image.keyspaces.as_slice())?,
+            replications: replications_of(alloc, image.keyspaces())?,
         })
     }
 
@@ -133,7 +134,7 @@ impl<'a> Basis<'a> {
         ensures { IfOk result (AreLocks self.now.image.now (others self.now.image.now.sequences node)) }
     {
         let mut locks = LockRows::empty(self.alloc);
-        for row in self.image.sequences.as_slice() {
+        for row in self.image.sequences() {
             if row.node != node {
                 locks.push(LockRow {
                     node: row.node,

@@ -15,13 +15,14 @@ ghost use Rattle.sequence_plans.specs.NearCuts.{near_cuts};
 use crate::movement_rings::{MovementPlacers, MovementRings};
 use crate::near_cuts::near_cuts;
 use crate::row_sets::RowSets;
+use crate::wide_image::WideImage;
 use cluster_terms::{Memory, Replication, Steps, Token, TryCopy, rows_between};
 use node_directory::Directory;
-use placement_deltas::{Delta, DeltaBook, DeltaBookRow};
+use placement_deltas::{Delta, DeltaBook, DeltaBookRow, Side};
 use std::alloc::Global;
 use std::sync::ledger::Ledger;
 use token_ring::{RangeList, RangeRow};
-use transformations::{Image, SeqRow};
+use transformations::SeqRow;
 
 /// The deltas of the steps of a movement, under one replication.
 #[derive(Drop)]
@@ -43,7 +44,7 @@ pub struct DeltaBooks {
 /// between cuts that is in the ranges. The rest costs about k log m for m ranges with k cuts near them.
 fn deltas_under<L: Ledger>(
     alloc: Global,
-    image: &Image,
+    image: &WideImage,
     row: &SeqRow,
     replication: &Replication,
     placers: &MovementPlacers,
@@ -63,10 +64,11 @@ fn deltas_under<L: Ledger>(
 {
     let rows = rows_between(alloc, near)?;
     let sets = RowSets::of_rows(alloc, placers, ranges, rows.as_slice(), walks)?;
+    let swap = Delta::between(alloc, near, &sets.before, &sets.after)?;
     Ok(Deltas {
-        gain: Delta::between(alloc, near, &sets.none, &sets.gained)?,
-        swap: Delta::between(alloc, near, &sets.before, &sets.after)?,
-        lose: Delta::between(alloc, near, &sets.lost, &sets.none)?,
+        gain: swap.only(Side::Gained)?,
+        lose: swap.only(Side::Lost)?,
+        swap,
     })
 }
 
@@ -111,7 +113,7 @@ impl DeltaBooks {
     /// its ranges, under each replication.
     pub fn of_movement<L: Ledger>(
         alloc: Global,
-        image: &Image,
+        image: &WideImage,
         row: &SeqRow,
         dir: &Directory,
         ranges: &[RangeRow],

@@ -9,6 +9,7 @@ pub mod placer;
 mod planning;
 mod replications;
 mod row_sets;
+mod wide_image;
 
 pub use placer::Placer;
 pub use planning::{plan, plan_in};

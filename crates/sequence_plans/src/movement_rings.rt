@@ -4,11 +4,12 @@ ghost use Rattle.transformations.specs.Valid.{IsSound};
 ghost use Rattle.sequence_plans.specs.MovementPlacers.{AreMovementRings, PlacesMovement};
 
 use crate::placer::Placer;
+use crate::wide_image::WideImage;
 use cluster_terms::{Memory, Replication};
 use node_directory::Directory;
 use std::alloc::Global;
 use token_ring::Ring;
-use transformations::{Image, SeqRow, ring_with_movement};
+use transformations::SeqRow;
 
 /// The low ring of an image, and the low ring with one movement applied.
 #[derive(Drop)]
@@ -27,14 +28,14 @@ pub struct MovementPlacers<'a> {
 impl MovementRings {
     /// The rings of a movement of an image. Fails only if memory runs out. For n pairs of the ring, the cost is about
     /// n log n: a search for each pair among those that the movement takes out, and a sort of the second ring.
-    pub fn new(alloc: Global, image: &Image, row: &SeqRow) -> Result<MovementRings, Memory>
+    pub fn new(alloc: Global, image: &WideImage, row: &SeqRow) -> Result<MovementRings, Memory>
         requires sound { IsSound image.now }
         requires moves { Contains image.now.sequences row.now }
         ensures { IfOk result (AreMovementRings image.now row.now) }
     {
-        let after = ring_with_movement(alloc, image, row)?;
+        let after = image.ring_with(alloc, row)?;
         Ok(MovementRings {
-            before: Ring::from_distinct(alloc, image.tokens.as_slice())?,
+            before: Ring::from_distinct(alloc, image.tokens().as_slice())?,
             after: Ring::from_distinct(alloc, after.as_slice())?,
         })
     }
@@ -44,7 +45,7 @@ impl MovementRings {
     pub fn placers<'a>(
         &'a self,
         alloc: Global,
-        image: &Image,
+        image: &WideImage,
         row: &SeqRow,
         dir: &'a Directory,
         replication: &'a Replication,

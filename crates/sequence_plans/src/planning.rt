@@ -7,21 +7,13 @@ ghost use Rattle.sequence_plans.specs.Deltas.{StaysExact};
 ghost use Rattle.sequence_plans.specs.Plan.{IsPlan};
 
 use crate::basis::Basis;
+use crate::wide_image::WideImage;
 use cluster_terms::{Memory, Steps, TryCopy};
 use node_directory::Directory;
 use placement_deltas::Plan;
 use std::alloc::Global;
 use std::sync::ledger::Ledger;
-use transformations::{Image, SeqRow, cuts};
-
-/// A copy of an image with this row: the row of a new movement, or the new row of a node's movement.
-fn with_movement(image: &Image, row: &SeqRow) -> Result<Image, Memory>
-    ensures { IfOk result (λ wide. wide ≡ with_movement image.now row.now) }
-{
-    let mut wide = image.copy()?;
-    wide.sequences.put(row.copy()?)?;
-    Ok(wide)
-}
+use transformations::{Image, SeqRow, cuts_among};
 
 /// The plan of a movement, in the image with this movement.
 fn planned<L: Ledger>(
@@ -35,9 +27,9 @@ fn planned<L: Ledger>(
     requires nodes { directory.now.rows ≡ image.now.nodes }
     ensures { IfOk result (IsPlan (with_movement image.now row.now) row.now) }
 {
-    let wide = with_movement(image, row)?;
+    let wide = WideImage::new(image, row)?;
     let basis = Basis::of_image(alloc, &wide, directory)?;
-    let cuts = cuts(alloc, &wide)?;
+    let cuts = cuts_among(alloc, wide.tokens(), wide.sequences())?;
     let ranges = basis.book_of(row)?;
     let books = basis.deltas_of(row, ranges.as_slice(), cuts.as_slice(), walks)?;
     Ok(Plan {
@@ -80,10 +72,10 @@ pub fn plan<L: Ledger>(
 
 /// The plan that `plan` makes, for a caller that has a directory with the nodes of the image.
 ///
-/// Cost: copies the image, and makes its fixed ring, its widest set of pairs and the two rings of the movement once.
-/// The cuts cost what `cuts_among` says. For m movements with the new one and r replications, `reached` is called m·r
-/// times. Under each replication two walks are counted for each row between cuts that is in the movement's ranges, and
-/// none elsewhere. Outside the ranges the deltas cost two binary searches in the cuts for each range.
+/// Cost: copies the movements, and makes the fixed ring, the widest set of pairs and the two rings of the movement
+/// once. The cuts cost what `cuts_among` says. For m movements with the new one and r replications, `reached` is
+/// called m·r times. Under each replication two walks are counted for each row between cuts that is in the movement's
+/// ranges, and none elsewhere. Outside the ranges the deltas cost two binary searches in the cuts for each range.
 pub fn plan_in<L: Ledger>(
     alloc: Global,
     image: &Image,

@@ -1,4 +1,4 @@
-//! The nodes that a movement gains and loses in each row between cuts, under one replication.
+//! The nodes of each row between cuts before a movement and after it, under one replication.
 
 ghost use Rattle.std.specs.Prelude.{[], IfOk, OnOk};
 ghost use Rattle.sequence_plans.specs.Placers.{placed_by};
@@ -11,14 +11,11 @@ use std::alloc::Global;
 use std::sync::ledger::Ledger;
 use token_ring::RangeList;
 
-/// For each row the nodes before the movement and after it, those that are gained and lost, and no node.
+/// For each row the nodes before the movement and after it.
 #[derive(Drop)]
 pub struct RowSets {
     pub before: Vec<NodeSet>,
     pub after: Vec<NodeSet>,
-    pub gained: Vec<NodeSet>,
-    pub lost: Vec<NodeSet>,
-    pub none: Vec<NodeSet>,
 }
 
 impl RowSets {
@@ -29,33 +26,15 @@ impl RowSets {
         Ok(RowSets {
             before: Vec::with_capacity(alloc, count)?,
             after: Vec::with_capacity(alloc, count)?,
-            gained: Vec::with_capacity(alloc, count)?,
-            lost: Vec::with_capacity(alloc, count)?,
-            none: Vec::with_capacity(alloc, count)?,
         })
     }
 
     /// Adds a row with these nodes before the movement and after it.
-    fn push(&mut self, alloc: Global, before: NodeSet, after: NodeSet) -> Result<(), Memory>
+    fn push(&mut self, before: NodeSet, after: NodeSet) -> Result<(), Memory>
         ensures { OnOk result (AreWithRow self.old before after self.new) }
     {
-        self.gained.push(after.minus(&before)?)?;
-        self.lost.push(before.minus(&after)?)?;
         self.before.push(before)?;
         self.after.push(after)?;
-        self.none.push(NodeSet::empty(alloc))?;
-        Ok(())
-    }
-
-    /// Adds a row with no nodes before the movement and after it.
-    fn push_empty(&mut self, alloc: Global) -> Result<(), Memory>
-        ensures { OnOk result (AreWithRow self.old [] [] self.new) }
-    {
-        self.gained.push(NodeSet::empty(alloc))?;
-        self.lost.push(NodeSet::empty(alloc))?;
-        self.before.push(NodeSet::empty(alloc))?;
-        self.after.push(NodeSet::empty(alloc))?;
-        self.none.push(NodeSet::empty(alloc))?;
         Ok(())
     }
 
@@ -77,9 +56,9 @@ impl RowSets {
         if ranges.contains(last) {
             let before = placers.before.place(alloc, last, walks)?;
             let after = placers.after.place(alloc, last, walks)?;
-            self.push(alloc, before, after)
+            self.push(before, after)
         } else {
-            self.push_empty(alloc)
+            self.push(NodeSet::empty(alloc), NodeSet::empty(alloc))
         }
     }
 

@@ -1,10 +1,10 @@
-//! Deltas between sets of nodes: their rows, what they show at tokens, and their inverse.
+//! Deltas between sets of nodes: their rows, what they show at tokens, their sides and their inverse.
 
 use crate::tests::calls::rings::cuts_of;
 use crate::tests::calls::sets::set_of;
 use cluster_terms::{RightEnd, Token, TryCopy, rows_between};
 use node_sets::NodeSet;
-use placement_deltas::{Delta, Unchanged};
+use placement_deltas::{Delta, Side, Unchanged};
 use std::alloc::Global;
 use std::process::Abort;
 use std::test::Fail;
@@ -141,6 +141,18 @@ fn exchanges<A: Abort>(rt: &A, alloc: Global) -> Result<(), Fail> {
     let inverse = delta.inverse()?;
     rows_are(rt, alloc, &inverse, "0 + -\n100 +4 -5\nmax + -\n")?;
     rows_are(rt, alloc, &inverse.inverse()?.copy()?, rows)
+}
+
+/// Rows are joined where one side is the same.
+#[test]
+fn sides_of_a_delta(rt: HostRuntime) -> Result<(), Fail> {
+    let alloc = rt.alloc();
+    let (cuts, before, after, ..) = CASES[3];
+    let delta = delta_of(alloc, cuts, before, after)?;
+    let gained = delta.only(Side::Gained)?;
+    let lost = delta.only(Side::Lost)?;
+    rows_are(&rt, alloc, &gained, "0 + -\n10 +3 -\n40 +6 -\nmax + -\n")?;
+    rows_are(&rt, alloc, &lost, "0 + -\n20 + -2\n40 + -4\nmax + -\n")
 }
 
 #[test]

@@ -9,12 +9,12 @@ use Rattle.sequence_plans.proofs.basis.Basis.locks_beside.Goals.{then-ne+in_ok-b
 
 pub book_of-requires-clause-within : goal.book_of-requires-clause-within
 book_of-requires-clause-within c =
-    each_within c.args.self.now.image.now c.loop-row.row-index c.row-item.result c.requires.sound (rw c.as_slice-row-items.ensures at c.loop-row-test.true) (rw c.as_slice-row-items.ensures at c.row-item.is)
+    each_within c.args.self.now.image.now c.loop-row.row-index c.row-item.result c.requires.sound (rw c.sequences-row-items.ensures at c.loop-row-test.true) (rw c.sequences-row-items.ensures at c.row-item.is)
 
 pub loop-row-preserved : goal.loop-row-preserved
 loop-row-preserved c =
     let image = c.args.self.now.image.now in
-    let rows = c.as_slice-row-items.result.now in
+    let rows = c.sequences-row-items.result.now in
     let i = c.loop-row.row-index in
     let s = c.row-item.result in
     let n = c.args.node in

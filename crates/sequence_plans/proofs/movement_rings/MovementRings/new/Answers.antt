@@ -7,7 +7,7 @@ use Rattle.sequence_plans.proofs.movement_rings.MovementRings.new.Goals as goal
 pub from_distinct-requires : goal.from_distinct-requires
 from_distinct-requires c =
     let image = c.args.image.now in
-    rw c.as_slice.ensures (distinct_tokens (tokens_of (low_ring image)) (widest-tokens image c.requires.sound).0)
+    rw (c.as_slice.ensures, c.tokens.ensures) (distinct_tokens (tokens_of (low_ring image)) (widest-tokens image c.requires.sound).0)
 
 pub from_distinct-requires-2 : goal.from_distinct-requires-2
 from_distinct-requires-2 c =
