@@ -7,7 +7,10 @@ use Rattle.transformations.specs.History.{is_command, most_epochs, next_image}
 use Rattle.transformations.specs.Refusals.{refusal_of}
 use Rattle.transformations.specs.declared.entry.Entry.{Entry}
 use Rattle.follower_log.specs.Follower.{Performs, FollowerState, IsAdvance, advanced, is_next}
+use Rattle.follower_log.specs.declared.apply_fault.ApplyFault.{ApplyFault}
+use Rattle.follower_log.specs.declared.apply_fault.ApplyFault.TheVariants as apply
 use Rattle.follower_log.specs.declared.fault.FollowerFault.{FollowerFault}
+use Rattle.follower_log.specs.declared.fault.FollowerFault.TheVariants.{Refused, Memory, MemoryAt}
 use Rattle.follower_log.specs.declared.took.Took.{Took}
 use Rattle.follower_log.specs.declared.took.Took.TheVariants.{At}
 
@@ -35,6 +38,16 @@ pub record CanWaitAt (epoch : ℕ) (entry : Entry) : Type 0 where
 abbrev pub CanWait : ℕ → List Entry → Type 0
 CanWait epoch waiting = AllByRecursion (CanWaitAt epoch) waiting
 
+-- a fault that contains no entry, and a result with such a fault, as a public call returns them
+abbrev pub widened_fault : ApplyFault → FollowerFault
+widened_fault (apply.Refused epoch refusal) = Refused epoch refusal
+widened_fault apply.Memory = Memory
+widened_fault (apply.MemoryAt epoch) = MemoryAt epoch
+
+abbrev pub widened : Result Took ApplyFault → Result Took FollowerFault
+widened (Ok took) = Ok took
+widened (Err fault) = Err (widened_fault fault)
+
 -- an advance from a follower comes to this result and this follower
 abbrev pub Advances : FollowerState → Result Took FollowerFault → FollowerState → Type 0
 Advances before result after = Performs before (advanced before.image before.waiting) result after × IsAdvance before.image.epoch result
@@ -48,7 +61,7 @@ pub record Leads (before after : FollowerState) : Type 0 where
   pub image : after.image ≡ next_image before.image entry.cmd
 
 -- the first waiting entry was applied; it isn't the next one; or the advance ends there
-abbrev pub ComesFirst : FollowerState → Result Bool FollowerFault → FollowerState → Type 0
+abbrev pub ComesFirst : FollowerState → Result Bool ApplyFault → FollowerState → Type 0
 ComesFirst before (Ok true) after = Leads before after
 ComesFirst before (Ok false) after = (after ≡ before) × Advances before (Ok (At before.image.epoch)) after
-ComesFirst before (Err e) after = Advances before (Err e) after
+ComesFirst before (Err fault) after = Advances before (Err (widened_fault fault)) after

@@ -5,8 +5,10 @@ ghost use Rattle.transformations.specs.Log.{IsLog};
 ghost use Rattle.transformations.specs.declared.entry.Entry.{Entry as LogEntry};
 ghost use Rattle.follower_log.specs.Follower.{Performs, FollowerState, IsAdvance, IsCutFrom, IsCutPast, advanced, by_epoch, empty_follower, hand_above, hand_entry, hand_image, hand_new, hand_valid, is_next, waiting_at};
 ghost use Rattle.follower_log.specs.Kept.{Advances, ComesFirst};
+ghost use Rattle.follower_log.specs.Kept as spec;
 ghost use Rattle.follower_log.specs.Prefix.{IsEntryOf, IsImageOf, StandsAfter, StandsFor, Taken, nothing_taken, with_entry, with_image};
 
+use crate::apply_fault::ApplyFault;
 use crate::fault::FollowerFault;
 use crate::took::Took;
 use crate::waiting::Waiting;
@@ -111,34 +113,24 @@ impl Follower {
             → StandsFor log taken self.old
             → StandsAfter log taken (with_entry taken entry.now.epoch) result self.new }
     {
-        self.hand_over(entry)
-    }
-
-    /// Hands over an entry, as `deliver` does.
-    fn hand_over(&mut self, entry: &Entry) -> Result<Took, FollowerFault>
-        requires formed { IsTrue (is_command entry.now.cmd) }
-        requires epoch { entry.now.epoch ≤ most_epochs }
-        ensures step { Performs self.old (hand_entry self.old entry.now) result self.new }
-        ensures next { is_next self.old.image entry.now ≡ true → IsCutPast self.old.image.epoch result }
-    {
         let epoch = self.epoch();
         if entry.epoch <= epoch {
             return Ok(Took::Old(epoch));
         }
-        match self.waiting.at(entry.epoch) {
-            Some(held) => compared(held, entry, epoch),
-            None => self.take(entry),
+        if let Some(held) = self.waiting.at(entry.epoch) {
+            return compared(held, entry, epoch);
         }
+        Ok(self.take(entry)?)
     }
 
     /// Takes an entry above the follower's epoch, at whose epoch none waits, unless too many wait.
-    fn take(&mut self, entry: &Entry) -> Result<Took, FollowerFault>
+    fn take(&mut self, entry: &Entry) -> Result<Took, ApplyFault>
         requires formed { IsTrue (is_command entry.now.cmd) }
         requires above { self.old.image.epoch < entry.now.epoch }
         requires epoch { entry.now.epoch ≤ most_epochs }
         requires none { waiting_at self.old.waiting entry.now.epoch ≡ None }
-        ensures step { Performs self.old (hand_new self.old entry.now) result self.new }
-        ensures next { is_next self.old.image entry.now ≡ true → IsCutPast self.old.image.epoch result }
+        ensures step { Performs self.old (hand_new self.old entry.now) (spec.widened result) self.new }
+        ensures next { is_next self.old.image entry.now ≡ true → IsCutPast self.old.image.epoch (spec.widened result) }
     {
         let epoch = self.epoch();
         if entry.epoch == epoch + 1 {
@@ -152,19 +144,19 @@ impl Follower {
     }
 
     /// Applies the entry of the next epoch, and then the waiting ones that come to be the next.
-    fn take_next(&mut self, entry: &Entry) -> Result<Took, FollowerFault>
+    fn take_next(&mut self, entry: &Entry) -> Result<Took, ApplyFault>
         requires formed { IsTrue (is_command entry.now.cmd) }
         requires next { entry.now.epoch ≡ self.old.image.epoch + 1 }
         requires epoch { entry.now.epoch ≤ most_epochs }
         requires none { waiting_at self.old.waiting entry.now.epoch ≡ None }
         ensures step { Performs self.old
-            (advanced self.old.image (put by_epoch entry.now self.old.waiting)) result self.new }
-        ensures past { IsCutPast self.old.image.epoch result }
+            (advanced self.old.image (put by_epoch entry.now self.old.waiting)) (spec.widened result) self.new }
+        ensures past { IsCutPast self.old.image.epoch (spec.widened result) }
     {
         match self.metadata.apply(&entry.cmd) {
             Ok(()) => self.apply_waiting(),
-            Err(AdmitFault::Refused(refusal)) => Err(FollowerFault::Refused(entry.epoch, refusal)),
-            Err(AdmitFault::Memory) => Err(FollowerFault::Memory),
+            Err(AdmitFault::Refused(refusal)) => Err(ApplyFault::Refused(entry.epoch, refusal)),
+            Err(AdmitFault::Memory) => Err(ApplyFault::Memory),
         }
     }
 
@@ -192,7 +184,7 @@ impl Follower {
         ensures { Performs self.old (hand_image self.old image) result self.new }
     {
         match Metadata::from_image(self.alloc, image) {
-            Ok(metadata) => self.take_image(metadata),
+            Ok(metadata) => Ok(self.take_image(metadata)?),
             Err((_image, fault)) => match fault {
                 ImageFault::Bad(bad) => Err(FollowerFault::BadImage(bad)),
                 ImageFault::Memory => Err(FollowerFault::Memory),
@@ -201,8 +193,8 @@ impl Follower {
     }
 
     /// Hands over the metadata of an image.
-    fn take_image(&mut self, metadata: Metadata) -> Result<Took, FollowerFault>
-        ensures { Performs self.old (hand_valid self.old metadata) result self.new }
+    fn take_image(&mut self, metadata: Metadata) -> Result<Took, ApplyFault>
+        ensures { Performs self.old (hand_valid self.old metadata) (spec.widened result) self.new }
     {
         let epoch = self.epoch();
         if metadata.epoch() <= epoch {
@@ -224,12 +216,12 @@ impl Follower {
         ensures shows { (log : List LogEntry) (taken : Taken) → IsLog log
             → StandsFor log taken self.old → StandsAfter log taken taken result self.new }
     {
-        self.apply_waiting()
+        Ok(self.apply_waiting()?)
     }
 
     /// Applies the waiting entries, as `advance` does.
-    fn apply_waiting(&mut self) -> Result<Took, FollowerFault>
-        ensures { Advances self.old result self.new }
+    fn apply_waiting(&mut self) -> Result<Took, ApplyFault>
+        ensures { Advances self.old (spec.widened result) self.new }
     {
         loop {
             match self.apply_first() {
@@ -241,7 +233,7 @@ impl Follower {
     }
 
     /// Applies the first waiting entry if it is the next one, and returns whether it is.
-    fn apply_first(&mut self) -> Result<bool, FollowerFault>
+    fn apply_first(&mut self) -> Result<bool, ApplyFault>
         ensures { ComesFirst self.old result self.new }
     {
         let epoch = self.metadata.epoch();
@@ -253,9 +245,9 @@ impl Follower {
                 }
                 Err(AdmitFault::Refused(refusal)) => {
                     self.waiting.drop_first();
-                    Err(FollowerFault::Refused(epoch + 1, refusal))
+                    Err(ApplyFault::Refused(epoch + 1, refusal))
                 }
-                Err(AdmitFault::Memory) => Err(FollowerFault::MemoryAt(epoch)),
+                Err(AdmitFault::Memory) => Err(ApplyFault::MemoryAt(epoch)),
             },
             _ => Ok(false),
         }

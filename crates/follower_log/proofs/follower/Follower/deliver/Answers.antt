@@ -1,10 +1,60 @@
-use Rattle.follower_log.proofs.AdvanceLemmas.{cut_from_entry}
+use Rattle.std.proofs.Common.{◌≡◌, ◌<◌, Some, Ok, false, nat_le, rules, sym, ap, ◌∙◌, arith}
+use Rattle.std.proofs.lemmas.Bool.Decides.{nat_tests}
+use Rattle.follower_log.proofs.AdvanceLemmas.{compared_past, cut_from_entry}
+use Rattle.follower_log.proofs.KeptLemmas.{waiting_at_epoch}
 use Rattle.follower_log.proofs.ShowsLemmas.{entry_shows}
+use Rattle.follower_log.specs.Follower.{Performs, FollowerState, hand_above, waiting_at}
+use Rattle.follower_log.specs.declared.took.Took.TheVariants.{Old}
 use Rattle.follower_log.proofs.follower.Follower.deliver.Goals as goal
+
+-- ---- an entry of the past
+
+pub returns-then-entry-epoch-clause-step : goal.returns-then-entry-epoch-clause-step
+returns-then-entry-epoch-clause-step c = search rules
+
+pub returns-then-entry-epoch-clause-shows : goal.returns-then-entry-epoch-clause-shows
+returns-then-entry-epoch-clause-shows c log taken is of stands = entry_shows log taken c.args.self.now c.args.self.now c.args.entry.now (Ok (Old c.epoch-epoch.result)) is of stands (returns-then-entry-epoch-clause-step c)
+
+-- ---- an entry at whose epoch one waits
+
+-- the waiting entry of the epoch
+held : (c : goal.After-compared) → waiting_at c.args.self.now.waiting c.args.entry.now.epoch ≡ Some c.in-Some.held.now
+held c = sym (ap (λ (f : FollowerState). waiting_at f.waiting c.args.entry.now.epoch) c.self.view_is) ∙ sym c.in-Some.ensures
+
+comes : (c : goal.After-compared) → Performs c.args.self.now (hand_above c.args.self.now c.args.entry.now (Some c.in-Some.held.now)) c.compared.result c.args.self.now
+comes c = c.compared.ensures c.args.self.now (sym c.epoch-epoch.ensures) (waiting_at_epoch c.args.self.now.waiting c.args.entry.now.epoch c.in-Some.held.now (held c))
+
+pub returns-in-Some-clause-step : goal.returns-in-Some-clause-step
+returns-in-Some-clause-step c =
+    let past : c.args.self.now.image.epoch < c.args.entry.now.epoch = omega (arith, c.if-entry-epoch.false, c.epoch-epoch.ensures) in
+    let high : nat_le c.args.entry.now.epoch c.args.self.now.image.epoch ≡ false = grind (arith, nat_tests) in
+    rw (high, held c) (comes c)
+
+pub returns-in-Some-clause-next : goal.returns-in-Some-clause-next
+returns-in-Some-clause-next c next = compared_past c.args.self.now.image.epoch c.args.self.now c.in-Some.held.now c.args.entry.now c.compared.result (comes c)
+
+pub returns-in-Some-clause-least : goal.returns-in-Some-clause-least
+returns-in-Some-clause-least c = cut_from_entry c.args.self.now c.args.self.now c.args.entry.now c.compared.result (returns-in-Some-clause-step c)
+
+pub returns-in-Some-clause-shows : goal.returns-in-Some-clause-shows
+returns-in-Some-clause-shows c log taken is of stands =
+    entry_shows log taken c.args.self.now c.args.self.now c.args.entry.now c.compared.result is of stands (returns-in-Some-clause-step c)
+
+-- ---- an entry at whose epoch none waits
+
+pub returns-in_err-take-clause-step : goal.returns-in_err-take-clause-step
+returns-in_err-take-clause-step c = search rules
+
+pub returns-in_err-take-clause-least : goal.returns-in_err-take-clause-least
+returns-in_err-take-clause-least c = cut_from_entry c.args.self.now c.take.new.self c.args.entry.now c.from_residual.result (returns-in_err-take-clause-step c)
+
+pub returns-in_err-take-clause-shows : goal.returns-in_err-take-clause-shows
+returns-in_err-take-clause-shows c log taken is of stands =
+    entry_shows log taken c.args.self.now c.take.new.self c.args.entry.now c.from_residual.result is of stands (returns-in_err-take-clause-step c)
+
+pub returns-clause-step : goal.returns-clause-step
+returns-clause-step c = search rules
 
 pub returns-clause-shows : goal.returns-clause-shows
 returns-clause-shows c log taken is of stands =
-    entry_shows log taken c.args.self.now c.hand_over.new.self c.args.entry.now c.hand_over.result is of stands c.hand_over.ensures.step
-
-pub returns-clause-least : goal.returns-clause-least
-returns-clause-least c = cut_from_entry c.args.self.now c.hand_over.new.self c.args.entry.now c.hand_over.result c.hand_over.ensures.step
+    entry_shows log taken c.args.self.now c.take.new.self c.args.entry.now (Ok c.in_ok-take.field-0) is of stands (returns-clause-step c)

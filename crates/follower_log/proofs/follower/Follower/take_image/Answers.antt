@@ -5,7 +5,7 @@ use Rattle.transformations.specs.declared.image.Image.{Image}
 use Rattle.follower_log.proofs.AdvanceLemmas.{any_before}
 use Rattle.follower_log.proofs.KeptLemmas.{can_wait-filter}
 use Rattle.follower_log.specs.Follower.{Performs, FollowerState, advanced, hand_valid}
-use Rattle.follower_log.specs.Kept.{Advances, CanWait}
+use Rattle.follower_log.specs.Kept.{Advances, CanWait, widened}
 use Rattle.follower_log.specs.declared.fault.FollowerFault.{FollowerFault}
 use Rattle.follower_log.specs.declared.took.Took.{Took}
 use Rattle.follower_log.specs.declared.took.Took.TheVariants.{Old}
@@ -43,4 +43,4 @@ pub returns : goal.returns
 returns c =
     let past : c.args.self.now.image.epoch < c.args.metadata.epoch = omega (arith, c.if-epoch.false, c.epoch.ensures, c.epoch-epoch.ensures) in
     goes_on c.args.metadata c.args.metadata c.epoch-2.result c.self.inside.waiting c.drop_to.new.self refl c.epoch-2.ensures c.drop_to.ensures
-    c.args.self.now c.apply_waiting.new.self c.apply_waiting.result c.replace.new.dest c.self.inside.metadata c.self.view_is c.replace.ensures.after past c.apply_waiting.ensures
+    c.args.self.now c.apply_waiting.new.self (widened c.apply_waiting.result) c.replace.new.dest c.self.inside.metadata c.self.view_is c.replace.ensures.after past c.apply_waiting.ensures

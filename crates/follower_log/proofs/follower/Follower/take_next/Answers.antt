@@ -10,7 +10,7 @@ use Rattle.cluster_terms.specs.Ascending.{put}
 use Rattle.follower_log.proofs.AdvanceLemmas.{advanced_refused, advances_on, any_before, cut_past, shows_refused}
 use Rattle.follower_log.proofs.KeptLemmas.{can_wait_on, put_first, waits_past}
 use Rattle.follower_log.specs.Follower.{Performs, FollowerState, Handed, IsCutPast, advanced, by_epoch, cut_first, stays, waiting_at}
-use Rattle.follower_log.specs.Kept.{Advances, CanWait, Leads}
+use Rattle.follower_log.specs.Kept.{Advances, CanWait, Leads, widened}
 use Rattle.follower_log.specs.declared.fault.FollowerFault.{FollowerFault}
 use Rattle.follower_log.specs.declared.fault.FollowerFault.TheVariants.{Refused}
 use Rattle.follower_log.specs.declared.took.Took.{Took}
@@ -68,12 +68,12 @@ invariant_of-self c = waits_after c.self.inside.metadata c.self.inside.waiting c
 pub returns-in-Ok-clause-step : goal.returns-in-Ok-clause-step
 returns-in-Ok-clause-step c =
     comes c.self.inside.metadata c.self.inside.waiting c.args.self.now c.args.entry.now c.self.view_is c.self.invariant c.requires.next c.requires.none
-    c.apply.new.self c.apply_waiting.result c.apply_waiting.new.self c.in-Ok.ensures.ok c.in-Ok.ensures.refusal c.apply_waiting.ensures
+    c.apply.new.self (widened c.apply_waiting.result) c.apply_waiting.new.self c.in-Ok.ensures.ok c.in-Ok.ensures.refusal c.apply_waiting.ensures
 
 pub returns-in-Ok-clause-past : goal.returns-in-Ok-clause-past
 returns-in-Ok-clause-past c =
     not_before c.self.inside.metadata c.self.inside.waiting c.args.self.now c.args.entry.now c.self.view_is c.self.invariant c.requires.next c.requires.none
-    c.apply.new.self c.apply_waiting.result c.apply_waiting.new.self c.in-Ok.ensures.ok c.apply_waiting.ensures
+    c.apply.new.self (widened c.apply_waiting.result) c.apply_waiting.new.self c.in-Ok.ensures.ok c.apply_waiting.ensures
 
 pub returns-in-Err-Refused-clause-step : goal.returns-in-Err-Refused-clause-step
 returns-in-Err-Refused-clause-step c =
