@@ -139,7 +139,7 @@ impl Follower {
         if self.waiting.len() >= MOST_WAITING {
             return Ok(Took::Full(epoch));
         }
-        self.waiting.insert(entry.copy()?)?;
+        self.waiting.insert(entry)?;
         self.apply_waiting()
     }
 

@@ -6,7 +6,7 @@ ghost use Rattle.cluster_terms.specs.Ascending.{put};
 ghost use Rattle.follower_log.specs.Follower.{by_epoch, waiting_at};
 ghost use Rattle.follower_log.specs.Kept.{AreAbove, first_entry};
 
-use cluster_terms::Memory;
+use cluster_terms::{Memory, TryCopy};
 use std::alloc::Global;
 use std::collections::BTreeMap;
 use std::marker::Model;
@@ -65,12 +65,14 @@ impl Waiting {
         }
     }
 
-    /// Adds an entry whose epoch no entry has. If memory runs out, nothing is added. The cost is a search by epoch.
-    pub fn insert(&mut self, entry: Entry) -> Result<(), Memory>
-        requires { waiting_at self.old entry.epoch ≡ None }
-        ensures ok { OnOk result (self.new ≡ put by_epoch entry self.old) }
+    /// Adds a copy of an entry whose epoch no entry has. If memory runs out, nothing is added. The cost is a search by
+    /// epoch.
+    pub fn insert(&mut self, entry: &Entry) -> Result<(), Memory>
+        requires { waiting_at self.old entry.now.epoch ≡ None }
+        ensures ok { OnOk result (self.new ≡ put by_epoch entry.now self.old) }
         ensures err { OnErr result (self.new ≡ self.old) }
     {
+        let entry = entry.copy()?;
         match self.by_epoch.insert(entry.epoch, entry) {
             Ok(_) => Ok(()),
             Err(_) => Err(Memory),

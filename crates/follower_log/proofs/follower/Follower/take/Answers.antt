@@ -12,5 +12,4 @@ invariant_of-self-2 c =
       within = c.requires.epoch;
       formed = c.requires.formed;
     } in
-    let one : CanWaitAt c.self.inside.metadata.epoch c.in_ok-copy.field-0 = subst (CanWaitAt c.self.inside.metadata.epoch) (sym c.in_ok-copy.ensures) own in
-    subst (CanWait c.self.inside.metadata.epoch) (sym c.in_ok-insert.ensures.ok) (can_wait-put c.self.inside.metadata.epoch c.in_ok-copy.field-0 c.self.inside.waiting one c.self.invariant)
+    subst (CanWait c.self.inside.metadata.epoch) (sym c.in_ok-insert.ensures.ok) (can_wait-put c.self.inside.metadata.epoch c.args.entry.now c.self.inside.waiting own c.self.invariant)
