@@ -54,6 +54,7 @@ fn unsafe_join(
     node: NodeId,
     tokens: &TokenList,
 ) -> Result<Change, Memory>
+    requires { IsSound image.now }
     ensures { IfOk result (IsChange image.now (command.UnsafeJoin node tokens.now)) }
 {
     let pairs = pairs_with(alloc, node, tokens.as_slice())?;

@@ -41,6 +41,7 @@ fn remove_pairs(ring: &mut PairList, gone: &PairList)
 
 /// The ring after a movement is done: without its outgoing pairs, and with its incoming pairs.
 fn ring_after(alloc: Global, image: &Image, row: &SeqRow) -> Result<PairList, Memory>
+    requires { IsSound image.now }
     ensures { IfOk result (λ ring. ring ≡ spec.ring_after image.now.tokens row.now) }
 {
     let mut ring = image.tokens.copy()?;
