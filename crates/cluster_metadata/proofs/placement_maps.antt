@@ -1,5 +1,6 @@
 -- The placement maps of images: what they say at each token, and how changes lead from the maps of an image to those of
 -- the next.
+pub mod ArrangedMaps
 pub mod ChangeMoves
 pub mod ChangeSteps
 pub mod EditedMaps

@@ -1,3 +1,4 @@
+pub mod Arrangements
 pub mod Change
 pub mod CutDeltas
 pub mod Held

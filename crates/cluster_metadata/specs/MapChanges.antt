@@ -8,11 +8,12 @@ use Rattle.range_placements.specs.Placements.{IsPlacementMap}
 use Rattle.range_placements.specs.declared.placement_row.PlacementRow.{PlacementRow}
 use Rattle.range_placements.specs.declared.row_changes.RowChange.{RowChange}
 use Rattle.transformations.specs.declared.image.Image.{Image}
+use Rattle.cluster_metadata.specs.Arrangements.{arranged}
 use Rattle.cluster_metadata.specs.Change.{changed}
 use Rattle.cluster_metadata.specs.Maps.{AreMaps}
 use Rattle.cluster_metadata.specs.declared.change.Change.{Change}
 use Rattle.cluster_metadata.specs.declared.map_change.MapChange.{MapChange}
-use Rattle.cluster_metadata.specs.declared.map_change.MapChange.TheVariants.{Keep, Anew, Sets, Rows}
+use Rattle.cluster_metadata.specs.declared.map_change.MapChange.TheVariants.{Keep, Anew, Arranged, Sets, Rows}
 use Rattle.cluster_metadata.specs.declared.map_row.MapRow.{MapRow}
 
 -- a book with a change of the map at a position, and with a change of each map
@@ -48,6 +49,7 @@ HoldMaps book = AllByRecursion (λ (row : MapRow). IsPlacementMap row.map) book
 abbrev pub maps_after : MapChange → List MapRow → List MapRow
 maps_after Keep book = book
 maps_after (Anew next) book = next
+maps_after (Arranged slots) book = arranged slots book
 maps_after (Sets changes) book = each_exchanged changes.items book
 maps_after (Rows edits) book = each_edited edits.items book
 

@@ -161,6 +161,7 @@ pub fn exchange(maps: &mut MapBook, change: MapChange)
     match change {
         MapChange::Keep => {}
         MapChange::Anew(next) => *maps = next,
+        MapChange::Arranged(arrangement) => maps.arrange(arrangement),
         MapChange::Sets(changes) => maps.exchange(changes),
         MapChange::Rows(edits) => maps.edit(edits),
     }

@@ -30,7 +30,7 @@ fn is_at(book: &[MapRow], at: usize, replication: &Replication) -> bool
 }
 
 /// Returns `true` only if a book has a map for each replication of these keyspaces, in the order in which they first
-/// appear, and no other map. After `false`, a caller makes a book with copies of the maps that it has.
+/// appear, and no other map.
 pub fn fits(book: &[MapRow], keyspaces: &[KeyspaceRow]) -> bool
     ensures { IsTrue result → map (λ row. row.replication) book.now ≡ replications_of keyspaces.now }
 {

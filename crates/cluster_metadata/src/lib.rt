@@ -4,6 +4,8 @@
 mod admit_fault;
 mod advancing;
 mod applying;
+mod arrangement;
+mod arranging;
 mod cancelling;
 mod change;
 mod changes;

@@ -1,12 +1,13 @@
-ghost use Rattle.std.specs.Prelude.{◌≡◌, ◌<◌, [], ◌∷◌, ◌++◌, length, get_or, OnOk};
+ghost use Rattle.std.specs.Prelude.{◌≡◌, ◌<◌, [], length, get_or};
 ghost use Rattle.range_placements.specs.Editing.{edited};
 ghost use Rattle.range_placements.specs.Placements.{IsPlacementMap};
 ghost use Rattle.cluster_metadata.specs.declared.map_row.MapRow.{MapRow as AnyRow};
+ghost use Rattle.cluster_metadata.specs.Arrangements.{arranged};
 ghost use Rattle.cluster_metadata.specs.MapChanges as spec;
 
+use crate::arrangement::Arrangement;
 use crate::map_change::{BookChanges, BookEdits};
 use crate::map_row::MapRow;
-use cluster_terms::Memory;
 use range_placements::{RowChanges, RowEdits};
 use std::alloc::Global;
 use std::marker::Model;
@@ -57,19 +58,18 @@ impl MapBook {
         }
     }
 
-    /// Adds the map of a replication. Fails only if memory runs out.
-    pub fn push(&mut self, row: MapRow) -> Result<(), Memory>
-        ensures { OnOk result (self.new ≡ self.old ++ row ∷ []) }
-    {
-        self.rows.push(row)?;
-        Ok(())
-    }
-
     /// The maps in order.
     pub fn as_slice(&self) -> &[MapRow]
         ensures { result.now ≡ self.now }
     {
         self.rows.as_slice()
+    }
+
+    /// Keeps some maps in a new order, removes the others and puts in new ones. Takes no memory, and copies no map.
+    pub fn arrange(&mut self, arrangement: Arrangement)
+        ensures { self.new ≡ arranged arrangement self.old }
+    {
+        arrangement.make(&mut self.rows);
     }
 
     /// Exchanges sets in each map. Takes no memory.

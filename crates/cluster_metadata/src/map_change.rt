@@ -1,3 +1,4 @@
+use crate::arrangement::Arrangement;
 use crate::map_book::MapBook;
 use range_placements::{RowChanges, RowEdits};
 
@@ -14,6 +15,8 @@ pub enum MapChange {
     Keep,
     /// The maps are replaced by these.
     Anew(MapBook),
+    /// Some maps stay, in a new order, and others are new.
+    Arranged(Arrangement),
     /// The maps get new sets in some rows.
     Sets(BookChanges),
     /// The maps keep some rows, which move, and get new ones.

@@ -14,11 +14,11 @@ ghost use Rattle.cluster_metadata.specs.Running.{HaveDeltas, IsRunning};
 ghost use Rattle.cluster_metadata.specs.Turns.{each_map, recut_rows};
 ghost use Rattle.cluster_metadata.specs.declared.change.Change.TheVariants as spec_change;
 
+use crate::arranging::{arrangement_of, maps_of};
 use crate::change::Change;
 use crate::fitting::fits;
 use crate::map_book::MapBook;
 use crate::map_change::{BookEdits, MapChange};
-use crate::maps::maps_of;
 use crate::running::Running;
 use crate::turn::Turn;
 use crate::turning::{recut_book, turned_book};
@@ -58,12 +58,11 @@ fn maps_on(
         return Ok(MapChange::Keep);
     }
     let next = with_tokens(image, tokens)?;
-    let maps = maps_of(alloc, &next, keyspaces, directory, &MapBook::empty(alloc))?;
-    Ok(MapChange::Anew(maps))
+    Ok(MapChange::Anew(maps_of(alloc, &next, keyspaces, directory)?))
 }
 
 /// The change of the placement maps for other keyspaces. The maps stay if the keyspaces have the same replications.
-/// Otherwise the maps of replications that stay are copied, and the others are placed.
+/// Otherwise the maps of replications that stay are kept, and the others are placed.
 fn maps_under(
     alloc: Global,
     image: &Image,
@@ -78,12 +77,12 @@ fn maps_under(
     requires maps { AreMaps image.now maps.now }
     ensures { IfOk result (BringsMaps image.now change.now) }
 {
-    let keyspaces = keyspaces.as_slice();
-    if fits(maps.as_slice(), keyspaces) {
+    let (maps, keyspaces) = (maps.as_slice(), keyspaces.as_slice());
+    if fits(maps, keyspaces) {
         return Ok(MapChange::Keep);
     }
-    let maps = maps_of(alloc, image, keyspaces, directory, maps)?;
-    Ok(MapChange::Anew(maps))
+    let next = arrangement_of(alloc, image, maps, keyspaces, directory)?;
+    Ok(MapChange::Arranged(next))
 }
 
 /// The edits that make maps those of the ranges between these cuts, with the sets that the maps have at the last tokens
@@ -126,7 +125,7 @@ fn recut_among(
 /// out.
 ///
 /// A change of nodes keeps the maps, and so does one of keyspaces that leaves their replications. New tokens place them
-/// anew, and new keyspaces those under new replications; the others are copied. If a movement begins or ends, the maps
+/// anew, and new keyspaces those under new replications; the other maps move. If a movement begins or ends, the maps
 /// keep their rows, apart from those whose sets the deltas of the movement change and those that end or begin at a cut
 /// that is new or goes. This needs the cuts of the next image: those of the plan, or else a pass over its tokens. All
 /// other changes give new sets to the rows that the deltas change.

@@ -171,7 +171,8 @@ impl Metadata {
     /// each replication one pass over the rows between these makes the rows that are new or change, and takes memory
     /// for all rows, which stays unused if the map has memory to spare. An unsafe join places the maps anew: under each
     /// replication, one walk for each row between the cuts of the next image, which `walks` doesn't count. A command on
-    /// keyspaces places that of a new replication, and copies the others, or keeps all if the replications stay.
+    /// keyspaces places that of a new replication, and keeps the others. It takes memory for the list of the maps, and
+    /// none for the rows of those that stay.
     ///
     /// Under each keyspace, a token is in the ranges of at most one movement. Whichever movements are done or given up,
     /// the placement at a token depends only on the movements that have it in their ranges. Reads and writes are
@@ -223,7 +224,8 @@ impl Metadata {
     /// Cost: a register adds one row to the nodes and to the directory, and moves the others only if there is no memory
     /// to spare. An unregister moves the rows after the removed one. A finish changes one row in place. If a movement
     /// ends, one pass over the locks unlocks its ranges. If a movement begins or ends, rows of the placement maps are
-    /// moved past those that come or go, or to new memory if the map has none to spare.
+    /// moved past those that come or go, or to new memory if the map has none to spare. If a command on keyspaces brings
+    /// another list of replications, the maps that stay move to a new list, and their rows stay where they are.
     pub fn enact(&mut self, permit: Permit) -> u64
         requires { permit.image ≡ self.old }
         ensures image { self.new ≡ next_image self.old permit.command }

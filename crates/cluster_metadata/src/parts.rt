@@ -10,9 +10,9 @@ ghost use Rattle.cluster_metadata.specs.Held.{IsHeld};
 ghost use Rattle.cluster_metadata.specs.ImageFaults.{IsCause};
 ghost use Rattle.cluster_metadata.specs.Maps.{AreMaps};
 
+use crate::arranging::maps_of;
 use crate::image_fault::ImageFault;
 use crate::map_book::MapBook;
-use crate::maps::maps_of;
 use crate::running::{Running, close_all, resume_all};
 use cluster_terms::Memory;
 use locked_ranges::LockTable;
@@ -56,7 +56,7 @@ fn maps_in(alloc: Global, image: &Image, directory: &Directory) -> Result<MapBoo
     ensures { IfOk result (λ maps. AreMaps image.now maps) }
 {
     let keyspaces = image.keyspaces.as_slice();
-    maps_of(alloc, image, keyspaces, directory, &MapBook::empty(alloc))
+    maps_of(alloc, image, keyspaces, directory)
 }
 
 /// The parts of the metadata of an image beside it: the directory, the placement maps, the values of the movements in

@@ -10,13 +10,15 @@ use Rattle.sequence_plans.specs.Replications.{replications_of}
 use Rattle.transformations.specs.Rings.{reads_at, writes_at}
 use Rattle.transformations.specs.declared.image.Image.{Image}
 use Rattle.transformations.specs.declared.keyspace.KeyspaceRow.{KeyspaceRow}
+use Rattle.cluster_metadata.specs.Arrangements.{arranged}
 use Rattle.cluster_metadata.specs.Change.{changed}
 use Rattle.cluster_metadata.specs.MapChanges.{BringsMaps, maps_after}
 use Rattle.cluster_metadata.specs.Maps.{AreMaps, AreMapsOf, IsMapOf, placement_rows}
+use Rattle.cluster_metadata.specs.declared.arrangement.Slot.{Slot}
 use Rattle.cluster_metadata.specs.declared.change.Change.{Change}
 use Rattle.cluster_metadata.specs.declared.change.Change.TheVariants.{Keyspaces, Tokens}
 use Rattle.cluster_metadata.specs.declared.map_change.MapChange.{MapChange}
-use Rattle.cluster_metadata.specs.declared.map_change.MapChange.TheVariants.{Keep}
+use Rattle.cluster_metadata.specs.declared.map_change.MapChange.TheVariants.{Arranged, Keep}
 use Rattle.cluster_metadata.specs.declared.map_row.MapRow.{MapRow}
 
 -- ---- an image has one book of maps
@@ -57,6 +59,12 @@ keyspace_maps image change rows next is are = subst (λ c. AreMaps (changed imag
     each : (book : List MapRow) → AllByRecursion (IsMapOf image) book → AllByRecursion (IsMapOf (changed image (Keyspaces rows))) book
     each [] all = tt
     each (row ∷ book) all = ((all.0.0, all.0.1), each book all.1)
+
+-- where such maps are arranged of the image's own, the arrangement brings them
+pub arranged_maps : (image : Image) (change : Change) (rows : List KeyspaceRow) (own : List MapRow) (slots : List Slot) → change ≡ Keyspaces rows → AreMaps image own → AreMapsOf image (replications_of rows) (arranged slots own)
+    → BringsMaps image change (Arranged slots)
+arranged_maps image change rows own slots is has are =
+    made_from image change (Arranged slots) own has (keyspace_maps image change rows (arranged slots own) is are)
 
 -- without keyspaces there are no maps, and new tokens bring none
 pub no_maps : (image : Image) (change : Change) (pairs : List Pair) → change ≡ Tokens pairs → image.keyspaces ≡ [] → BringsMaps image change Keep

@@ -1,13 +1,12 @@
 -- The books of placement maps: the map of a replication, and books that grow by one map.
-use Rattle.std.proofs.Common.{◌≡◌, ℕ, zero, suc, ◌+◌, ◌-◌, ◌*◌, ◌^◌, ◌<◌, ◌≤◌, ℤ, ◌≤ℤ◌, Bool, true, false, cond, ◌||◌, List, [], ◌∷◌, ◌++◌, length, map, find, take, get_or, Option, Some, None, option_map, refl, sym, ap, ◌∙◌, subst, arith}
-use Rattle.std.proofs.lemmas.List.{map-append}
+use Rattle.std.proofs.Common.{◌≡◌, ℕ, zero, suc, ◌-◌, ◌*◌, ◌^◌, ◌<◌, ◌≤◌, ℤ, ◌≤ℤ◌, Bool, true, false, cond, ◌||◌, List, [], ◌∷◌, ◌++◌, length, map, find, take, Option, Some, None, option_map, refl, sym, ap, ◌∙◌, subst, arith}
 use Rattle.std.specs.List.{AllByRecursion, list_any, slice_get}
 use Rattle.std.specs.List.Sorted.{IsPermutation}
 use Rattle.std.specs.Ordering.{nat_cmp}
 use Rattle.std.specs.Str.{bytes_eq}
 use Rattle.cluster_terms.proofs.PlacementLemmas.{place-permuted}
 use Rattle.cluster_terms.proofs.ReplicationLemmas.{same_replication-exact, same_replication-refl}
-use Rattle.cluster_terms.specs.Arc.{IsToken, greatest_token}
+use Rattle.cluster_terms.specs.Arc.{greatest_token}
 use Rattle.cluster_terms.specs.Ascending.{put_all}
 use Rattle.cluster_terms.specs.Group.{place}
 use Rattle.cluster_terms.specs.Replication.{groups_of, same_replication}
@@ -18,18 +17,15 @@ use Rattle.cluster_terms.specs.declared.row.TokenRange.{TokenRange}
 use Rattle.cluster_terms.specs.declared.token.Pair.{Pair}
 use Rattle.range_placements.specs.Placements.{map_at}
 use Rattle.range_placements.specs.declared.placement_row.PlacementRow.{PlacementRow}
-use Rattle.sequence_plans.proofs.ReplicationsLemmas.{new, shown}
 use Rattle.sequence_plans.specs.Placers.{PlacesOn, placed_by}
-use Rattle.sequence_plans.specs.Replications.{replications_of}
 use Rattle.sequence_plans.specs.declared.placer.Placer.{Placer}
-use Rattle.transformations.proofs.lists.ListLemmas.{all_append}
 use Rattle.transformations.specs.Rings.{cuts, high_ring, low_ring, read_ring, reads_at, writes_at}
 use Rattle.transformations.specs.declared.image.Image.{Image}
 use Rattle.transformations.specs.declared.keyspace.KeyspaceRow.{KeyspaceRow}
 use Rattle.cluster_metadata.proofs.placement_maps.ImageMaps.{row_count, served_at, some_row}
 use Rattle.cluster_metadata.proofs.LockLemmas.{any_replications}
 use Rattle.cluster_metadata.specs.MapBasis.{AreRings, PlaceOnRings, row_placed}
-use Rattle.cluster_metadata.specs.Maps.{AreMaps, AreMapsOf, IsMapOf, placement_row, placement_rows}
+use Rattle.cluster_metadata.specs.Maps.{AreMaps, IsMapOf, placement_row, placement_rows}
 use Rattle.cluster_metadata.specs.Served.{keyspace_of, served, served_by}
 use Rattle.cluster_metadata.specs.declared.map_row.MapRow.{MapRow}
 use Rattle.cluster_metadata.specs.declared.placers.Placers.{Placers}
@@ -77,22 +73,6 @@ one_more (row ∷ book) (suc n) r here =
     let rest = one_more book n r here in
     (omega arith, ap (λ l. row.replication ∷ l) rest.1)
 
-module _ (image : Image) (ks : List KeyspaceRow) (i : ℕ) (k : KeyspaceRow) (within : i < length ks) (is : k ≡ get_or ks i k) (book : List MapRow) (so_far : AreMapsOf image (replications_of (take i ks)) book) where
-  has_is : list_any (λ (row : MapRow). same_replication row.replication k.replication) book ≡ list_any (λ q. same_replication q k.replication) (replications_of (take i ks))
-  has_is = any_row k.replication book ∙ ap (list_any (λ q. same_replication q k.replication)) so_far.replications
-
-  -- it stays where it has the map of the next keyspace
-  pub map_shown : list_any (λ (row : MapRow). same_replication row.replication k.replication) book ≡ true → AreMapsOf image (replications_of (take (i + 1) ks)) book
-  map_shown there = record { replications = so_far.replications ∙ shown ks i k within is (sym has_is ∙ there); placements = so_far.placements }
-
-  -- and gets this map otherwise
-  pub map_added : list_any (λ (row : MapRow). same_replication row.replication k.replication) book ≡ false → (row : MapRow) → row.replication ≡ k.replication → IsMapOf image row
-      → AreMapsOf image (replications_of (take (i + 1) ks)) (book ++ row ∷ [])
-  map_added absent row of_it placed = record {
-    replications = map-append (λ (m : MapRow). m.replication) book (row ∷ []) ∙ (λ j. so_far.replications j ++ of_it j ∷ []) ∙ new ks i k within is (sym has_is ∙ absent);
-    placements = all_append (IsMapOf image) book (row ∷ []) so_far.placements (placed, tt);
-  }
-
 -- ---- the map of a replication
 
 find_map : (image : Image) (r : Replication) (book : List MapRow) → AllByRecursion (IsMapOf image) book
@@ -105,20 +85,6 @@ find_map image r (row ∷ book) all has = by (same_replication row.replication r
         → option_map (λ (m : MapRow). m.map) (cond b (Some row) (find (λ m. same_replication m.replication r) book)) ≡ Some (placement_rows image r)
     by true e has rest = ap (λ l. Some l) (all.0.0 ∙ ap (placement_rows image) (same_replication-exact row.replication r e))
     by false e has rest = rest has
-
--- a map that is found under a replication is its map
-pub known_map : (image : Image) (r : Replication) (book : List MapRow) (rows : List PlacementRow) → AllByRecursion (IsMapOf image) book
-    → option_map (λ (row : MapRow). row.map) (find (λ row. same_replication row.replication r) book) ≡ Some rows → (rows ≡ placement_rows image r) × AllByRecursion IsToken (cuts image)
-known_map image r [] rows all found = cc found
-known_map image r (row ∷ book) rows all found = by (same_replication row.replication r) refl found (known_map image r book rows all.1)
-  where
-    by : (b : Bool) → same_replication row.replication r ≡ b → option_map (λ (m : MapRow). m.map) (cond b (Some row) (find (λ m. same_replication m.replication r) book)) ≡ Some rows
-        → (option_map (λ (m : MapRow). m.map) (find (λ m. same_replication m.replication r) book) ≡ Some rows → (rows ≡ placement_rows image r) × AllByRecursion IsToken (cuts image))
-        → (rows ≡ placement_rows image r) × AllByRecursion IsToken (cuts image)
-    by true e found rest =
-        let same : rows ≡ row.map = cc found in
-        (same ∙ all.0.0 ∙ ap (placement_rows image) (same_replication-exact row.replication r e), all.0.1)
-    by false e found rest = rest found
 
 -- a keyspace that is found has its map in the book
 has_own : (name : List ℕ) (ks : List KeyspaceRow) (k : KeyspaceRow) → find (λ row. bytes_eq row.name name) ks ≡ Some k → list_any (λ (q : KeyspaceRow). same_replication q.replication k.replication) ks ≡ true
