@@ -2,7 +2,6 @@
 
 ghost use Rattle.std.specs.Prelude.{◌≡◌, ◌<◌, ◌==◌, not, None, filter, find, length, position, IfOk, IsSome};
 ghost use Rattle.std.specs.List.{slice_get};
-ghost use Rattle.cluster_terms.specs.Pair.{has_pair, without_pairs};
 ghost use Rattle.transformations.specs.Refusals.{early_refusal_of};
 ghost use Rattle.transformations.specs.Steps as spec;
 ghost use Rattle.transformations.specs.Valid.{IsSound};
@@ -12,9 +11,10 @@ ghost use Rattle.cluster_metadata.specs.Change.{IsChange, in_phase};
 use crate::change::Change;
 use crate::leaving::{leaver, left_row};
 use crate::pairs::with_pairs;
-use cluster_terms::{Memory, NodeId, Pair, PairList, TryCopy};
+use cluster_terms::{Memory, NodeId, PairList, TryCopy};
 use std::alloc::Global;
-use transformations::{Goal, Image, Kind, Phase, SeqRow, SeqRows};
+use std::slice::from_ref;
+use transformations::{Goal, Image, Kind, Phase, SeqRow, SeqRows, fixed_among};
 
 /// A copy of a movement's row, at another phase.
 pub fn at_phase(row: &SeqRow, phase: Phase) -> Result<SeqRow, Memory>
@@ -25,27 +25,13 @@ pub fn at_phase(row: &SeqRow, phase: Phase) -> Result<SeqRow, Memory>
     Ok(row)
 }
 
-/// Whether a pair is in a list.
-fn has_pair(pairs: &[Pair], pair: &Pair) -> bool
-    ensures { result ≡ has_pair pairs.now pair.now }
-{
-    pairs.iter().any(|other| *pair == *other)
-}
-
-/// Removes the pairs that are in `gone`.
-fn remove_pairs(ring: &mut PairList, gone: &PairList)
-    ensures { ring.new ≡ without_pairs ring.old gone.now }
-{
-    ring.retain(|pair| !has_pair(gone.as_slice(), pair));
-}
-
-/// The ring after a movement is done: without its outgoing pairs, and with its incoming pairs.
+/// The ring after a movement is done: without its outgoing pairs, and with its incoming pairs. Cost: a binary search
+/// among the outgoing pairs for each pair of the ring, and that of `with_pairs`.
 fn ring_after(alloc: Global, image: &Image, row: &SeqRow) -> Result<PairList, Memory>
     requires { IsSound image.now }
     ensures { IfOk result (λ ring. ring ≡ spec.ring_after image.now.tokens row.now) }
 {
-    let mut ring = image.tokens.copy()?;
-    remove_pairs(&mut ring, &row.out_pairs);
+    let ring = fixed_among(alloc, &image.tokens, from_ref(row))?;
     with_pairs(alloc, ring.as_slice(), row.in_pairs.as_slice())
 }
 

@@ -1,5 +1,5 @@
 -- Books that keep maps of another book in a new order, beside new maps.
-use Rattle.std.proofs.Common.{◌≡◌, ℕ, zero, suc, ◌+◌, ◌<◌, true, false, List, [], ◌∷◌, ◌++◌, length, map, get_or, take, drop, Some, refl, sym, ap, ◌∙◌, subst, append_assoc, arith}
+use Rattle.std.proofs.Common.{◌≡◌, ℕ, zero, suc, ◌+◌, ◌<◌, Bool, true, false, List, [], ◌∷◌, ◌++◌, length, map, get_or, take, drop, Some, refl, sym, ap, ◌∙◌, subst, append_assoc, arith}
 use Rattle.std.proofs.lemmas.List.{map-append}
 use Rattle.std.proofs.lemmas.List.Quantifiers.{position-Some}
 use Rattle.std.specs.List.{AllByRecursion, list_any, position, remove}
@@ -93,18 +93,18 @@ placed_fills image r before after row same of_it placed book are = record {
 -- ---- the slots of keyspaces
 
 module _ (image : Image) (ks : List KeyspaceRow) (i : ℕ) (k : KeyspaceRow) (within : i < length ks) (is : k ≡ get_or ks i k) (slots : List Slot) (book : List MapRow) (before : List Replication)
-    (so_far : Arranges image (replications_of (take i ks)) before slots book) where
+    (so_far : Arranges image (replications_of (take i ks)) before slots book) (b : Bool) (told : b ≡ list_any (λ (q : KeyspaceRow). same_replication q.replication k.replication) (take i ks)) where
   -- a replication that a keyspace before has gets no slot
-  pub slot_shown : list_any (λ (q : KeyspaceRow). same_replication q.replication k.replication) (take i ks) ≡ true → Arranges image (replications_of (take (i + 1) ks)) before slots book
+  pub slot_shown : b ≡ true → Arranges image (replications_of (take (i + 1) ks)) before slots book
   slot_shown there =
-      subst (λ (rs : List Replication). Arranges image rs before slots book) (shown ks i k within is (any_replications (λ q. same_replication q k.replication) (take i ks) ∙ there)) so_far
+      subst (λ (rs : List Replication). Arranges image rs before slots book) (shown ks i k within is (any_replications (λ q. same_replication q k.replication) (take i ks) ∙ sym told ∙ there)) so_far
 
   -- another one gets the next slot
-  pub slot_new : list_any (λ (q : KeyspaceRow). same_replication q.replication k.replication) (take i ks) ≡ false → (after : List Replication) (slot : Slot) → Fills image k.replication before after slot
-      → Arranges image (replications_of (take (i + 1) ks)) after (slots ++ slot ∷ []) book
-  slot_new absent after slot fills =
-      subst (λ (rs : List Replication). Arranges image rs after (slots ++ slot ∷ []) book) (new ks i k within is (any_replications (λ q. same_replication q k.replication) (take i ks) ∙ absent))
-      (slot_added image (replications_of (take i ks)) before after k.replication slots slot book so_far fills)
+  pub slot_new : b ≡ false → (after : List Replication) (slot : Slot) (all : List Slot) → all ≡ slots ++ slot ∷ [] → Fills image k.replication before after slot → Arranges image (replications_of (take (i + 1) ks)) after all book
+  slot_new absent after slot all one_more fills =
+      subst (λ (l : List Slot). Arranges image (replications_of (take (i + 1) ks)) after l book) (sym one_more)
+      (subst (λ (rs : List Replication). Arranges image rs after (slots ++ slot ∷ []) book) (new ks i k within is (any_replications (λ q. same_replication q k.replication) (take i ks) ∙ sym told ∙ absent))
+      (slot_added image (replications_of (take i ks)) before after k.replication slots slot book so_far fills))
 
 -- no slot yet
 pub no_slots : (image : Image) (book : List MapRow) → AllByRecursion (IsMapOf image) book → Arranges image [] (map (λ (m : MapRow). m.replication) book) [] book
