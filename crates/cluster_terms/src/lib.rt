@@ -3,6 +3,7 @@
 
 pub mod ascending;
 pub mod factors;
+pub mod few;
 pub mod list;
 pub mod memory;
 pub mod name;
@@ -19,6 +20,7 @@ pub mod validity;
 
 pub use ascending::{Ordered, put_in_order};
 pub use factors::Factors;
+pub use few::Few;
 pub use list::{ByteText, PairList, SmallList, TokenList, TryCopy};
 pub use memory::Memory;
 pub use name::Name;
