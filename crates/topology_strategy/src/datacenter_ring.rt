@@ -48,7 +48,8 @@ impl<'a> DatacenterRing<'a> {
     /// The tokens of a datacenter in a ring, where the datacenter is to have `rf` replicas.
     ///
     /// Costs a look-up in the directory for each pair of the ring, and the pass over the ring that counts the
-    /// datacenter's nodes and racks.
+    /// datacenter's nodes and racks. If the ring has at least four times as many pairs as the directory gave ids, it
+    /// costs a look-up for each id instead, and a read by position for each pair.
     pub fn new(
         alloc: Global,
         ring: &'a Ring,

@@ -71,8 +71,9 @@ fn taken_in(alloc: Global, parts: &[DatacenterRing], t: Token) -> Result<Vec<Nod
 impl<'a> DividedRing<'a> {
     /// Puts the tokens of each datacenter that the factors name apart, with the racks of their nodes.
     ///
-    /// Costs a look-up in the directory for each pair of the ring and each named datacenter, and the cost of
-    /// [`CountedRing::new`](crate::CountedRing::new).
+    /// Costs, for each named datacenter, a look-up in the directory for each pair of the ring. If the ring has at least
+    /// four times as many pairs as the directory gave ids, it costs a look-up for each id instead, and a read by
+    /// position for each pair. To this comes the cost of [`CountedRing::new`](crate::CountedRing::new).
     pub fn new(
         alloc: Global,
         ring: &'a Ring,
