@@ -1,4 +1,4 @@
-ghost use Rattle.std.specs.Prelude.{◌≡◌};
+ghost use Rattle.std.specs.Prelude.{◌≡◌, ◌≤◌};
 ghost use Rattle.std.specs.Option.{option_copied};
 
 use crate::directory::Directory;
@@ -18,7 +18,8 @@ impl<'a> Members<'a> {
 
     /// The number of replicas that the group is to have, from 1 to 16.
     pub fn rf(&self) -> usize
-        ensures { result ≡ (group_of self.now).rf }
+        ensures value { result ≡ (group_of self.now).rf }
+        ensures high { result ≤ 16 }
     {
         match self {
             Members::All(rf) => usize::from(rf.value()),

@@ -1,4 +1,4 @@
-ghost use Rattle.std.specs.Prelude.{◌≡◌, IfOk, IsTrue};
+ghost use Rattle.std.specs.Prelude.{◌≡◌, ◌≤◌, IfOk, IsTrue};
 ghost use Rattle.cluster_terms.specs.Group.{nodes_of};
 ghost use Rattle.node_directory.specs.Members.{group_of};
 ghost use Rattle.node_directory.specs.Shape as spec;
@@ -49,7 +49,8 @@ fn tally_of<'a>(alloc: Global, members: &Members<'a>, pairs: &[Pair]) -> Result<
 /// the group as there are to be replicas. A pair costs a look at no more nodes and racks than that, and in a datacenter
 /// a look-up in the directory.
 pub fn shape_of(alloc: Global, members: &Members, pairs: &[Pair]) -> Result<Shape, Memory>
-    ensures { IfOk result (λ counted. counted ≡ spec.shape_of (nodes_of pairs.now) (group_of members.now)) }
+    ensures shape { IfOk result (λ counted. counted ≡ spec.shape_of (nodes_of pairs.now) (group_of members.now)) }
+    ensures bound { IfOk result (λ counted. counted.wanted ≤ 16) }
 {
     let tally = tally_of(alloc, members, pairs)?;
     Ok(Shape {

@@ -13,8 +13,8 @@ use token_ring::Ring;
 /// takes each node that isn't taken yet, until it has `rf` nodes or has gone round once. The nodes are the placement
 /// of the group of all nodes.
 ///
-/// The walk visits each token at most once, and ends once it has `rf` nodes. Counts one step of `walks`, even on an
-/// error.
+/// The walk visits each token at most once, ends once it has `rf` nodes, and takes no memory. Counts one step of
+/// `walks`, even on an error.
 pub fn replicas<L: Ledger>(
     alloc: Global,
     ring: &Ring,
@@ -26,6 +26,6 @@ pub fn replicas<L: Ledger>(
     ensures counted { walks.new ≡ walks.old + 1 }
 {
     walks.tick();
-    let taken = walk(alloc, ring, rf, t)?;
-    NodeSet::from_ids(alloc, &taken)
+    let taken = walk(ring, rf, t);
+    NodeSet::from_ids(alloc, taken.as_slice())
 }

@@ -1,13 +1,16 @@
 ghost use Rattle.std.specs.Prelude.{◌≡◌, ◌+◌, ◌++◌, IfOk};
+ghost use Rattle.std.specs.List.{All};
 ghost use Rattle.std.specs.Ordering.{nat_cmp};
 ghost use Rattle.cluster_terms.specs.Ascending.{ascending};
 ghost use Rattle.cluster_terms.specs.Group.{nodes_of};
 ghost use Rattle.topology_strategy.specs.GroupedRing.{placement_at};
+ghost use Rattle.topology_strategy.specs.Shape.{IsFew};
 ghost use Rattle.topology_strategy.specs.Walk.{taken_in_all};
 
+use crate::placed::add_nodes;
 use crate::shape::count_all;
 use crate::walk::Walk;
-use cluster_terms::{Factors, Memory, Name, NodeId, Pair, Rf, Steps, Token};
+use cluster_terms::{Factors, Memory, Name, Pair, Rf, Steps, Token};
 use node_directory::{Directory, Members, Shape};
 use node_sets::NodeSet;
 use std::alloc::Global;
@@ -30,38 +33,41 @@ pub struct CountedRing<'a> {
 
 impl<'a> Model for CountedRing<'a> {
     ghost use Rattle.cluster_terms.specs.Group.{nodes_of};
+    ghost use Rattle.std.specs.List.{All};
     ghost use Rattle.std.specs.Prelude.{◌≡◌};
     ghost use Rattle.topology_strategy.specs.GroupedRing.{GroupedRing};
-    ghost use Rattle.topology_strategy.specs.Shape.{shapes_of};
+    ghost use Rattle.topology_strategy.specs.Shape.{IsFew, shapes_of};
 
     ghost Value = { GroupedRing };
 
     ghost view = { λ c. record { ring = c.ring.now; nodes = c.dir.now.rows; factors = c.factors.now } };
 
-    ghost invariant = { λ c. c.shapes.items ≡ shapes_of c.dir.now.rows c.factors.now (nodes_of c.ring.now) };
+    ghost invariant = { λ c. (c.shapes.items ≡ shapes_of c.dir.now.rows c.factors.now (nodes_of c.ring.now))
+        × All IsFew c.shapes.items };
 }
 
 /// The nodes that the walks take in these datacenters, which have these shapes: along `rest`, then along `front`.
-fn take_in_all(
+fn place_in_all(
     alloc: Global,
     dir: &Directory,
     factors: &[(Name, Rf)],
     shapes: &[Shape],
     rest: &[Pair],
     front: &[Pair],
-) -> Result<Vec<NodeId>, Memory>
-    ensures { IfOk result (λ taken. taken.items
-        ≡ taken_in_all (nodes_of rest.now ++ nodes_of front.now) dir.now.rows factors.now shapes.now) }
+) -> Result<NodeSet, Memory>
+    requires { All IsFew shapes.now }
+    ensures { IfOk result (λ placed. placed ≡ ascending nat_cmp
+        (taken_in_all (nodes_of rest.now ++ nodes_of front.now) dir.now.rows factors.now shapes.now)) }
 {
-    let mut taken = Vec::new(alloc);
+    let mut placed = NodeSet::empty(alloc);
     for ((name, rf), shape) in factors.iter().zip(shapes) {
         let members = Members::Datacenter(dir, name, *rf);
-        let mut walk = Walk::begin(alloc, *shape)?;
-        walk.go_along(&members, shape.wanted, rest)?;
-        walk.go_along(&members, shape.wanted, front)?;
-        walk.add_to(&mut taken)?;
+        let mut walk = Walk::begin(*shape);
+        walk.go_along(&members, shape.wanted, rest);
+        walk.go_along(&members, shape.wanted, front);
+        add_nodes(alloc, &mut placed, walk.nodes())?;
     }
-    Ok(taken)
+    Ok(placed)
 }
 
 impl<'a> CountedRing<'a> {
@@ -89,15 +95,15 @@ impl<'a> CountedRing<'a> {
     }
 
     /// The nodes that the walks from a token take.
-    fn taken_at(&self, t: Token) -> Result<Vec<NodeId>, Memory>
-        ensures { IfOk result (λ taken. placement_at self.now t ≡ ascending nat_cmp taken.items) }
+    fn placed_at(&self, t: Token) -> Result<NodeSet, Memory>
+        ensures { IfOk result (λ placed. placed ≡ placement_at self.now t) }
     {
         let alloc = *self.shapes.allocator();
         let Some(first) = self.ring.first_at(t) else {
-            return Ok(Vec::new(alloc));
+            return Ok(NodeSet::empty(alloc));
         };
         let (front, rest) = self.ring.pairs().split_at(first);
-        take_in_all(
+        place_in_all(
             alloc,
             self.dir,
             self.factors.rows(),
@@ -112,14 +118,13 @@ impl<'a> CountedRing<'a> {
     ///
     /// Costs one walk for each named datacenter, and no counting. A walk ends once its datacenter has all its replicas,
     /// and goes round the ring at most once. A token on the walk costs a look-up in the directory and, in its own
-    /// datacenter, a look at no more nodes and racks than there are to be replicas. Counts one step of `walks`, even on
-    /// an error.
+    /// datacenter, a look at no more nodes and racks than there are to be replicas. Takes memory only for more than 7
+    /// replicas. Counts one step of `walks`, even on an error.
     pub fn replicas<L: Ledger>(&self, t: Token, walks: &mut Steps<L>) -> Result<NodeSet, Memory>
         ensures placement { IfOk result (λ replicas. replicas ≡ placement_at self.now t) }
         ensures counted { walks.new ≡ walks.old + 1 }
     {
         walks.tick();
-        let taken = self.taken_at(t)?;
-        NodeSet::from_ids(*self.shapes.allocator(), &taken)
+        self.placed_at(t)
     }
 }

@@ -1,13 +1,15 @@
 //! The tokens of one datacenter in a ring.
 
-ghost use Rattle.std.specs.Prelude.{◌≡◌, ◌||◌, ℕ, nat_eq, IfOk, OnOk};
-ghost use Rattle.std.specs.Set.{is_member};
+ghost use Rattle.std.specs.Prelude.{◌≡◌, ◌||◌, ℕ, IfOk, OnOk};
+ghost use Rattle.node_sets.specs.NodeSets.{IsNodeSet, has_node};
 ghost use Rattle.topology_strategy.specs.DatacenterRing.{is_replica_in};
 
+use crate::placed::add_nodes;
 use crate::racked_pairs::{RackedPairs, first_at, racked_pairs};
 use crate::walk::Walk;
-use cluster_terms::{Memory, Name, NodeId, Rf, Token};
+use cluster_terms::{Memory, Name, Rf, Token};
 use node_directory::{Directory, Members, Shape, shape_of};
+use node_sets::NodeSet;
 use std::alloc::Global;
 use std::marker::Model;
 use token_ring::Ring;
@@ -33,6 +35,7 @@ impl<'a> Model for DatacenterRing<'a> {
     ghost use Rattle.token_ring.specs.Ring.{IsRing};
     ghost use Rattle.topology_strategy.specs.DatacenterRing.{RingPart};
     ghost use Rattle.topology_strategy.specs.RackedPairs.{AreWithin};
+    ghost use Rattle.topology_strategy.specs.Shape.{IsFew};
 
     ghost Value = { RingPart };
 
@@ -41,7 +44,7 @@ impl<'a> Model for DatacenterRing<'a> {
     ghost invariant = { λ d.
         let group = datacenter_group d.dir.now.rows (d.name.now, d.rf) in
         IsRing d.ring.now × (AreWithin group d.ring.now d.racked
-        × (d.shape ≡ shape_of (nodes_of d.ring.now) group)) };
+        × ((d.shape ≡ shape_of (nodes_of d.ring.now) group) × IsFew d.shape)) };
 }
 
 impl<'a> DatacenterRing<'a> {
@@ -73,19 +76,21 @@ impl<'a> DatacenterRing<'a> {
         })
     }
 
-    /// Adds the replicas that the datacenter has at a token to a list: the nodes that the walk from the token takes. If
-    /// memory runs out, the list may have any nodes. The cost is a binary search and the walk.
-    pub fn take_at(&self, t: Token, taken: &mut Vec<NodeId>) -> Result<(), Memory>
-        ensures { OnOk result ((v : ℕ) → is_member nat_eq taken.new.items v
-            ≡ (is_member nat_eq taken.old.items v || is_replica_in self.now t v)) }
+    /// Adds the replicas that the datacenter has at a token to a set: the nodes that the walk from the token takes.
+    /// Takes memory only for more than 7 nodes. If memory runs out, the set is unchanged. The cost is a binary search,
+    /// the walk, and one pass over the set.
+    pub fn place_at(&self, t: Token, placed: &mut NodeSet) -> Result<(), Memory>
+        ensures ascend { OnOk result (IsNodeSet placed.new) }
+        ensures nodes { OnOk result ((v : ℕ) → has_node placed.new v
+            ≡ (has_node placed.old v || is_replica_in self.now t v)) }
     {
         let RackedPairs { pairs, racks } = &self.racked;
         let first = first_at(pairs, t);
         let (front, rest) = pairs.split_at(first);
         let (front_racks, rest_racks) = racks.split_at(first);
-        let mut walk = Walk::begin(*pairs.allocator(), self.shape)?;
-        walk.go_among(self.shape.wanted, rest, rest_racks)?;
-        walk.go_among(self.shape.wanted, front, front_racks)?;
-        walk.add_to(taken)
+        let mut walk = Walk::begin(self.shape);
+        walk.go_among(self.shape.wanted, rest, rest_racks);
+        walk.go_among(self.shape.wanted, front, front_racks);
+        add_nodes(*pairs.allocator(), placed, walk.nodes())
     }
 }

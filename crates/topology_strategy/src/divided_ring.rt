@@ -1,13 +1,11 @@
-ghost use Rattle.std.specs.Prelude.{◌≡◌, ◌+◌, ℕ, nat_eq, IfOk};
+ghost use Rattle.std.specs.Prelude.{◌≡◌, ◌+◌, ℕ, IfOk};
 ghost use Rattle.std.specs.List.{list_any};
-ghost use Rattle.std.specs.Ordering.{nat_cmp};
-ghost use Rattle.std.specs.Set.{is_member};
-ghost use Rattle.cluster_terms.specs.Ascending.{ascending};
+ghost use Rattle.node_sets.specs.NodeSets.{IsNodeSet, has_node};
 ghost use Rattle.topology_strategy.specs.DatacenterRing.{is_replica_in, parts_of};
 ghost use Rattle.topology_strategy.specs.GroupedRing.{placement_at};
 
 use crate::datacenter_ring::DatacenterRing;
-use cluster_terms::{Factors, Memory, Name, NodeId, Rf, Steps, Token};
+use cluster_terms::{Factors, Memory, Name, Rf, Steps, Token};
 use node_directory::Directory;
 use node_sets::NodeSet;
 use std::alloc::Global;
@@ -57,15 +55,16 @@ fn divided<'a>(
 }
 
 /// The nodes that the walks from a token take in these datacenters.
-fn taken_in(alloc: Global, parts: &[DatacenterRing], t: Token) -> Result<Vec<NodeId>, Memory>
-    ensures { IfOk result (λ taken. (v : ℕ)
-        → is_member nat_eq taken.items v ≡ list_any (λ part. is_replica_in part t v) parts.now) }
+fn placed_in(alloc: Global, parts: &[DatacenterRing], t: Token) -> Result<NodeSet, Memory>
+    ensures ascend { IfOk result (λ placed. IsNodeSet placed) }
+    ensures nodes { IfOk result (λ placed. (v : ℕ)
+        → has_node placed v ≡ list_any (λ part. is_replica_in part t v) parts.now) }
 {
-    let mut taken = Vec::new(alloc);
+    let mut placed = NodeSet::empty(alloc);
     for part in parts {
-        part.take_at(t, &mut taken)?;
+        part.place_at(t, &mut placed)?;
     }
-    Ok(taken)
+    Ok(placed)
 }
 
 impl<'a> DividedRing<'a> {
@@ -93,23 +92,24 @@ impl<'a> DividedRing<'a> {
     }
 
     /// The nodes that the walks from a token take.
-    fn taken_at(&self, t: Token) -> Result<Vec<NodeId>, Memory>
-        ensures { IfOk result (λ taken. placement_at self.now t ≡ ascending nat_cmp taken.items) }
+    fn placed_at(&self, t: Token) -> Result<NodeSet, Memory>
+        ensures { IfOk result (λ placed. placed ≡ placement_at self.now t) }
     {
-        taken_in(*self.parts.allocator(), &self.parts, t)
+        let placed = placed_in(*self.parts.allocator(), &self.parts, t)?;
+        Ok(placed)
     }
 
     /// The replicas of a token by NetworkTopologyStrategy, as [`replicas`](crate::replicas) gives them.
     ///
     /// Costs a binary search and a walk for each named datacenter. A walk ends once its datacenter has all its
     /// replicas. It passes each token of its datacenter at most once, and looks at no more nodes and racks there than
-    /// there are to be replicas. Counts one step of `walks`, even on an error.
+    /// there are to be replicas. Takes memory only for more than 7 replicas. Counts one step of `walks`, even on an
+    /// error.
     pub fn replicas<L: Ledger>(&self, t: Token, walks: &mut Steps<L>) -> Result<NodeSet, Memory>
         ensures placement { IfOk result (λ replicas. replicas ≡ placement_at self.now t) }
         ensures counted { walks.new ≡ walks.old + 1 }
     {
         walks.tick();
-        let taken = self.taken_at(t)?;
-        NodeSet::from_ids(*self.parts.allocator(), &taken)
+        self.placed_at(t)
     }
 }

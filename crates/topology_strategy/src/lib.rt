@@ -4,6 +4,7 @@
 mod counted_ring;
 mod datacenter_ring;
 mod divided_ring;
+mod placed;
 mod racked_pairs;
 mod shape;
 mod strategy;

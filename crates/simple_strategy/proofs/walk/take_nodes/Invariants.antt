@@ -5,4 +5,4 @@ use Rattle.simple_strategy.proofs.walk.take_nodes.Given as goal
 
 abbrev pub invariant-loop-pair : goal.invariant-loop-pair
 invariant-loop-pair l =
-    taken_after l.wanted l.taken.items (nodes_of (drop l.pair-index l.pairs)) ≡ taken_after l.wanted l.initial.taken.items (nodes_of l.pairs)
+    taken_after l.wanted l.taken (nodes_of (drop l.pair-index l.pairs)) ≡ taken_after l.wanted l.initial.taken (nodes_of l.pairs)

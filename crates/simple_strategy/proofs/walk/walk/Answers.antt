@@ -12,7 +12,7 @@ pub returns-in_default : goal.returns-in_default
 returns-in_default c =
     let empty : c.args.ring.now ≡ [] = c.in_default.ensures.empty.0 refl in
     ap (λ ring. place (whole_group c.args.rf ∷ []) c.args.t ring) empty ∙ placed_nowhere (whole_group c.args.rf ∷ []) c.args.t
-    ∙ ap (ascending nat_cmp) (sym c.in_ok-taken.ensures.items)
+    ∙ ap (ascending nat_cmp) (sym c.of-taken.ensures)
 
 pub returns : goal.returns
 returns c =
@@ -22,8 +22,8 @@ returns c =
     let low : 1 ≤ c.args.rf = omega (arith, c.value.ensures.low, c.value.ensures.value) in
     let rest : c.split_at.result.1.now ≡ drop i ring = c.split_at.ensures.back ∙ ap (drop i) c.pairs.ensures.pairs in
     let front : c.split_at.result.0.now ≡ take i ring = c.split_at.ensures.front ∙ ap (take i) c.pairs.ensures.pairs in
-    let first : c.take_nodes.new.taken.items ≡ taken_after c.args.rf [] (nodes_of (drop i ring)) =
-    c.in_ok-take_nodes.ensures ∙ (λ j. taken_after (wanted j) (c.in_ok-taken.ensures.items j) (nodes_of (rest j))) in
-    let all : c.take_nodes-2.new.taken.items ≡ taken_after c.args.rf (taken_after c.args.rf [] (nodes_of (drop i ring))) (nodes_of (take i ring)) =
-    c.in_ok-take_nodes-2.ensures ∙ (λ j. taken_after (wanted j) (first j) (nodes_of (front j))) in
+    let first : c.take_nodes.new.taken ≡ taken_after c.args.rf [] (nodes_of (drop i ring)) =
+    c.take_nodes.ensures ∙ (λ j. taken_after (wanted j) (c.of-taken.ensures j) (nodes_of (rest j))) in
+    let all : c.take_nodes-2.new.taken ≡ taken_after c.args.rf (taken_after c.args.rf [] (nodes_of (drop i ring))) (nodes_of (take i ring)) =
+    c.take_nodes-2.ensures ∙ (λ j. taken_after (wanted j) (first j) (nodes_of (front j))) in
     placed_in_parts ring c.args.t i c.pairs.ensures.ascends c.in-Some.ensures.first c.args.rf low ∙ ap (ascending nat_cmp) (sym all)

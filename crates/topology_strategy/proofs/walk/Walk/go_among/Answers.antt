@@ -17,5 +17,5 @@ loop-i-preserved c =
     let racks = c.args.racks.now in
     let i = c.loop-i.i in
     ap (λ n. found_among c.args.wanted (nodes_of (drop n pairs)) (drop n (racks_in racks)) c.meet.new.self) (add-one i)
-    ∙ among_step c.args.wanted pairs racks i _ _ c.loop-i.self c.meet.new.self (omega arith) (omega arith) room c.in_ok-meet.ensures
+    ∙ among_step c.args.wanted pairs racks i _ _ c.loop-i.self c.meet.new.self (omega arith) (omega arith) room c.meet.ensures
     ∙ c.loop-i.invariant
