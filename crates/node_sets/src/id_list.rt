@@ -41,6 +41,17 @@ impl IdList {
         }
     }
 
+    /// The list of these ids. Takes no memory.
+    #[inline]
+    pub(crate) fn from_few(alloc: Global, few: FewIds) -> IdList
+        ensures { result ≡ few }
+    {
+        IdList {
+            alloc,
+            ids: Ids::Few(few),
+        }
+    }
+
     /// The list of a vector's ids. Gives the vector's memory back if the ids fit inline.
     pub(crate) fn from_vec(alloc: Global, ids: Vec<NodeId>) -> Result<IdList, Memory>
         ensures { IfOk result (λ list. list ≡ ids.items) }
