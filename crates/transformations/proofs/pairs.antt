@@ -1,4 +1,5 @@
 -- The pairs of rings, and their tokens.
+pub mod KeptRuns
 pub mod OwnedLemmas
 pub mod RingPairs
 pub mod SearchLemmas

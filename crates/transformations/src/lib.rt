@@ -34,8 +34,7 @@ pub use pair_search::ascend_by_token;
 pub use refusal::Refusal;
 pub use refusals::{early_refusal, register_refusal};
 pub use rings::{
-    RingKind, cuts, cuts_among, fixed_among, fixed_ring, ring_with, ring_with_movement, widest,
-    widest_among,
+    RingKind, cuts, cuts_among, fixed_among, ring_with, ring_with_movement, widest, widest_among,
 };
 pub use sequence::{Goal, Kind, Phase, SeqRow, SeqRows};
 pub use state::{NodeState, node_state, state_of};

@@ -17,7 +17,7 @@ pub fn ascend_by_token(pairs: &[Pair]) -> bool
 }
 
 /// The number of pairs below token `t` in an ascending list.
-fn count_below(pairs: &[Pair], t: Token) -> usize
+pub(crate) fn count_below(pairs: &[Pair], t: Token) -> usize
     requires { IsStrictlySortedBy by_token pairs.now }
     ensures bound { result ≤ length pairs.now }
     ensures split { IsPartitionPoint (λ p. p.token <ℤ t) (λ p. t ≤ℤ p.token) pairs.now result }
