@@ -16,6 +16,7 @@ pub mod PlacementCounts
 pub mod PlacementLemmas
 pub mod PlacementRows
 pub mod Put
+pub mod PutPermutes
 pub mod QuorumLemmas
 pub mod QuorumRows
 pub mod ReachKept
@@ -31,3 +32,4 @@ pub mod RingRows
 pub mod RoundTrip
 pub mod RowLemmas
 pub mod SettledLemmas
+pub mod StretchMerge

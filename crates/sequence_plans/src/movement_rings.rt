@@ -26,8 +26,9 @@ pub struct MovementPlacers<'a> {
 }
 
 impl MovementRings {
-    /// The rings of a movement of an image. Fails only if memory runs out. For n pairs of the ring, the cost is about
-    /// n log n: a search for each pair among those that the movement takes out, and a sort of the second ring.
+    /// The rings of a movement of an image. Fails only if memory runs out. If the tokens of the ring and those of the
+    /// movement ascend, the cost is some passes over the ring, and a binary search for each pair that the movement takes
+    /// out or puts in.
     pub fn new(alloc: Global, image: &WideImage, row: &SeqRow) -> Result<MovementRings, Memory>
         requires sound { IsSound image.now }
         requires moves { Contains image.now.sequences row.now }

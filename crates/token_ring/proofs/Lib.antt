@@ -3,6 +3,7 @@ pub mod BoundLemmas
 pub mod ChosenRows
 pub mod DistinctLemmas
 pub mod JoinLemmas
+pub mod MergedRings
 pub mod OrderLemmas
 pub mod PlaceLemmas
 pub mod RangeLemmas

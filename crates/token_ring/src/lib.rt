@@ -7,6 +7,7 @@ mod common;
 mod joining;
 pub mod range_list;
 pub mod ring;
+mod ring_order;
 
 pub use book::{LockRow, LockRows, RangeBook, RangeRow};
 pub use cluster_terms::TokenRange;

@@ -1,5 +1,4 @@
 -- Lists of items, with some left out or put in.
 pub mod FilterLemmas
 pub mod ListLemmas
-pub mod StretchMerge
 pub mod TokenOrder

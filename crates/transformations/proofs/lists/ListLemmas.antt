@@ -13,6 +13,7 @@ use Rattle.std.proofs.lemmas.Bool.{false≢true, or_left as or_true_left, or_rig
 use Rattle.std.specs.Set.{is_member}
 use Rattle.cluster_terms.proofs.AscendingLemmas.{All-put_all}
 use Rattle.cluster_terms.proofs.GroupLemmas.{or_elim}
+use Rattle.cluster_terms.proofs.PutPermutes.{put_permutes}
 use Rattle.cluster_terms.specs.Ascending.{put, put_all}
 use Rattle.cluster_terms.specs.Pair.{has_pair, without_pairs}
 use Rattle.cluster_terms.specs.declared.token.Pair.{Pair}
@@ -250,19 +251,7 @@ exchanged xs ys zs =
     let moved : IsPermutation ((xs ++ ys) ++ zs) ((ys ++ xs) ++ zs) = IsPermutation-append_left zs (xs ++ ys) (ys ++ xs) (IsPermutation-append_comm xs ys) in
     rw (← append_assoc xs ys zs, ← append_assoc ys xs zs) moved
 
--- an item put into a list with none that is equal to it, and some items whose like there is not
-pub put_permutes : {X : Type 0} (r : X → X → Ordering) (x : X) (ys : List X) → AllByRecursion (λ y. eq_by_cmp r x y ≡ false) ys → IsPermutation (x ∷ ys) (put r x ys)
-put_permutes r x [] all = IsPermutation-refl (x ∷ [])
-put_permutes r x (y ∷ ys) all = by (r x y) all.0 (put_permutes r x ys all.1)
-  where
-    by : (o : Ordering) → is_eq o ≡ false → IsPermutation (x ∷ ys) (put r x ys) → IsPermutation (x ∷ (y ∷ ys)) (match_ordering o (x ∷ (y ∷ ys)) (x ∷ ys) (y ∷ put r x ys))
-    by Less e rest = IsPermutation-refl (x ∷ (y ∷ ys))
-    by Equal e rest = absurd (true≢false e)
-    by Greater e rest =
-        IsPermutation-trans (x ∷ (y ∷ ys)) (y ∷ (x ∷ ys)) (y ∷ put r x ys)
-        (IsPermutation-sym (y ∷ (x ∷ ys)) (x ∷ (y ∷ ys)) (IsPermutation-middle (y ∷ []) x ys))
-        (IsPermutation-cons y (x ∷ ys) (put r x ys) rest)
-
+-- items put into a list, of which none is equal to another
 pub put_all_permutes : {X : Type 0} (r : X → X → Ordering) (xs ys : List X) → IsDistinct (eq_by_cmp r) (xs ++ ys) → IsPermutation (xs ++ ys) (put_all r xs ys)
 put_all_permutes r [] ys d = IsPermutation-refl ys
 put_all_permutes {X} r (x ∷ xs) ys d =
