@@ -10,7 +10,6 @@ pub mod LockPlaces
 pub mod MovementPlaces
 pub mod NodeLemmas
 pub mod OverlapLemmas
-pub mod PairMerge
 pub mod PermitOutcomes
 pub mod PlanLemmas
 pub mod PrepareLemmas

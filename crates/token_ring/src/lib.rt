@@ -13,3 +13,4 @@ pub use book::{LockRow, LockRows, RangeBook, RangeRow};
 pub use cluster_terms::TokenRange;
 pub use range_list::RangeList;
 pub use ring::Ring;
+pub use ring_order::merged_pairs;
