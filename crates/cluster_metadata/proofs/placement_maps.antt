@@ -11,4 +11,5 @@ pub mod KeptRows
 pub mod MapBooks
 pub mod RevisedBooks
 pub mod TurnedMaps
+pub mod TurnedRuns
 pub mod TurnedSets

@@ -1,5 +1,5 @@
 -- Placement maps that are changed by the deltas of a movement. Of the code: no promise rests on these.
-use Rattle.std.specs.Prelude.{◌≡◌, ℕ, ℤ, List, [], ◌∷◌, ◌++◌, length, map, Option, IfSome}
+use Rattle.std.specs.Prelude.{◌≡◌, ℕ, ℤ, ◌≤ℤ◌, List, [], ◌∷◌, ◌++◌, length, map, take, Option, IfSome}
 use Rattle.cluster_terms.specs.Row.{last_token}
 use Rattle.cluster_terms.specs.declared.row.TokenRange.{TokenRange}
 use Rattle.cluster_terms.specs.declared.token.RightEnd.{RightEnd}
@@ -10,7 +10,7 @@ use Rattle.placement_deltas.specs.declared.unchanged.Unchanged.{Unchanged}
 use Rattle.range_placements.specs.Changing.{row_changed, rows_changed}
 use Rattle.range_placements.specs.Editing.{Edits, edited}
 use Rattle.range_placements.specs.Exchanging.{with_changes}
-use Rattle.range_placements.specs.Placements.{map_at, reads_changed, right_ends, writes_changed}
+use Rattle.range_placements.specs.Placements.{IsPlacementMap, map_at, reads_changed, right_ends, writes_changed}
 use Rattle.range_placements.specs.declared.placement_row.PlacementRow.{PlacementRow}
 use Rattle.range_placements.specs.declared.row_changes.RowChange.{RowChange}
 use Rattle.transformations.specs.declared.sequence.Phase.{Phase}
@@ -49,6 +49,14 @@ turned_rows turn rows delta = rows_changed (turned turn) delta rows
 abbrev pub IsKnown : List DeltaRow → Option Unchanged → Type 0
 IsKnown delta known = IfSome known (λ tokens. ChangesNothing delta tokens.first tokens.last)
 
+-- the first n rows of a map have their new sets, whatever rows come after them
+abbrev pub AreTurned : Turn → List DeltaRow → List PlacementRow → ℕ → List RowChange → Type 0
+AreTurned turn delta rows n changes = (rest : List PlacementRow) → with_changes changes (take n rows ++ rest) ≡ turned_rows turn (take n rows) delta ++ rest
+
+-- a row ends from a token up to another one
+abbrev pub IsWithin : ℤ → ℤ → PlacementRow → Type 0
+IsWithin first last row = (first ≤ℤ last_token row.right) × (last_token row.right ≤ℤ last)
+
 -- new sets are added for the row at a position, where the delta changes it: whatever rows stand beside it
 abbrev pub AddsTurned : Turn → List DeltaRow → ℕ → PlacementRow → List RowChange → List RowChange → Type 0
 AddsTurned turn delta at row before after =
@@ -63,6 +71,10 @@ recut_rows turn ranges rows delta = map (row_with (turned_at turn rows delta)) r
 -- rows that a turn by a delta leaves as they are, and that have the right ends of these ranges
 abbrev pub AreKept : Turn → List DeltaRow → List PlacementRow → List TokenRange → Type 0
 AreKept turn delta rows ranges = (turned_rows turn rows delta ≡ rows) × (right_ends rows ≡ map (λ range. range.right) ranges)
+
+-- the map of a row has the right ends of these ranges
+abbrev pub HasEnds : List TokenRange → MapRow → Type 0
+HasEnds ranges row = IsPlacementMap row.map × (right_ends row.map ≡ map (λ range. range.right) ranges)
 
 -- edits make these rows more of the rows of a map
 abbrev pub AddsRows : List PlacementRow → List PlacementRow → Edits → Edits → Type 0

@@ -31,6 +31,7 @@ mod parts;
 mod permit;
 mod placers;
 mod preparing;
+mod recutting;
 mod rings;
 mod running;
 mod stepping;

@@ -8,7 +8,7 @@ ghost use Rattle.transformations.specs.Rings.{cuts_among};
 ghost use Rattle.transformations.specs.Valid.{IsValid};
 ghost use Rattle.cluster_metadata.specs.Change as spec;
 ghost use Rattle.cluster_metadata.specs.MapSteps.{MapSteps};
-ghost use Rattle.cluster_metadata.specs.MapChanges.{BringsMaps, each_edited};
+ghost use Rattle.cluster_metadata.specs.MapChanges.{BringsMaps, maps_after};
 ghost use Rattle.cluster_metadata.specs.Maps.{AreMaps};
 ghost use Rattle.cluster_metadata.specs.Running.{HaveDeltas, IsRunning};
 ghost use Rattle.cluster_metadata.specs.Turns.{each_map, recut_rows};
@@ -18,10 +18,11 @@ use crate::arranging::{arrangement_of, maps_of};
 use crate::change::Change;
 use crate::fitting::fits;
 use crate::map_book::MapBook;
-use crate::map_change::{BookEdits, MapChange};
+use crate::map_change::MapChange;
+use crate::recutting::recut;
 use crate::running::Running;
 use crate::turn::Turn;
-use crate::turning::{recut_book, turned_book};
+use crate::turning::turned_book;
 use cluster_terms::{Memory, PairList, Token, TryCopy, rows_between};
 use node_directory::Directory;
 use placement_deltas::DeltaBook;
@@ -85,7 +86,7 @@ fn maps_under(
     Ok(MapChange::Arranged(next))
 }
 
-/// The edits that make maps those of the ranges between these cuts, with the sets that the maps have at the last tokens
+/// The change that makes maps those of the ranges between these cuts, with the sets that the maps have at the last tokens
 /// of the ranges, changed by the deltas of a movement.
 fn recut_at(
     alloc: Global,
@@ -93,16 +94,16 @@ fn recut_at(
     maps: &MapBook,
     turn: Turn,
     deltas: &DeltaBook,
-) -> Result<BookEdits, Memory>
-    ensures { IfOk result (λ edits. length maps.now ≡ length deltas.now
-        → each_edited edits.items maps.now
+) -> Result<MapChange, Memory>
+    ensures { IfOk result (λ next. length maps.now ≡ length deltas.now
+        → maps_after next maps.now
         ≡ each_map (recut_rows turn (rows_between cuts.now)) maps.now deltas.now) }
 {
     let ranges = rows_between(alloc, cuts)?;
-    recut_book(alloc, turn, maps, deltas, ranges.as_slice())
+    recut(alloc, turn, maps, deltas, ranges.as_slice())
 }
 
-/// The edits that `recut_at` gives for the cuts of a ring and these movements.
+/// The change that `recut_at` gives for the cuts of a ring and these movements.
 fn recut_among(
     alloc: Global,
     tokens: &PairList,
@@ -110,9 +111,9 @@ fn recut_among(
     maps: &MapBook,
     turn: Turn,
     deltas: &DeltaBook,
-) -> Result<BookEdits, Memory>
-    ensures maps { IfOk result (λ edits. length maps.now ≡ length deltas.now
-        → each_edited edits.items maps.now
+) -> Result<MapChange, Memory>
+    ensures maps { IfOk result (λ next. length maps.now ≡ length deltas.now
+        → maps_after next maps.now
         ≡ each_map (recut_rows turn (rows_between (cuts_among tokens.now sequences.now)))
         maps.now deltas.now) }
     ensures tokens { OnOk result (AllByRecursion IsToken (cuts_among tokens.now sequences.now)) }
@@ -157,7 +158,7 @@ pub fn maps_for(
             let plan = plan.get();
             let cuts = plan.cuts.as_slice();
             let next = recut_at(alloc, cuts, maps, Turn::Keep, &plan.gain)?;
-            Ok(MapChange::Rows(next))
+            Ok(next)
         }
         Change::Started { at, .. } => {
             let gain = &running[*at].plan().gain;
@@ -175,13 +176,13 @@ pub fn maps_for(
         } => {
             let lose = &running[*at].plan().lose;
             let next = recut_among(alloc, tokens, sequences, maps, Turn::Writes, lose)?;
-            Ok(MapChange::Rows(next))
+            Ok(next)
         }
         Change::Ended { at, sequences } => {
             let movement = &running[*at];
             let (turn, gain) = (movement.undoing(), &movement.plan().gain);
             let next = recut_among(alloc, &image.tokens, sequences, maps, turn, gain)?;
-            Ok(MapChange::Rows(next))
+            Ok(next)
         }
         Change::BroughtBack { at, .. } => {
             let swap = &running[*at].plan().swap;

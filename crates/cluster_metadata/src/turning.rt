@@ -59,6 +59,87 @@ fn turned_sets(
     }
 }
 
+/// A row with this right end and the sets of a row, changed by what the delta shows at the last token. `near` is where
+/// the delta was looked at last.
+fn turned_row(
+    turn: Turn,
+    right: &RightEnd,
+    row: &PlacementRow,
+    delta: &Delta,
+    near: &mut usize,
+) -> Result<PlacementRow, Memory>
+    ensures { IfOk result (λ new. new ≡ spec.row_to right.now
+        (spec.turned turn (row.now.reads, row.now.writes) (delta_at delta.now (last_token right.now)))) }
+{
+    let (gained, lost) = delta.at_near(right.last_token(), near);
+    turned_sets(turn, *right, &row.reads, &row.writes, gained, lost)
+}
+
+/// Adds the new sets of a row.
+fn push_turned(
+    changes: &mut RowChanges,
+    turn: Turn,
+    at: usize,
+    row: &PlacementRow,
+    delta: &Delta,
+    near: &mut usize,
+) -> Result<(), Memory>
+    ensures { OnOk result (spec.AddsTurned turn delta.now at row.now changes.old changes.new) }
+{
+    let PlacementRow {
+        right: _,
+        reads,
+        writes,
+    } = turned_row(turn, &row.right, row, delta, near)?;
+    changes.push(RowChange { at, reads, writes })
+}
+
+/// Adds the new sets of the row at a position, if the delta changes it, and passes it. Otherwise passes the rows that
+/// end where the delta changes nothing. Returns the position of the row after these.
+fn turn_from(
+    changes: &mut RowChanges,
+    turn: Turn,
+    at: usize,
+    map: &PlacementMap,
+    delta: &Delta,
+    near: &mut usize,
+) -> Result<usize, Memory>
+    requires bound { at < length map.now }
+    requires turned { spec.AreTurned turn delta.now map.now at changes.old }
+    ensures later { IfOk result (λ next. at < next) }
+    ensures bound { IfOk result (λ next. next ≤ length map.now) }
+    ensures turned { IfOk result (λ next. spec.AreTurned turn delta.now map.now next changes.new) }
+{
+    let row = &map.rows()[at];
+    if let Some(tokens) = delta.unchanged_from(row.last_token(), near) {
+        let mut end = at;
+        let _row = map.row_near(tokens.last, &mut end);
+        return Ok(end.max(at + 1));
+    }
+    push_turned(changes, turn, at, row, delta, near)?;
+    Ok(at + 1)
+}
+
+/// The new sets of the rows of a map that a delta changes. The cost is a few binary searches for each row of the delta,
+/// and new sets for each row of the map that it changes.
+fn turned_rows(
+    alloc: Global,
+    turn: Turn,
+    map: &PlacementMap,
+    delta: &Delta,
+) -> Result<RowChanges, Memory>
+    ensures { IfOk result (λ changes. with_changes changes map.now ≡ spec.turned_rows turn map.now delta.now) }
+{
+    let mut changes = RowChanges::empty(alloc);
+    let mut near = 0;
+    let mut at = 0;
+    let count = map.rows().len();
+    while at < count {
+        at = turn_from(&mut changes, turn, at, map, delta, &mut near)?;
+    }
+    Ok(changes)
+}
+
 /// Where a delta was looked at last, and tokens at which it changes nothing, if some are known.
 #[derive(Drop)]
 struct DeltaPlace {
@@ -99,64 +180,6 @@ fn changes_nothing(delta: &Delta, t: Token, place: &mut DeltaPlace) -> bool
     }
     place.unchanged = delta.unchanged_from(t, &mut place.near);
     is_among(place.unchanged, t)
-}
-
-/// A row with this right end and the sets of a row, changed by what the delta shows at the last token.
-fn turned_row(
-    turn: Turn,
-    right: &RightEnd,
-    row: &PlacementRow,
-    delta: &Delta,
-    place: &mut DeltaPlace,
-) -> Result<PlacementRow, Memory>
-    requires { spec.IsKnown delta.now place.old.unchanged }
-    ensures known { spec.IsKnown delta.now place.new.unchanged }
-    ensures row { IfOk result (λ new. new ≡ spec.row_to right.now
-        (spec.turned turn (row.now.reads, row.now.writes) (delta_at delta.now (last_token right.now)))) }
-{
-    let (gained, lost) = delta.at_near(right.last_token(), &mut place.near);
-    turned_sets(turn, *right, &row.reads, &row.writes, gained, lost)
-}
-
-/// Adds the new sets of a row, if the delta shows a change at its last token.
-fn push_turned(
-    changes: &mut RowChanges,
-    turn: Turn,
-    at: usize,
-    row: &PlacementRow,
-    delta: &Delta,
-    place: &mut DeltaPlace,
-) -> Result<(), Memory>
-    requires { spec.IsKnown delta.now place.old.unchanged }
-    ensures known { spec.IsKnown delta.now place.new.unchanged }
-    ensures sets { OnOk result (spec.AddsTurned turn delta.now at row.now changes.old changes.new) }
-{
-    if changes_nothing(delta, row.last_token(), place) {
-        return Ok(());
-    }
-    let PlacementRow {
-        right: _,
-        reads,
-        writes,
-    } = turned_row(turn, &row.right, row, delta, place)?;
-    changes.push(RowChange { at, reads, writes })
-}
-
-/// The new sets of the rows of a map that a delta changes.
-fn turned_rows(
-    alloc: Global,
-    turn: Turn,
-    map: &PlacementMap,
-    delta: &Delta,
-) -> Result<RowChanges, Memory>
-    ensures { IfOk result (λ changes. with_changes changes map.now ≡ spec.turned_rows turn map.now delta.now) }
-{
-    let mut changes = RowChanges::empty(alloc);
-    let mut place = at_start();
-    for (at, row) in map.rows().iter().enumerate() {
-        push_turned(&mut changes, turn, at, row, delta, &mut place)?;
-    }
-    Ok(changes)
 }
 
 /// Where a map and a delta were looked at last.
@@ -236,7 +259,8 @@ fn recut_some(
     let right = &ranges[0].right;
     let row = map.row_near(right.last_token(), &mut places.map);
     if row.right != *right || !is_ahead(edits, map, places.map) {
-        edits.put(turned_row(turn, right, row, delta, &mut places.delta)?)?;
+        let near = &mut places.delta.near;
+        edits.put(turned_row(turn, right, row, delta, near)?)?;
         return Ok(1);
     }
     let rows = &map.rows()[places.map..];
@@ -245,7 +269,7 @@ fn recut_some(
         edits.keep(places.map, count)?;
         return Ok(count);
     }
-    let new = turned_row(turn, right, row, delta, &mut places.delta)?;
+    let new = turned_row(turn, right, row, delta, &mut places.delta.near)?;
     edits.replace(places.map, new)?;
     Ok(1)
 }
@@ -274,8 +298,8 @@ fn recut_map(
 }
 
 /// The new sets of the rows of a book's maps that the deltas of a movement change. The deltas are under the same
-/// replications in the same order. Fails only if memory runs out. Cost: under each replication one pass over the map
-/// and the delta, and a pass over the sets for each row that changes.
+/// replications in the same order. Fails only if memory runs out. Cost: under each replication a few binary searches for
+/// each row of the delta, and a pass over the sets for each row of the map that changes.
 pub fn turned_book(
     alloc: Global,
     turn: Turn,

@@ -43,7 +43,7 @@ pub found_at : (rows : List PlacementRow) (t : ℤ) (k : ℕ) (d : PlacementRow)
 found_at = told_by_row (λ (r : PlacementRow). r.right) placement_in map_at (λ row rows x. refl)
 
 -- where rows are later ones of a map, they end past its first row
-later_ends : (row : PlacementRow) (rows : List PlacementRow) → IsPlacementMap (row ∷ rows) → AllByRecursion (λ (r : PlacementRow). int_le (last_token r.right) (last_token row.right) ≡ false) rows
+pub later_ends : (row : PlacementRow) (rows : List PlacementRow) → IsPlacementMap (row ∷ rows) → AllByRecursion (λ (r : PlacementRow). int_le (last_token r.right) (last_token row.right) ≡ false) rows
 later_ends row [] map = tt
 later_ends row (next ∷ rows) map = (
   first (last_token row.right) (last_token next.right) map.0,

@@ -7,9 +7,10 @@ use Rattle.range_placements.specs.Editing.{Edits, edited}
 use Rattle.range_placements.specs.Placements.{IsPlacementMap}
 use Rattle.transformations.specs.declared.image.Image.{Image}
 use Rattle.cluster_metadata.proofs.placement_maps.ImageMaps.{is_map}
-use Rattle.cluster_metadata.specs.MapChanges.{HoldMaps, each_edited}
+use Rattle.cluster_metadata.specs.MapChanges.{HoldMaps, each_edited, maps_after}
 use Rattle.cluster_metadata.specs.Maps.{IsMapOf}
 use Rattle.cluster_metadata.specs.Turns.{each_map, recut_rows}
+use Rattle.cluster_metadata.specs.declared.map_change.MapChange.{MapChange}
 use Rattle.cluster_metadata.specs.declared.map_row.MapRow.{MapRow}
 use Rattle.cluster_metadata.specs.declared.turn.Turn.{Turn}
 
@@ -26,6 +27,6 @@ pub maps_hold : (image : Image) (book : List MapRow) → AllByRecursion (IsMapOf
 maps_hold image [] all = tt
 maps_hold image (row ∷ book) all = (subst IsPlacementMap (sym all.0.0) (is_map image row.replication all.0.1), maps_hold image book all.1)
 
--- edits make the maps of a book those of other ranges, if there are as many deltas as maps
-abbrev pub RecutsAll : Turn → List TokenRange → List MapRow → List DeltaBookRow → List Edits → Type 0
-RecutsAll turn ranges book deltas edits = length book ≡ length deltas → each_edited edits book ≡ each_map (recut_rows turn ranges) book deltas
+-- a change makes the maps of a book those of other ranges, if there are as many deltas as maps
+abbrev pub RecutsAll : Turn → List TokenRange → List MapRow → List DeltaBookRow → MapChange → Type 0
+RecutsAll turn ranges book deltas change = length book ≡ length deltas → maps_after change book ≡ each_map (recut_rows turn ranges) book deltas

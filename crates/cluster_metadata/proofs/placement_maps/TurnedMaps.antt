@@ -11,7 +11,6 @@ use Rattle.placement_deltas.specs.declared.book.DeltaBookRow.{DeltaBookRow}
 use Rattle.placement_deltas.specs.declared.delta_row.DeltaRow.{DeltaRow}
 use Rattle.placement_deltas.specs.declared.plan.Plan.{Plan}
 use Rattle.range_placements.specs.Changing.{row_changed}
-use Rattle.range_placements.specs.Editing.{Edits}
 use Rattle.range_placements.specs.declared.placement_row.PlacementRow.{PlacementRow}
 use Rattle.range_placements.specs.declared.row_changes.RowChange.{RowChange}
 use Rattle.sequence_plans.specs.Deltas.{AreDeltas, HasDeltas, IsExact, gained_by, lost_by, no_nodes}
@@ -31,12 +30,13 @@ use Rattle.cluster_metadata.proofs.placement_maps.EditedMaps.{RecutsAll}
 use Rattle.cluster_metadata.proofs.placement_maps.ExchangedMaps.{same_count}
 use Rattle.cluster_metadata.proofs.placement_maps.ImageMaps.{served_at}
 use Rattle.cluster_metadata.proofs.RunningLemmas.{place_within, value_at}
-use Rattle.cluster_metadata.specs.MapChanges.{each_edited, each_exchanged}
+use Rattle.cluster_metadata.specs.MapChanges.{each_exchanged, maps_after}
 use Rattle.cluster_metadata.specs.MapSteps.{MovesAt, MovesBy, MovesOf, Stays, deltas_of, no_deltas}
 use Rattle.cluster_metadata.specs.Maps.{AreMaps, IsMapOf, placement_row, placement_rows}
 use Rattle.cluster_metadata.specs.Running.{HaveDeltas, IsRunning, movement_row, phase_of, plan_of}
 use Rattle.cluster_metadata.specs.Served.{served_by}
 use Rattle.cluster_metadata.specs.Turns.{each_map, recut_rows, row_to, row_with, turned, turned_at, turned_rows, undoing}
+use Rattle.cluster_metadata.specs.declared.map_change.MapChange.{MapChange}
 use Rattle.cluster_metadata.specs.declared.map_row.MapRow.{MapRow}
 use Rattle.cluster_metadata.specs.declared.running.Running.{Running}
 use Rattle.cluster_metadata.specs.declared.turn.Turn.{Turn}
@@ -234,16 +234,16 @@ module _ (image : Image) (book : List MapRow) (running : List Running) (at : ℕ
       (maps_turned image after (gained_by image plan.row) (lost_by image plan.row) (deltas_of (cancel_delta phase.Mid) image plan.row) ReadsBack (back_turns image plan.row) book plan.swap steps.cuts
       (moved after (λ s. cancel_delta phase.Mid) steps.moves) are held.swaps)
 
-  pub finish_maps : (after : Image) (edits : List Edits) → RecutsAll Writes (rows_between (cuts after)) book plan.lose edits → AllByRecursion IsToken (cuts after) → MovesOf image after at (λ s. step_delta goal.Finish)
-      → AreMaps after (each_edited edits book)
-  finish_maps after edits sets tokens moves =
+  pub finish_maps : (after : Image) (made : MapChange) → RecutsAll Writes (rows_between (cuts after)) book plan.lose made → AllByRecursion IsToken (cuts after) → MovesOf image after at (λ s. step_delta goal.Finish)
+      → AreMaps after (maps_after made book)
+  finish_maps after made sets tokens moves =
       subst (AreMaps after) (sym (sets (same_count image book plan.lose no_nodes (lost_by image plan.row) are held.loses)))
       (maps_recut image after no_nodes (lost_by image plan.row) (deltas_of (step_delta goal.Finish) image plan.row) Writes (finish_turns image plan.row) book plan.lose tokens
       (moved after (λ s. step_delta goal.Finish) moves) are held.loses)
 
-  pub end_maps : (after : Image) (edits : List Edits) → RecutsAll (undoing (phase_of m)) (rows_between (cuts after)) book plan.gain edits → is_mid s.phase ≡ false → AllByRecursion IsToken (cuts after)
-      → MovesOf image after at (λ s. cancel_delta s.phase) → AreMaps after (each_edited edits book)
-  end_maps after edits sets early tokens moves =
+  pub end_maps : (after : Image) (made : MapChange) → RecutsAll (undoing (phase_of m)) (rows_between (cuts after)) book plan.gain made → is_mid s.phase ≡ false → AllByRecursion IsToken (cuts after)
+      → MovesOf image after at (λ s. cancel_delta s.phase) → AreMaps after (maps_after made book)
+  end_maps after made sets early tokens moves =
       let phase : s.phase ≡ phase_of m = ap (λ (q : SeqRow). q.phase) (sym own) in
       subst (AreMaps after) (sym (sets (same_count image book plan.gain (gained_by image plan.row) no_nodes are held.gains)))
       (subst (λ p. AreMaps after (each_map (recut_rows (undoing p) (rows_between (cuts after))) book plan.gain)) phase
@@ -251,8 +251,8 @@ module _ (image : Image) (book : List MapRow) (running : List Running) (at : ℕ
       (moved after (λ s. cancel_delta s.phase) moves) are held.gains))
 
 -- a movement that begins changes no set
-pub begin_maps : (image after : Image) (book : List MapRow) (gained lost : Replication → ℤ → List ℕ) (deltas : List DeltaBookRow) (edits : List Edits) → RecutsAll Keep (rows_between (cuts after)) book deltas edits
-    → AreMaps image book → AreDeltas (replications_of image.keyspaces) gained lost deltas → AllByRecursion IsToken (cuts after) → MovesBy image after no_deltas → AreMaps after (each_edited edits book)
-begin_maps image after book gained lost deltas edits sets are exact tokens moves =
+pub begin_maps : (image after : Image) (book : List MapRow) (gained lost : Replication → ℤ → List ℕ) (deltas : List DeltaBookRow) (made : MapChange) → RecutsAll Keep (rows_between (cuts after)) book deltas made
+    → AreMaps image book → AreDeltas (replications_of image.keyspaces) gained lost deltas → AllByRecursion IsToken (cuts after) → MovesBy image after no_deltas → AreMaps after (maps_after made book)
+begin_maps image after book gained lost deltas made sets are exact tokens moves =
     subst (AreMaps after) (sym (sets (same_count image book deltas gained lost are exact)))
     (maps_recut image after gained lost no_deltas Keep (λ r x reads writes. λ i. (changed_none reads i, changed_none writes i)) book deltas tokens moves are exact)

@@ -21,13 +21,7 @@ turned_none ReadsBack reads writes gained lost none one = λ i. (unchanged reads
 turned_none WritesBack reads writes gained lost none one = λ i. (reads, unchanged writes lost gained one none i)
 
 module _ (turn : Turn) (delta : List DeltaRow) (at : ℕ) (row : PlacementRow) (changes : List RowChange) where
-  -- so no new sets are needed there
-  pub turned_kept : delta_at delta (last_token row.right) ≡ ([], []) → AddsTurned turn delta at row changes changes
-  turned_kept nothing done rest here =
-      let placement : turned turn (row.reads, row.writes) (delta_at delta (last_token row.right)) ≡ (row.reads, row.writes) =
-      ap (turned turn (row.reads, row.writes)) nothing ∙ turned_none turn row.reads row.writes [] [] refl refl in
-      ap (λ (p : List ℕ × List ℕ). with_changes changes (done ++ (record { right = row.right; reads = p.0; writes = p.1 }) ∷ rest)) (sym placement)
-
+  -- new sets added for a row that the delta changes
   pub turned_added : (c : RowChange) → c.at ≡ at → (c.reads, c.writes) ≡ turned turn (row.reads, row.writes) (delta_at delta (last_token row.right)) → AddsTurned turn delta at row changes (changes ++ c ∷ [])
   turned_added c stands sets done rest here =
       exchanged_last changes c (done ++ row ∷ rest)

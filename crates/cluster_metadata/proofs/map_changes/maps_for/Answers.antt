@@ -20,7 +20,7 @@ use Rattle.cluster_metadata.specs.Turns.{undoing}
 use Rattle.cluster_metadata.specs.declared.change.Change.{Change}
 use Rattle.cluster_metadata.specs.declared.change.Change.TheVariants.{Begun}
 use Rattle.cluster_metadata.specs.declared.map_change.MapChange.{MapChange}
-use Rattle.cluster_metadata.specs.declared.map_change.MapChange.TheVariants.{Rows, Sets}
+use Rattle.cluster_metadata.specs.declared.map_change.MapChange.TheVariants.{Sets}
 use Rattle.cluster_metadata.specs.declared.map_row.MapRow.{MapRow}
 use Rattle.cluster_metadata.specs.declared.turn.Turn.{Turn}
 use Rattle.cluster_metadata.specs.declared.turn.Turn.TheVariants as turn
@@ -43,12 +43,12 @@ returns-in_ok-next-in-Begun c =
     let own : HasCuts (changed image change) b.plan = begun_cuts image change b.at b.sequences b.plan b.is c.requires.brings in
     let cut = c.as_slice-cuts.ensures ∙ ap (λ (p : Plan). p.cuts) c.get-plan.ensures ∙ own.0 in
     let maps = c.args.maps.now in
-    let edits = c.in_ok-next-in-Begun.next.items in
-    let sets : RecutsAll turn.Keep (rows_between (cuts (changed image change))) maps b.plan.gain edits =
-    subst (λ (p : Plan). RecutsAll turn.Keep (rows_between (cuts (changed image change))) maps p.gain edits) c.get-plan.ensures
-    (subst (λ (ts : List ℤ). RecutsAll turn.Keep (rows_between ts) maps c.get-plan.result.now.gain edits) cut c.in_ok-next-in-Begun.ensures) in
-    made_from image change (Rows c.in_ok-next-in-Begun.next) maps c.requires.maps
-    (begin_maps image (changed image change) maps (gained_by (changed image (Begun b.at b.plan b.sequences)) b.plan.row) no_nodes b.plan.gain edits sets c.requires.maps (begun_deltas image change b.at b.sequences b.plan b.is c.requires.brings).gains
+    let next = c.in_ok-next-in-Begun.next in
+    let sets : RecutsAll turn.Keep (rows_between (cuts (changed image change))) maps b.plan.gain next =
+    subst (λ (p : Plan). RecutsAll turn.Keep (rows_between (cuts (changed image change))) maps p.gain next) c.get-plan.ensures
+    (subst (λ (ts : List ℤ). RecutsAll turn.Keep (rows_between ts) maps c.get-plan.result.now.gain next) cut c.in_ok-next-in-Begun.ensures) in
+    made_from image change next maps c.requires.maps
+    (begin_maps image (changed image change) maps (gained_by (changed image (Begun b.at b.plan b.sequences)) b.plan.row) no_nodes b.plan.gain next sets c.requires.maps (begun_deltas image change b.at b.sequences b.plan b.is c.requires.brings).gains
     (subst (AllByRecursion IsToken) own.0 own.1) (begun_moves image change b.at b.sequences b.plan b.is c.requires.steps))
 
 -- new sets that the deltas of a plan give lead to the maps of the next image, where those of an equal plan do
@@ -101,12 +101,12 @@ returns-in_ok-next-in-Finished c =
     let found = finished_at image change s.at s.sequences s.left s.tokens s.is c.requires.follows in
     let cut : cuts (changed image change) ≡ cuts_among s.tokens s.sequences = ap (λ (ch : Change). cuts (changed image ch)) s.is in
     let maps = c.args.maps.now in
-    let edits = c.in_ok-next-in-Finished.next.items in
-    let sets : RecutsAll turn.Writes (rows_between (cuts (changed image change))) maps (plan_of c.index-running-at-in-Finished.result).lose edits =
-    subst (λ (p : Plan). RecutsAll turn.Writes (rows_between (cuts (changed image change))) maps p.lose edits) c.plan-in-Finished.ensures
-    (subst (λ (ts : List ℤ). RecutsAll turn.Writes (rows_between ts) maps c.plan-in-Finished.result.now.lose edits) (sym cut) c.in_ok-next-in-Finished.ensures.maps) in
-    made_from image change (Rows c.in_ok-next-in-Finished.next) maps c.requires.maps
-    (finish_maps image maps c.args.running.now s.at c.index-running-at-in-Finished.result found.row c.requires.maps c.requires.running c.requires.deltas found.here c.index-running-at-in-Finished.is (changed image change) edits sets
+    let next = c.in_ok-next-in-Finished.next in
+    let sets : RecutsAll turn.Writes (rows_between (cuts (changed image change))) maps (plan_of c.index-running-at-in-Finished.result).lose next =
+    subst (λ (p : Plan). RecutsAll turn.Writes (rows_between (cuts (changed image change))) maps p.lose next) c.plan-in-Finished.ensures
+    (subst (λ (ts : List ℤ). RecutsAll turn.Writes (rows_between ts) maps c.plan-in-Finished.result.now.lose next) (sym cut) c.in_ok-next-in-Finished.ensures.maps) in
+    made_from image change next maps c.requires.maps
+    (finish_maps image maps c.args.running.now s.at c.index-running-at-in-Finished.result found.row c.requires.maps c.requires.running c.requires.deltas found.here c.index-running-at-in-Finished.is (changed image change) next sets
     (subst (AllByRecursion IsToken) (sym cut) c.in_ok-next-in-Finished.ensures.tokens) (finished_moves image change s.at s.sequences s.left s.tokens s.is c.requires.steps))
 
 pub returns-in_ok-next-in-Ended : goal.returns-in_ok-next-in-Ended
@@ -118,11 +118,11 @@ returns-in_ok-next-in-Ended c =
     let cut : cuts (changed image change) ≡ cuts_among image.tokens s.sequences = ap (λ (ch : Change). cuts (changed image ch)) s.is in
     let ranges = rows_between (cuts (changed image change)) in
     let maps = c.args.maps.now in
-    let edits = c.in_ok-next-in-Ended.next.items in
-    let sets : RecutsAll (undoing (phase_of c.index-running-at-in-Ended.result)) ranges maps (plan_of c.index-running-at-in-Ended.result).gain edits =
-    subst (λ (p : Plan). RecutsAll (undoing (phase_of c.index-running-at-in-Ended.result)) ranges maps p.gain edits) c.plan-in-Ended.ensures
-    (subst (λ (t : Turn). RecutsAll t ranges maps c.plan-in-Ended.result.now.gain edits) c.undoing-turn.ensures
-    (subst (λ (ts : List ℤ). RecutsAll c.undoing-turn.result (rows_between ts) maps c.plan-in-Ended.result.now.gain edits) (sym cut) c.in_ok-next-in-Ended.ensures.maps)) in
-    made_from image change (Rows c.in_ok-next-in-Ended.next) maps c.requires.maps
-    (end_maps image maps c.args.running.now s.at c.index-running-at-in-Ended.result found.row c.requires.maps c.requires.running c.requires.deltas found.here c.index-running-at-in-Ended.is (changed image change) edits sets found.holds
+    let next = c.in_ok-next-in-Ended.next in
+    let sets : RecutsAll (undoing (phase_of c.index-running-at-in-Ended.result)) ranges maps (plan_of c.index-running-at-in-Ended.result).gain next =
+    subst (λ (p : Plan). RecutsAll (undoing (phase_of c.index-running-at-in-Ended.result)) ranges maps p.gain next) c.plan-in-Ended.ensures
+    (subst (λ (t : Turn). RecutsAll t ranges maps c.plan-in-Ended.result.now.gain next) c.undoing-turn.ensures
+    (subst (λ (ts : List ℤ). RecutsAll c.undoing-turn.result (rows_between ts) maps c.plan-in-Ended.result.now.gain next) (sym cut) c.in_ok-next-in-Ended.ensures.maps)) in
+    made_from image change next maps c.requires.maps
+    (end_maps image maps c.args.running.now s.at c.index-running-at-in-Ended.result found.row c.requires.maps c.requires.running c.requires.deltas found.here c.index-running-at-in-Ended.is (changed image change) next sets found.holds
     (subst (AllByRecursion IsToken) (sym cut) c.in_ok-next-in-Ended.ensures.tokens) (ended_moves image change s.at s.sequences s.is c.requires.steps))
