@@ -15,7 +15,7 @@ use Rattle.transformations.specs.declared.sequence.SeqRow.{SeqRow}
 use Rattle.cluster_metadata.proofs.MovementPlaces.{at_place, later_others, less_other}
 use Rattle.cluster_metadata.proofs.RunningLemmas.{value_at}
 use Rattle.cluster_metadata.specs.Locking.{AreLocked}
-use Rattle.cluster_metadata.specs.Locks.{AreLocksOf}
+use Rattle.sequence_plans.specs.Locks.{AreLocksOf}
 use Rattle.cluster_metadata.specs.Running.{IsRunning, movement_row, moving_node}
 use Rattle.cluster_metadata.specs.declared.running.Running.{Running}
 

@@ -45,7 +45,7 @@ use Rattle.cluster_metadata.specs.ImageFaults.{FindsOverlap, IsCause, overlap_of
 use Rattle.cluster_metadata.specs.declared.image_fault.ImageFault.{ImageFault}
 use Rattle.cluster_metadata.specs.declared.image_fault.ImageFault.TheVariants.{Bad, Memory}
 use Rattle.cluster_metadata.specs.Locking.{AreLocked, lock_of}
-use Rattle.cluster_metadata.specs.Locks.{AreLocksOf, IsLockOf}
+use Rattle.sequence_plans.specs.Locks.{AreLocksOf, IsLockOf}
 use Rattle.cluster_metadata.specs.Running.{HaveDeltas, IsRunning, movement_row, moving_node, plan_of}
 use Rattle.cluster_metadata.specs.declared.running.Running.{Running}
 

@@ -41,7 +41,7 @@ use Rattle.cluster_metadata.proofs.LocksKept.{lock_alike}
 use Rattle.cluster_metadata.proofs.PrepareLemmas.{prepared_begun}
 use Rattle.cluster_metadata.specs.Change.{changed, plan_lock}
 use Rattle.cluster_metadata.specs.Locking.{MayLock}
-use Rattle.cluster_metadata.specs.Locks.{AreLocksOf, IsLockOf}
+use Rattle.sequence_plans.specs.Locks.{AreLocksOf, IsLockOf}
 use Rattle.cluster_metadata.specs.Permission.{IsPermitted}
 use Rattle.cluster_metadata.specs.declared.change.Change.{Change}
 use Rattle.cluster_metadata.specs.declared.change.Change.TheVariants.{Begun}

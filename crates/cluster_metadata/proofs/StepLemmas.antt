@@ -27,7 +27,7 @@ use Rattle.transformations.specs.declared.sequence.SeqRow.{SeqRow}
 use Rattle.cluster_metadata.proofs.PlanLemmas.{deltas_elsewhere}
 use Rattle.cluster_metadata.proofs.MovementPlaces.{at_index, others_at, stepped_at}
 use Rattle.cluster_metadata.specs.Change.{Begins, HasCuts, IsChange, in_phase, plan_lock}
-use Rattle.cluster_metadata.specs.Locks.{IsLockOf}
+use Rattle.sequence_plans.specs.Locks.{IsLockOf}
 use Rattle.cluster_metadata.proofs.LocksKept.{lock_later}
 use Rattle.cluster_metadata.specs.Nodes.{IsLeftRow, nodes_left}
 use Rattle.cluster_metadata.specs.declared.change.Change.TheVariants.{Begun, Started, Mid, Finished}

@@ -6,7 +6,7 @@ use Rattle.cluster_terms.specs.Arc.{IsToken}
 use Rattle.cluster_terms.specs.NodeRow.{row_of}
 use Rattle.locked_ranges.specs.Table.{lock_row}
 use Rattle.token_ring.specs.declared.book.LockRow.{LockRow}
-use Rattle.cluster_metadata.specs.Locks.{IsLockOf}
+use Rattle.sequence_plans.specs.Locks.{IsLockOf}
 use Rattle.node_directory.specs.Directory.{Registry, other_rows}
 use Rattle.placement_deltas.specs.declared.plan.Plan.{Plan}
 use Rattle.sequence_plans.specs.Deltas.{HasDeltas}
@@ -126,9 +126,13 @@ pub record Begins (image : Image) (row : SeqRow) (change : Change) : Type 0 wher
   pub plan : BringsPlan image change
   pub begins : BeginsWith row change
 
+-- a plan without its cuts, which nothing needs once its movement has begun
+abbrev pub uncut : Plan → Plan
+uncut plan = record plan { cuts = [] }
+
 -- the plans of the movements in flight after a change, from those before it
 abbrev pub plans_after : List Plan → Change → List Plan
-plans_after plans (Begun at plan sequences) = insert plans at plan
+plans_after plans (Begun at plan sequences) = insert plans at (uncut plan)
 plans_after plans (Finished at left tokens sequences) = remove plans at
 plans_after plans (Ended at sequences) = remove plans at
 plans_after plans _ = plans

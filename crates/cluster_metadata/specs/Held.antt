@@ -6,7 +6,7 @@ use Rattle.transformations.specs.Meeting.{HaveReplications}
 use Rattle.transformations.specs.Valid.{IsValid}
 use Rattle.transformations.specs.declared.image.Image.{Image}
 use Rattle.cluster_metadata.specs.Change.{directory_of}
-use Rattle.cluster_metadata.specs.Locks.{AreLocksOf}
+use Rattle.sequence_plans.specs.Locks.{AreLocksOf}
 use Rattle.cluster_metadata.specs.Maps.{AreMaps}
 use Rattle.cluster_metadata.specs.Running.{HaveDeltas, IsRunning}
 use Rattle.cluster_metadata.specs.declared.map_row.MapRow.{MapRow}

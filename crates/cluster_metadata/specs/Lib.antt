@@ -4,7 +4,6 @@ pub mod CutDeltas
 pub mod Held
 pub mod ImageFaults
 pub mod Locking
-pub mod Locks
 pub mod MapBasis
 pub mod MapChanges
 pub mod MapSteps

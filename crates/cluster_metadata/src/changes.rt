@@ -9,7 +9,7 @@ ghost use Rattle.transformations.specs.Refusals.{early_refusal_of, prepared_by, 
 ghost use Rattle.transformations.specs.Valid.{IsSound};
 ghost use Rattle.transformations.specs.declared.command.Command.TheVariants as command;
 ghost use Rattle.cluster_metadata.specs.Change.{IsChange};
-ghost use Rattle.cluster_metadata.specs.Locks.{AreLocksOf};
+ghost use Rattle.sequence_plans.specs.Locks.{AreLocksOf};
 ghost use Rattle.cluster_metadata.specs.Permission.{AdmitsUnless};
 
 use crate::admit_fault::AdmitFault;

@@ -6,7 +6,7 @@ ghost use Rattle.std.specs.List.{insert, remove};
 ghost use Rattle.std.specs.List.Sorted.{IsStrictlySortedBy};
 ghost use Rattle.transformations.specs.Orders.{by_node};
 ghost use Rattle.transformations.specs.declared.sequence.Phase.TheVariants as phase;
-ghost use Rattle.cluster_metadata.specs.Change.{FitsNodes, Follows, StandsAt, StandsBeforeMid, changed, directory_of, grown_to, plans_after};
+ghost use Rattle.cluster_metadata.specs.Change.{FitsNodes, Follows, StandsAt, StandsBeforeMid, changed, directory_of, grown_to, plans_after, uncut};
 ghost use Rattle.cluster_metadata.specs.Locking.{HoldsLock, IsFree, MayLock, locks_after};
 ghost use Rattle.cluster_metadata.specs.Change.{plan_lock};
 ghost use Rattle.cluster_metadata.specs.MapChanges.{HoldMaps, maps_after};
@@ -19,9 +19,11 @@ use crate::map_change::MapChange;
 use crate::new_lock::NewLock;
 use crate::nodes::{mark_left, register, unregister};
 use crate::running::Running;
+use cluster_terms::TokenList;
 use locked_ranges::LockTable;
 use node_directory::Directory;
 use placement_deltas::Plan;
+use std::alloc::Global;
 use std::mem::swap;
 use transformations::{Image, SeqRow, SeqRows};
 
@@ -52,6 +54,15 @@ fn move_over(running: &mut Vec<Running>, room: &mut Vec<Running>)
     swap(running, room);
 }
 
+/// A plan without its cuts, which nothing needs once its movement has begun.
+fn without_cuts(alloc: Global, plan: Plan) -> Plan
+    ensures { result ≡ uncut plan }
+{
+    let mut plan = plan;
+    plan.cuts = TokenList::empty(alloc);
+    plan
+}
+
 /// Locks the ranges of a movement that begins, and inserts its value. The lock takes the same place in the table.
 fn begin(
     sequences: &[SeqRow],
@@ -72,7 +83,7 @@ fn begin(
     requires spare { length sequences.now < lock.room }
     requires free { IsFree plan locks.old }
     ensures running { IsRunning (insert sequences.now at plan.row) running.new.items }
-    ensures plans { map plan_of running.new.items ≡ insert (map plan_of running.old.items) at plan }
+    ensures plans { map plan_of running.new.items ≡ insert (map plan_of running.old.items) at (uncut plan) }
     ensures locks { locks.new ≡ insert locks.old at (plan_lock plan) }
     ensures empty { vec_len room.new ≡ 0 }
 {
@@ -83,6 +94,7 @@ fn begin(
     let row = &plan.row;
     let key = locks.lock_in(at, row.node, ranges, lock_room);
     move_over(running, room);
+    let plan = without_cuts(*running.allocator(), plan);
     put(running, at, Running::begin(plan, key));
 }
 

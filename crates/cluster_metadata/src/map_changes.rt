@@ -1,13 +1,17 @@
 //! How a change of an image changes its placement maps.
 
-ghost use Rattle.std.specs.Prelude.{◌≡◌, ◌-◌, ◌<◌, ◌^◌, length, IfOk, OnOk};
+ghost use Rattle.std.specs.Prelude.{◌≡◌, ◌-◌, ◌<◌, ◌^◌, [], length, IfOk, OnOk};
 ghost use Rattle.std.specs.List.{AllByRecursion};
 ghost use Rattle.cluster_terms.specs.Arc.{IsToken};
 ghost use Rattle.cluster_terms.specs.Row.{rows_between};
+ghost use Rattle.sequence_plans.specs.Deltas.{HasDeltas};
+ghost use Rattle.transformations.specs.DeltaSteps.{step_delta};
+ghost use Rattle.transformations.specs.Rings as spec_rings;
 ghost use Rattle.transformations.specs.Rings.{cuts_among};
 ghost use Rattle.transformations.specs.Valid.{IsValid};
+ghost use Rattle.transformations.specs.declared.sequence.Goal.TheVariants as spec_goal;
 ghost use Rattle.cluster_metadata.specs.Change as spec;
-ghost use Rattle.cluster_metadata.specs.MapSteps.{MapSteps};
+ghost use Rattle.cluster_metadata.specs.MapSteps.{MapSteps, MovesBy, deltas_of, no_deltas};
 ghost use Rattle.cluster_metadata.specs.MapChanges.{BringsMaps, maps_after};
 ghost use Rattle.cluster_metadata.specs.Maps.{AreMaps};
 ghost use Rattle.cluster_metadata.specs.Running.{HaveDeltas, IsRunning};
@@ -25,7 +29,7 @@ use crate::turn::Turn;
 use crate::turning::turned_book;
 use cluster_terms::{Memory, PairList, Token, TryCopy, rows_between};
 use node_directory::Directory;
-use placement_deltas::DeltaBook;
+use placement_deltas::{DeltaBook, Plan};
 use std::alloc::Global;
 use transformations::{Image, KeyspaceRows, SeqRows, cuts_among};
 
@@ -122,14 +126,67 @@ fn recut_among(
     recut_at(alloc, cuts.as_slice(), maps, turn, deltas)
 }
 
+/// The change of the placement maps by a movement that begins. If it brings no pair in, the cuts stay, and so do the
+/// maps. Otherwise the maps get the rows between the cuts of the plan.
+fn maps_begun(
+    alloc: Global,
+    image: &Image,
+    maps: &MapBook,
+    plan: &Plan,
+    change: &Change,
+) -> Result<MapChange, Memory>
+    requires own { spec.HasCuts (spec.changed image.now change.now) plan.now }
+    requires stay { plan.now.row.in_pairs ≡ []
+        → spec_rings.cuts (spec.changed image.now change.now) ≡ spec_rings.cuts image.now }
+    requires moves { MovesBy image.now (spec.changed image.now change.now) no_deltas }
+    requires deltas { HasDeltas (spec.changed image.now change.now) plan.now }
+    requires maps { AreMaps image.now maps.now }
+    ensures { IfOk result (BringsMaps image.now change.now) }
+{
+    if plan.row.in_pairs.as_slice().is_empty() {
+        return Ok(MapChange::Keep);
+    }
+    let next = recut_at(alloc, plan.cuts.as_slice(), maps, Turn::Keep, &plan.gain)?;
+    Ok(next)
+}
+
+/// The change of the placement maps by a movement that is finished, with the ring after it and the other movements. If
+/// it takes no pair out, the cuts stay, since the pairs that it brings go into the ring. Then only sets change.
+fn maps_finished(
+    alloc: Global,
+    image: &Image,
+    maps: &MapBook,
+    plan: &Plan,
+    tokens: &PairList,
+    sequences: &SeqRows,
+    change: &Change,
+) -> Result<MapChange, Memory>
+    requires own { spec_rings.cuts (spec.changed image.now change.now) ≡ cuts_among tokens.now sequences.now }
+    requires stay { plan.now.row.out_pairs ≡ []
+        → spec_rings.cuts (spec.changed image.now change.now) ≡ spec_rings.cuts image.now }
+    requires moves { MovesBy image.now (spec.changed image.now change.now)
+        (deltas_of (step_delta spec_goal.Finish) image.now plan.now.row) }
+    requires deltas { HasDeltas image.now plan.now }
+    requires maps { AreMaps image.now maps.now }
+    ensures { IfOk result (BringsMaps image.now change.now) }
+{
+    let lose = &plan.lose;
+    if plan.row.out_pairs.as_slice().is_empty() {
+        return Ok(MapChange::Sets(turned_book(alloc, Turn::Writes, maps, lose)?));
+    }
+    let next = recut_among(alloc, tokens, sequences, maps, Turn::Writes, lose)?;
+    Ok(next)
+}
+
 /// How a change changes the placement maps. The directory must hold the nodes of the image. Fails only if memory runs
 /// out.
 ///
 /// A change of nodes keeps the maps, and so does one of keyspaces that leaves their replications. New tokens place them
 /// anew, and new keyspaces those under new replications; the other maps move. If a movement begins or ends, the maps
 /// keep their rows, apart from those whose sets the deltas of the movement change and those that end or begin at a cut
-/// that is new or goes. This needs the cuts of the next image: those of the plan, or else a pass over its tokens. All
-/// other changes give new sets to the rows that the deltas change.
+/// that is new or goes. This needs the cuts of the next image: those of the plan, or else a pass over its tokens. But a
+/// movement that brings no pair in keeps the maps when it begins, and one that takes none out changes sets alone when it
+/// is finished, since the cuts stay. All other changes give new sets to the rows that the deltas change.
 pub fn maps_for(
     alloc: Global,
     image: &Image,
@@ -154,12 +211,7 @@ pub fn maps_for(
         Change::Registered(_) | Change::Unregistered { .. } => Ok(MapChange::Keep),
         Change::Tokens(tokens) => maps_on(alloc, image, directory, tokens, change),
         Change::Keyspaces(rows) => maps_under(alloc, image, directory, maps, rows, change),
-        Change::Begun { plan, .. } => {
-            let plan = plan.get();
-            let cuts = plan.cuts.as_slice();
-            let next = recut_at(alloc, cuts, maps, Turn::Keep, &plan.gain)?;
-            Ok(next)
-        }
+        Change::Begun { plan, .. } => maps_begun(alloc, image, maps, plan.get(), change),
         Change::Started { at, .. } => {
             let gain = &running[*at].plan().gain;
             Ok(MapChange::Sets(turned_book(alloc, Turn::Writes, maps, gain)?))
@@ -174,9 +226,8 @@ pub fn maps_for(
             sequences,
             ..
         } => {
-            let lose = &running[*at].plan().lose;
-            let next = recut_among(alloc, tokens, sequences, maps, Turn::Writes, lose)?;
-            Ok(next)
+            let plan = running[*at].plan();
+            maps_finished(alloc, image, maps, plan, tokens, sequences, change)
         }
         Change::Ended { at, sequences } => {
             let movement = &running[*at];

@@ -15,7 +15,7 @@ ghost use Rattle.transformations.specs.Valid.{IsValid};
 ghost use Rattle.cluster_metadata.specs.Change.{directory_of};
 ghost use Rattle.cluster_metadata.specs.CutDeltas.{ActsByDelta, CutsMove, DeltasSameAcross};
 ghost use Rattle.cluster_metadata.specs.ImageFaults.{IsCause};
-ghost use Rattle.cluster_metadata.specs.Locks.{AreLocksOf};
+ghost use Rattle.sequence_plans.specs.Locks.{AreLocksOf};
 ghost use Rattle.cluster_metadata.specs.Maps.{placement_rows};
 ghost use Rattle.cluster_metadata.specs.Served as spec;
 
@@ -160,16 +160,18 @@ impl Metadata {
     /// register takes memory for the nodes once more, and for the directory at each 64th id alone; it stays unused if
     /// they have memory to spare. A command that prepares no movement counts no walk.
     ///
-    /// If the command prepares a movement, its plan is made: the image is copied, and the ranges of all movements are
-    /// found anew. For m movements with the new one and r replications, `ring_reach::reached` is called m·r times.
-    /// Under each replication, two walks are counted for each row between cuts that is in the ranges of the new
-    /// movement. See `sequence_plans::plan_in`. `Locked` is the only refusal that comes after walks.
+    /// If the command prepares a movement, its plan is made: the movements are copied, and the ranges of the new one are
+    /// found. If it may change the ranges of the others, these are found anew: for m movements with the new one and r
+    /// replications, `ring_reach::reached` is then called m·r times, and else r times. Under each replication, two walks
+    /// are counted for each row between cuts that is in the ranges of the new movement. See
+    /// `sequence_plans::plan_beside`. `Locked` is the only refusal that comes after walks.
     ///
     /// The placement maps stay if a node is registered or unregistered. A start, the step half way and a cancel half
-    /// way make new sets for the rows that the deltas of the movement change, and search the delta for each row. If a
-    /// movement begins or ends, the image is copied, and one pass over the tokens makes the next image's cuts. Under
-    /// each replication one pass over the rows between these makes the rows that are new or change, and takes memory
-    /// for all rows, which stays unused if the map has memory to spare. An unsafe join places the maps anew: under each
+    /// way make new sets for the rows that the deltas of the movement change, and search the delta for each row. So does
+    /// a finish of a movement that takes no pair out, and the maps stay if a movement that brings no pair in begins. Any
+    /// other beginning or end of a movement needs the cuts of the next image: those of the plan, or one pass over the
+    /// tokens. Under each replication one pass over the rows between these makes the rows that are new or change, and
+    /// takes memory for all rows, which stays unused if the map has memory to spare. An unsafe join places the maps anew: under each
     /// replication, one walk for each row between the cuts of the next image, which `walks` doesn't count. A command on
     /// keyspaces places that of a new replication, and keeps the others. It takes memory for the list of the maps, and
     /// none for the rows of those that stay.

@@ -3,7 +3,7 @@ ghost use Rattle.transformations.specs.History.{is_command, most_epochs};
 ghost use Rattle.transformations.specs.Refusals.{early_refusal_of, prepared_by, refusal_of};
 ghost use Rattle.transformations.specs.Valid.{IsSound, IsValid};
 ghost use Rattle.cluster_metadata.specs.Change.{grown_to};
-ghost use Rattle.cluster_metadata.specs.Locks.{AreLocksOf};
+ghost use Rattle.sequence_plans.specs.Locks.{AreLocksOf};
 ghost use Rattle.cluster_metadata.specs.Maps.{AreMaps};
 ghost use Rattle.cluster_metadata.specs.Running.{HaveDeltas, IsRunning};
 ghost use Rattle.cluster_metadata.specs.Permission.{AdmitsUnless};

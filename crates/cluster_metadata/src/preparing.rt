@@ -1,6 +1,6 @@
 //! Begins a movement, unless its ranges are locked.
 
-ghost use Rattle.std.specs.Prelude.{◌≡◌, ◌≤◌, ◌==◌, false, true, None, length, IfOk, IfSome};
+ghost use Rattle.std.specs.Prelude.{◌≡◌, ◌≤◌, ◌==◌, [], false, true, None, length, IfOk, IfSome};
 ghost use Rattle.std.specs.List.{AllByRecursion, insert};
 ghost use Rattle.std.specs.List.Sorted.{IsStrictlySortedBy};
 ghost use Rattle.cluster_terms.specs.Ascending.{put};
@@ -12,7 +12,7 @@ ghost use Rattle.transformations.specs.declared.sequence.Phase.TheVariants as ph
 ghost use Rattle.transformations.specs.declared.sequence.SeqRow.{SeqRow};
 ghost use Rattle.sequence_plans.specs.Deltas.{HasDeltas};
 ghost use Rattle.cluster_metadata.specs.Change.{Begins};
-ghost use Rattle.cluster_metadata.specs.Locks.{AreLocksOf, IsLockOf};
+ghost use Rattle.sequence_plans.specs.Locks.{AreLocksOf, IsLockOf};
 ghost use Rattle.cluster_metadata.specs.Change.{HasCuts, plan_lock};
 ghost use Rattle.cluster_metadata.specs.Permission.{AdmitsUnless};
 
@@ -23,10 +23,11 @@ use cluster_terms::{Memory, NodeId, Steps, TryCopy};
 use locked_ranges::LockTable;
 use node_directory::Directory;
 use placement_deltas::Plan;
-use sequence_plans::plan_in;
+use sequence_plans::plan_beside;
 use sequence_rows::{join_row, leave_row, move_row, replace_row};
 use std::alloc::Global;
 use std::sync::ledger::Ledger;
+use token_ring::LockRows;
 use transformations::{Command, Image, Refusal, SeqRow};
 
 /// The position at which the movement of a node that has none is put among the movements, in the order of nodes.
@@ -42,6 +43,15 @@ fn place_for(sequences: &[SeqRow], node: NodeId) -> usize
         }
     }
     sequences.len()
+}
+
+/// A plan without the ranges of other movements, which nothing needs once they are compared.
+fn without_others(alloc: Global, plan: Plan) -> Plan
+    ensures { result ≡ record plan { wide = [] } }
+{
+    let mut plan = plan;
+    plan.wide = LockRows::empty(alloc);
+    plan
 }
 
 /// The change that begins the movement of a node that has none, with its plan.
@@ -105,7 +115,7 @@ pub fn prepare<L: Ledger>(
     ensures change { IfOk result (Begins image.now row) }
     ensures refusal { AdmitsUnless (locked (with_movement image.now row) row) result }
 {
-    let plan = match plan_in(alloc, image, directory, row, walks) {
+    let plan = match plan_beside(alloc, image, directory, locks.rows(), row, walks) {
         Ok(plan) => plan,
         Err((_row, memory)) => return Err(AdmitFault::from(memory)),
     };
@@ -113,5 +123,5 @@ pub fn prepare<L: Ledger>(
     if let Some((node, end)) = locks.conflict(&plan.ranges, &plan.wide, cuts) {
         return Err(AdmitFault::Refused(Refusal::Locked(node, end)));
     }
-    Ok(begun(alloc, image, plan)?)
+    Ok(begun(alloc, image, without_others(alloc, plan))?)
 }

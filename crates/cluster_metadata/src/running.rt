@@ -9,7 +9,7 @@ ghost use Rattle.transformations.specs.declared.sequence.SeqRow.{SeqRow as Movem
 ghost use Rattle.sequence_plans.specs.Deltas.{HasDeltas};
 ghost use Rattle.sequence_plans.specs.Plan.{AreLocks, IsLockRow, IsPlan};
 ghost use Rattle.cluster_metadata.specs.ImageFaults.{FindsOverlap, IsCause, overlap_of, overlapping_at};
-ghost use Rattle.cluster_metadata.specs.Locks.{AreLocksOf};
+ghost use Rattle.sequence_plans.specs.Locks.{AreLocksOf};
 ghost use Rattle.cluster_metadata.specs.Locking.{AddsMovement, AreCutAt, AreLocked, lock_of};
 ghost use Rattle.cluster_metadata.specs.Running.{HaveDeltas, IsRunning, phase_of, plan_of, movement_row, moving_node};
 ghost use Rattle.cluster_metadata.specs.Turns.{undoing};

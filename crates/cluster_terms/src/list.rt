@@ -59,11 +59,26 @@ impl<T> SmallList<T> {
         }
     }
 
+    /// The empty list, with room for this many items. Fails only if memory runs out.
+    pub fn with_room(alloc: Global, count: usize) -> Result<Self, Memory>
+        ensures { IfOk result (λ list. list ≡ []) }
+    {
+        let items = Vec::with_capacity(alloc, count)?;
+        Ok(SmallList { items })
+    }
+
     /// The list of a vector's items. Takes no memory and copies nothing.
     pub fn from_vec(items: Vec<T>) -> Self
         ensures { result ≡ items.items }
     {
         SmallList { items }
+    }
+
+    /// The list's items as a vector. Takes no memory and copies nothing.
+    pub fn into_vec(self) -> Vec<T>
+        ensures { result.items ≡ self }
+    {
+        self.items
     }
 
     /// Adds an item at the end. If memory runs out, returns the item and leaves the list unchanged.
@@ -143,6 +158,17 @@ impl<T: Drop> SmallList<T> {
 }
 
 impl<T: Copy> SmallList<T> {
+    /// An equal list with room for `room` more items, or `Memory` if memory runs out. The cost is a copy of the items,
+    /// all at once.
+    pub fn copy_with_room(&self, room: usize) -> Result<Self, Memory>
+        ensures { IfOk result (λ copied. copied ≡ self.now) }
+    {
+        let count = self.items.len().saturating_add(room);
+        let mut items = Vec::with_capacity(*self.items.allocator(), count)?;
+        items.extend_from_slice(&self.items)?;
+        Ok(SmallList { items })
+    }
+
     /// Adds copies of these items at the end. If memory runs out, leaves the list unchanged. The cost is one pass over
     /// the new items, and a move of the others if the list has no memory to spare.
     pub fn extend(&mut self, items: &[T]) -> Result<(), Memory>

@@ -1,4 +1,4 @@
-ghost use Rattle.std.specs.Prelude.{◌≡◌, ◌≤◌, IfOk, IsTrue};
+ghost use Rattle.std.specs.Prelude.{◌≡◌, ◌≤◌, IsTrue};
 ghost use Rattle.cluster_terms.specs.Group.{nodes_of};
 ghost use Rattle.node_directory.specs.Members.{group_of};
 ghost use Rattle.node_directory.specs.Shape as spec;
@@ -6,8 +6,7 @@ ghost use Rattle.node_directory.specs.Tally.{IsComplete, group_tally};
 
 use crate::members::Members;
 use crate::tally::Tally;
-use cluster_terms::{Memory, Pair};
-use std::alloc::Global;
+use cluster_terms::Pair;
 
 /// The number of replicas that a group is to have in a ring, and how many of them may stand in a rack that already has
 /// a replica.
@@ -30,31 +29,31 @@ fn is_complete(members: &Members, tally: &Tally) -> bool
 }
 
 /// The tally of the pairs' nodes, with at most as many nodes and racks as replicas are asked for.
-fn tally_of<'a>(alloc: Global, members: &Members<'a>, pairs: &[Pair]) -> Result<Tally<'a>, Memory>
-    ensures { IfOk result (λ tally. tally ≡ group_tally (group_of members.now) (nodes_of pairs.now)) }
+fn tally_of<'a>(members: &Members<'a>, pairs: &[Pair]) -> Tally<'a>
+    ensures { result ≡ group_tally (group_of members.now) (nodes_of pairs.now) }
 {
-    let mut tally = Tally::new(alloc, members.rf(), members.rf())?;
+    let mut tally = Tally::new(members.rf(), members.rf());
     for pair in pairs {
         if is_complete(members, &tally) {
-            return Ok(tally);
+            return tally;
         }
-        tally.meet(members, pair.node)?;
+        tally.meet(members, pair.node);
     }
-    Ok(tally)
+    tally
 }
 
 /// The shape of a group in a ring of these pairs.
 ///
 /// Costs one pass over the pairs. The pass ends once it has met as many nodes and, in a datacenter, as many racks of
 /// the group as there are to be replicas. A pair costs a look at no more nodes and racks than that, and in a datacenter
-/// a look-up in the directory.
-pub fn shape_of(alloc: Global, members: &Members, pairs: &[Pair]) -> Result<Shape, Memory>
-    ensures shape { IfOk result (λ counted. counted ≡ spec.shape_of (nodes_of pairs.now) (group_of members.now)) }
-    ensures bound { IfOk result (λ counted. counted.wanted ≤ 16) }
+/// a look-up in the directory. Takes no memory.
+pub fn shape_of(members: &Members, pairs: &[Pair]) -> Shape
+    ensures shape { result ≡ spec.shape_of (nodes_of pairs.now) (group_of members.now) }
+    ensures bound { result.wanted ≤ 16 }
 {
-    let tally = tally_of(alloc, members, pairs)?;
-    Ok(Shape {
+    let tally = tally_of(members, pairs);
+    Shape {
         wanted: tally.node_count(),
         spare: members.rf() - tally.rack_count(),
-    })
+    }
 }

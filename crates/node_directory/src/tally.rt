@@ -1,4 +1,4 @@
-ghost use Rattle.std.specs.Prelude.{◌≡◌, length, nat_eq, IfOk, MatchResult};
+ghost use Rattle.std.specs.Prelude.{◌≡◌, ◌≤◌, length, nat_eq};
 ghost use Rattle.std.specs.List.{list_any};
 ghost use Rattle.std.specs.Set.{is_member};
 ghost use Rattle.std.specs.Str.{bytes_eq};
@@ -6,20 +6,20 @@ ghost use Rattle.node_directory.specs.Members.{group_of};
 ghost use Rattle.node_directory.specs.Tally as spec;
 
 use crate::members::Members;
-use cluster_terms::{Memory, NodeId};
-use std::alloc::Global;
+use cluster_terms::{Few, NodeId};
 use std::marker::Model;
 
-/// The distinct nodes and racks met so far, up to the numbers asked for.
+/// The distinct nodes and racks met so far, up to the numbers asked for, which are at most 16. A tally takes no memory.
 #[derive(Drop)]
 pub struct Tally<'a> {
     most_nodes: usize,
     most_racks: usize,
-    nodes: Vec<NodeId>,
-    racks: Vec<&'a [u8]>,
+    nodes: Few<NodeId, 16>,
+    racks: Few<&'a [u8], 16>,
 }
 
 impl<'a> Model for Tally<'a> {
+    ghost use Rattle.std.specs.Prelude.{◌≤◌};
     ghost use Rattle.node_directory.specs.Tally.{Tallied, racks_in};
 
     ghost Value = { Tallied };
@@ -27,9 +27,11 @@ impl<'a> Model for Tally<'a> {
     ghost view = { λ t. record {
       most_nodes = t.most_nodes;
       most_racks = t.most_racks;
-      nodes = t.nodes.items;
-      racks = racks_in t.racks.items;
+      nodes = t.nodes;
+      racks = racks_in t.racks;
     } };
+
+    ghost invariant = { λ t. (t.most_nodes ≤ 16) × (t.most_racks ≤ 16) };
 }
 
 /// Whether a node is in a list.
@@ -53,41 +55,39 @@ pub fn has_rack(racks: &[&[u8]], rack: &[u8]) -> bool
     is_one_of(rack, racks)
 }
 
-/// Adds a node if it is new and the list has fewer than `most` nodes. If memory runs out, the list is unchanged.
-fn add_node(nodes: &mut Vec<NodeId>, most: usize, node: NodeId) -> Result<(), Memory>
-    ensures { MatchResult result (λ _. nodes.new.items ≡ spec.with_new nat_eq most node nodes.old.items)
-        (λ _. nodes.new.items ≡ nodes.old.items) }
+/// Adds a node if it is new and the list has fewer than `most` nodes.
+fn add_node(nodes: &mut Few<NodeId, 16>, most: usize, node: NodeId)
+    requires { most ≤ 16 }
+    ensures { nodes.new ≡ spec.with_new nat_eq most node nodes.old }
 {
-    if nodes.len() < most && !has_node(nodes, node) {
-        nodes.push(node)?;
+    if nodes.len() < most && !has_node(nodes.as_slice(), node) {
+        nodes.push(node);
     }
-    Ok(())
 }
 
-/// Adds a rack if it is new and the list has fewer than `most` racks. If memory runs out, the list is unchanged.
-fn add_rack<'a>(racks: &mut Vec<&'a [u8]>, most: usize, rack: &'a [u8]) -> Result<(), Memory>
-    ensures { MatchResult result
-        (λ _. spec.racks_in racks.new.items
-        ≡ spec.with_new bytes_eq most rack.now (spec.racks_in racks.old.items))
-        (λ _. racks.new.items ≡ racks.old.items) }
+/// Adds a rack if it is new and the list has fewer than `most` racks.
+fn add_rack<'a>(racks: &mut Few<&'a [u8], 16>, most: usize, rack: &'a [u8])
+    requires { most ≤ 16 }
+    ensures { spec.racks_in racks.new ≡ spec.with_new bytes_eq most rack.now (spec.racks_in racks.old) }
 {
-    if racks.len() < most && !has_rack(racks, rack) {
-        racks.push(rack)?;
+    if racks.len() < most && !has_rack(racks.as_slice(), rack) {
+        racks.push(rack);
     }
-    Ok(())
 }
 
 impl<'a> Tally<'a> {
-    /// An empty tally, for at most these numbers of nodes and racks.
-    pub fn new(alloc: Global, most_nodes: usize, most_racks: usize) -> Result<Tally<'a>, Memory>
-        ensures { IfOk result (λ tally. tally ≡ spec.nothing most_nodes most_racks) }
+    /// An empty tally, for at most these numbers of nodes and racks, which are at most 16.
+    pub fn new(most_nodes: usize, most_racks: usize) -> Tally<'a>
+        requires nodes { most_nodes ≤ 16 }
+        requires racks { most_racks ≤ 16 }
+        ensures { result ≡ spec.nothing most_nodes most_racks }
     {
-        Ok(Tally {
+        Tally {
             most_nodes,
             most_racks,
-            nodes: Vec::with_capacity(alloc, most_nodes)?,
-            racks: Vec::with_capacity(alloc, most_racks)?,
-        })
+            nodes: Few::of(NodeId(0)),
+            racks: Few::of(&[]),
+        }
     }
 
     /// The number of nodes in the tally.
@@ -115,7 +115,7 @@ impl<'a> Tally<'a> {
     pub(crate) fn has_all(&self) -> bool
         ensures { result ≡ spec.has_all self.now }
     {
-        self.most_nodes <= self.nodes.len() && has_rack(&self.racks, &[])
+        self.most_nodes <= self.nodes.len() && has_rack(self.racks.as_slice(), &[])
     }
 
     /// Removes all nodes and racks.
@@ -126,20 +126,13 @@ impl<'a> Tally<'a> {
         self.racks.clear();
     }
 
-    /// Meets a node. If the node is in the group, adds the node and its rack, each if it is new and still asked for. If
-    /// memory runs out, the tally is unchanged.
-    pub fn meet(&mut self, members: &Members<'a>, node: NodeId) -> Result<(), Memory>
-        ensures { MatchResult result (λ _. self.new ≡ spec.met (group_of members.now) node self.old)
-            (λ _. self.new ≡ self.old) }
+    /// Meets a node. If the node is in the group, adds the node and its rack, each if it is new and still asked for.
+    pub fn meet(&mut self, members: &Members<'a>, node: NodeId)
+        ensures { self.new ≡ spec.met (group_of members.now) node self.old }
     {
         if let Some(rack) = members.rack_of(node) {
-            let before = self.nodes.len();
-            add_node(&mut self.nodes, self.most_nodes, node)?;
-            if let Err(memory) = add_rack(&mut self.racks, self.most_racks, rack) {
-                self.nodes.truncate(before);
-                return Err(memory);
-            }
+            add_node(&mut self.nodes, self.most_nodes, node);
+            add_rack(&mut self.racks, self.most_racks, rack);
         }
-        Ok(())
     }
 }

@@ -18,3 +18,7 @@ is_in_unsettled fixed widest node = λ g. is_some (g.rack_of node) && not (same_
 
 abbrev pub is_in_any_unsettled : List Group → List Pair → List Pair → ℕ → Bool
 is_in_any_unsettled gs fixed widest node = list_any (is_in_unsettled fixed widest node) gs
+
+-- whether one of several groups has different shapes in the two
+abbrev pub is_any_unsettled : List Group → List Pair → List Pair → Bool
+is_any_unsettled gs fixed widest = list_any (λ g. not (same_shape g fixed widest)) gs

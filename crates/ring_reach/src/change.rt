@@ -25,7 +25,7 @@ pub struct Change<'a> {
 fn tokens_of(alloc: Global, members: &Members, pairs: &[Pair]) -> Result<TokenSet, Memory>
     ensures { IfOk result (λ set. HaveSameTokens set (tokens_in (group_of members.now) pairs.now)) }
 {
-    let mut tokens = Vec::new(alloc);
+    let mut tokens = Vec::with_capacity(alloc, pairs.len())?;
     for pair in pairs {
         if members.rack_of(pair.node).is_some() {
             tokens.push(pair.token)?;
@@ -48,7 +48,7 @@ impl<'a> Change<'a> {
         let Some(first) = moved.as_slice().first() else {
             return Ok(Windows::empty(alloc));
         };
-        match common_shape(alloc, members, self.fixed.pairs(), self.widest)? {
+        match common_shape(members, self.fixed.pairs(), self.widest) {
             Some(shape) => {
                 let walk = Walk {
                     fixed: self.fixed,

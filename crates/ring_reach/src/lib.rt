@@ -6,6 +6,7 @@ mod differ;
 mod groups;
 mod reach;
 mod rows;
+mod settled;
 mod shape;
 mod token_set;
 mod walk;
@@ -13,3 +14,4 @@ mod windows;
 
 pub use differ::shape_differs;
 pub use reach::reached;
+pub use settled::any_shape_differs;

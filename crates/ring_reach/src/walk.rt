@@ -1,4 +1,4 @@
-ghost use Rattle.std.specs.Prelude.{◌≡◌, ℤ, None, ◌++◌, IfOk, OnOk};
+ghost use Rattle.std.specs.Prelude.{◌≡◌, ◌≤◌, ℤ, None, ◌++◌, IfOk};
 ghost use Rattle.std.specs.List.{list_any};
 ghost use Rattle.cluster_terms.specs.Pair.{tokens_of};
 ghost use Rattle.ring_reach.specs.Moved.{AreTokensAmong};
@@ -28,48 +28,42 @@ impl<'a> Walk<'a> {
     /// Walks back over the pairs from the last to the first, and meets their nodes. Returns where the walk ends: at the
     /// token at which the tally lacks nothing more, or at the left end of the span if a pair is past it. Returns `None`
     /// if the walk goes on.
-    fn back(
-        &self,
-        span: &Window,
-        pairs: &[Pair],
-        tally: &mut Tally<'a>,
-    ) -> Result<Option<Token>, Memory>
-        ensures left { IfOk result (λ left.
-            left ≡ spec.back (spec.course_of self.now) span.now pairs.now tally.old) }
-        ensures tally { IfOk result (λ left. left ≡ None
-            → tally.new ≡ spec.met_back (spec.course_of self.now) pairs.now tally.old) }
-        ensures sizes { OnOk result (spec.AskSame tally.old tally.new) }
+    fn back(&self, span: &Window, pairs: &[Pair], tally: &mut Tally<'a>) -> Option<Token>
+        ensures left { result ≡ spec.back (spec.course_of self.now) span.now pairs.now tally.old }
+        ensures tally { result ≡ None
+            → tally.new ≡ spec.met_back (spec.course_of self.now) pairs.now tally.old }
+        ensures sizes { spec.AskSame tally.old tally.new }
     {
         for at in (0..pairs.len()).rev() {
             let pair = pairs[at];
             if !span.has(pair.token) {
-                return Ok(Some(span.left));
+                return Some(span.left);
             }
-            tally.meet(self.members, pair.node)?;
+            tally.meet(self.members, pair.node);
             if !tally.lacks() {
-                return Ok(Some(pair.token));
+                return Some(pair.token);
             }
         }
-        Ok(None)
+        None
     }
 
     /// The part of a span whose tokens leave replicas to find at its right end.
-    fn part(&self, span: Window, tally: &mut Tally<'a>) -> Result<Window, Memory>
+    fn part(&self, span: Window, tally: &mut Tally<'a>) -> Window
         requires { spec.AsksAs (spec.course_of self.now) tally.old }
-        ensures reach { IfOk result (λ part. spec.IsPart (spec.course_of self.now) span part) }
-        ensures asks { OnOk result (spec.AsksAs (spec.course_of self.now) tally.new) }
+        ensures reach { spec.IsPart (spec.course_of self.now) span result }
+        ensures asks { spec.AsksAs (spec.course_of self.now) tally.new }
     {
         tally.clear();
         let right = span.right;
         let Some(first) = self.fixed.first_at(right) else {
-            return Ok(span);
+            return span;
         };
         let (front, rest) = self.fixed.pairs().split_at(first);
-        if let Some(left) = self.back(&span, front, tally)? {
-            return Ok(Window { left, right });
+        if let Some(left) = self.back(&span, front, tally) {
+            return Window { left, right };
         }
-        let left = self.back(&span, rest, tally)?.unwrap_or(span.left);
-        Ok(Window { left, right })
+        let left = self.back(&span, rest, tally).unwrap_or(span.left);
+        Window { left, right }
     }
 
     /// The parts of the spans of all moved tokens.
@@ -93,7 +87,7 @@ impl<'a> Walk<'a> {
         let mut windows = Vec::with_capacity(alloc, tokens.len())?;
         for token in tokens {
             let right = *token;
-            windows.push(self.part(Window { left, right }, tally)?)?;
+            windows.push(self.part(Window { left, right }, tally))?;
             left = right;
         }
         Ok(Windows::from_ascending(windows))
@@ -106,13 +100,14 @@ impl<'a> Walk<'a> {
     /// the moved token before it. A pair on the way costs a look-up in the directory, and a look at no more nodes and
     /// racks than there are to be replicas.
     pub fn windows(&self, alloc: Global, moved: &TokenSet) -> Result<Windows, Memory>
+        requires { self.now.shape.wanted ≤ 16 }
         ensures reach { IfOk result (λ windows. (x : ℤ)
             → have windows x ≡ list_any (spec.leaves (spec.course_of self.now) x) moved.now) }
         ensures bounds { IfOk result (λ windows.
             AreTokensAmong (window_bounds windows) (tokens_of self.now.fixed.now ++ moved.now)) }
     {
         let racks = self.shape.wanted.saturating_sub(self.shape.spare);
-        let mut tally = Tally::new(alloc, self.shape.wanted, racks)?;
+        let mut tally = Tally::new(self.shape.wanted, racks);
         if !tally.lacks() {
             return Ok(Windows::empty(alloc));
         }

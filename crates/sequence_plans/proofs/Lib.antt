@@ -1,6 +1,7 @@
 pub mod BasisLemmas
 pub mod BookLemmas
 pub mod DeltaBookLemmas
+pub mod KeptLocks
 pub mod NearCuts
 pub mod NearRows
 pub mod PersistLemmas

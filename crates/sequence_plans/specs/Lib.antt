@@ -1,6 +1,8 @@
 pub mod Basis
 pub mod DeltaParts
 pub mod Deltas
+pub mod KeptLocks
+pub mod Locks
 pub mod MovementPlacers
 pub mod NearCuts
 pub mod Placers

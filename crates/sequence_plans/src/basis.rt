@@ -1,25 +1,29 @@
-ghost use Rattle.std.specs.Prelude.{◌≡◌, IfOk};
+ghost use Rattle.std.specs.Prelude.{◌≡◌, [], IfOk, IfSome, IsTrue};
 ghost use Rattle.std.specs.List.{Contains};
 ghost use Rattle.token_ring.specs.Ranges.{AreCutOut, HaveTokens};
 ghost use Rattle.transformations.specs.Ranges.{in_ranges, moved_by};
+ghost use Rattle.transformations.specs.Refusals.{with_movement};
 ghost use Rattle.transformations.specs.Rings as spec;
 ghost use Rattle.transformations.specs.Steps.{others};
 ghost use Rattle.transformations.specs.Valid.{IsSound};
 ghost use Rattle.sequence_plans.specs.Basis.{IsBasis, MovesWithin};
 ghost use Rattle.sequence_plans.specs.Deltas.{AreStepDeltas};
+ghost use Rattle.sequence_plans.specs.KeptLocks.{IsNew, IsSettled};
+ghost use Rattle.sequence_plans.specs.Locks.{AreLocksOf};
 ghost use Rattle.sequence_plans.specs.Plan.{AreLocks, IsBook};
 ghost use Rattle.sequence_plans.specs.Replications.{replications_of};
 
 use crate::deltas::DeltaBooks;
+use crate::kept_locks::{copied, rows_cut_out};
 use crate::replications::{Replications, replications_of};
 use crate::wide_image::WideImage;
 use cluster_terms::{Memory, NodeId, PairList, Replication, Steps, Token, TryCopy};
 use node_directory::Directory;
-use ring_reach::reached;
+use ring_reach::{any_shape_differs, reached};
 use std::alloc::Global;
 use std::sync::ledger::Ledger;
 use token_ring::{LockRow, LockRows, RangeBook, RangeList, RangeRow, Ring};
-use transformations::{SeqRow, fixed_among, widest_among};
+use transformations::{Image, SeqRow, fixed_among, widest_among};
 
 /// The values from which the ranges of an image's movements are computed. They are the same for all movements.
 #[derive(Drop)]
@@ -41,6 +45,13 @@ fn moved_by(row: &SeqRow) -> Result<PairList, Memory>
     Ok(moved)
 }
 
+/// Whether a movement takes no pair out of the ring.
+fn takes_none_out(row: &SeqRow) -> bool
+    ensures { IsTrue result → row.now.out_pairs ≡ [] }
+{
+    row.out_pairs.as_slice().is_empty()
+}
+
 impl<'a> Basis<'a> {
     /// The basis of an image's ranges. The directory must hold the nodes of the image. Fails only if memory runs out.
     pub fn of_image(
@@ -57,7 +68,7 @@ impl<'a> Basis<'a> {
         Ok(Basis {
             alloc,
             image,
-            fixed: Ring::from_distinct(alloc, fixed.as_slice())?,
+            fixed: Ring::from_list(fixed)?,
             widest: widest_among(image.tokens(), image.sequences())?,
             directory,
             replications: replications_of(alloc, image.keyspaces())?,
@@ -89,7 +100,7 @@ impl<'a> Basis<'a> {
         requires within { MovesWithin self.now.image.now row.now }
         ensures { IfOk result (IsBook self.now.image.now row.now) }
     {
-        let mut book = RangeBook::empty(self.alloc);
+        let mut book = RangeBook::with_room(self.alloc, self.replications.as_slice().len())?;
         for replication in self.replications.as_slice() {
             book.push(RangeRow {
                 replication: replication.copy()?,
@@ -97,6 +108,49 @@ impl<'a> Basis<'a> {
             })?;
         }
         Ok(book)
+    }
+
+    /// Whether no group's shape differs between the fixed ring and the widest set of pairs, under any replication.
+    fn is_settled(&self) -> bool
+        ensures { IsTrue result → IsSettled self.now }
+    {
+        for replication in self.replications.as_slice() {
+            if any_shape_differs(
+                &self.fixed,
+                self.widest.as_slice(),
+                self.directory,
+                replication,
+            ) {
+                return false;
+            }
+        }
+        true
+    }
+
+    /// The ranges of the movements beside a new one, copied from those that they have in the image without it. Returns
+    /// `None` if the new movement may change them: if it takes pairs out of the ring, or if the shape of a group isn't
+    /// settled. Fails only if memory runs out.
+    ///
+    /// Costs a comparison of the shapes, two binary searches in the cuts for each range, and the copy.
+    pub fn locks_kept(
+        &self,
+        image: &Image,
+        row: &SeqRow,
+        locks: &[LockRow],
+        cuts: &[Token],
+    ) -> Result<Option<LockRows>, Memory>
+        requires basis { IsBasis self.now }
+        requires image { self.now.image.now ≡ with_movement image.now row.now }
+        requires new { IsNew image.now row.now }
+        requires locks { AreLocksOf image.now image.now.sequences locks.now }
+        requires cuts { cuts.now ≡ spec.cuts self.now.image.now }
+        ensures { IfOk result (λ kept. IfSome kept
+            (AreLocks self.now.image.now (others self.now.image.now.sequences row.now.node))) }
+    {
+        if takes_none_out(row) && self.is_settled() && rows_cut_out(cuts, locks) {
+            return Ok(Some(copied(self.alloc, locks)?));
+        }
+        Ok(None)
     }
 
     /// The deltas of a movement, under the replication of each row of its ranges. Fails only if memory runs out.
@@ -133,7 +187,7 @@ impl<'a> Basis<'a> {
         requires sound { IsSound self.now.image.now }
         ensures { IfOk result (AreLocks self.now.image.now (others self.now.image.now.sequences node)) }
     {
-        let mut locks = LockRows::empty(self.alloc);
+        let mut locks = LockRows::with_room(self.alloc, self.image.sequences().len())?;
         for row in self.image.sequences() {
             if row.node != node {
                 locks.push(LockRow {

@@ -3,6 +3,7 @@
 
 mod basis;
 mod deltas;
+mod kept_locks;
 mod movement_rings;
 mod near_cuts;
 pub mod placer;
@@ -12,4 +13,4 @@ mod row_sets;
 mod wide_image;
 
 pub use placer::Placer;
-pub use planning::{plan, plan_in};
+pub use planning::{plan, plan_beside, plan_in};

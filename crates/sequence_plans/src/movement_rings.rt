@@ -37,7 +37,7 @@ impl MovementRings {
         let after = image.ring_with(alloc, row)?;
         Ok(MovementRings {
             before: Ring::from_distinct(alloc, image.tokens().as_slice())?,
-            after: Ring::from_distinct(alloc, after.as_slice())?,
+            after: Ring::from_list(after)?,
         })
     }
 

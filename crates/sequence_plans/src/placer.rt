@@ -1,4 +1,4 @@
-ghost use Rattle.std.specs.Prelude.{◌≡◌, ◌+◌, IfOk};
+ghost use Rattle.std.specs.Prelude.{◌≡◌, ◌+◌, ◌≤◌, IfOk};
 ghost use Rattle.sequence_plans.specs.Placers.{PlacesOn, placed_by};
 
 use cluster_terms::{Memory, Replication, Rf, Steps, Token};
@@ -9,9 +9,18 @@ use std::sync::ledger::Ledger;
 use token_ring::Ring;
 use topology_strategy::{CountedRing, DividedRing};
 
-/// A ring is divided by datacenters if it has at most this many pairs for each token to be placed. With more pairs, the
-/// division costs more than it saves in the walks.
-const PAIRS_FOR_TOKEN: usize = 32;
+/// The most pairs that a ring may have for each token to be placed, if it is to be divided by datacenters. With more
+/// pairs, the division costs more than it saves in the walks. It costs less for a pair if a look-up serves several
+/// pairs, as it does in a ring with many pairs for each id.
+fn most_pairs_for_token(ring: &Ring, dir: &Directory) -> usize
+    ensures { 1 ≤ result }
+{
+    if ring.pairs().len() / 4 >= dir.next_id() as usize {
+        32
+    } else {
+        4
+    }
+}
 
 /// A ring, with the strategy that places replicas on it.
 #[derive(Drop)]
@@ -42,7 +51,7 @@ impl<'a> Placer<'a> {
         match replication {
             Replication::Simple(rf) => Ok(Placer::Simple(ring, *rf)),
             Replication::Topology(factors) => {
-                if ring.pairs().len() / PAIRS_FOR_TOKEN <= tokens {
+                if ring.pairs().len() / most_pairs_for_token(ring, dir) <= tokens {
                     let divided = DividedRing::new(alloc, ring, dir, factors)?;
                     Ok(Placer::Divided(divided))
                 } else {

@@ -1,30 +1,62 @@
-ghost use Rattle.std.specs.Prelude.{◌≡◌, IfOk, MatchResult};
+ghost use Rattle.std.specs.Prelude.{◌≡◌, IfOk, IfSome, MatchResult};
 ghost use Rattle.transformations.specs.History.{begun};
 ghost use Rattle.transformations.specs.Refusals.{with_movement};
+ghost use Rattle.transformations.specs.Rings as spec;
+ghost use Rattle.transformations.specs.Steps.{others};
 ghost use Rattle.transformations.specs.Valid.{IsSound, IsValid};
 ghost use Rattle.transformations.specs.declared.sequence.Phase.TheVariants as phase;
+ghost use Rattle.sequence_plans.specs.Basis.{IsBasis};
 ghost use Rattle.sequence_plans.specs.Deltas.{StaysExact};
-ghost use Rattle.sequence_plans.specs.Plan.{IsPlan};
+ghost use Rattle.sequence_plans.specs.KeptLocks.{HasLocks, IsNew};
+ghost use Rattle.sequence_plans.specs.Locks.{AreLocksOf};
+ghost use Rattle.sequence_plans.specs.Plan.{AreLocks, IsPlan};
 
 use crate::basis::Basis;
 use crate::wide_image::WideImage;
-use cluster_terms::{Memory, Steps, TryCopy};
+use cluster_terms::{Memory, Steps, Token, TryCopy};
 use node_directory::Directory;
 use placement_deltas::Plan;
 use std::alloc::Global;
 use std::sync::ledger::Ledger;
+use token_ring::{LockRow, LockRows};
 use transformations::{Image, SeqRow, cuts_among};
+
+/// The ranges of the movements beside a new one, in the image with it. `locks` may have those in the image without it.
+fn locks_with(
+    basis: &Basis,
+    image: &Image,
+    row: &SeqRow,
+    locks: Option<&[LockRow]>,
+    cuts: &[Token],
+) -> Result<LockRows, Memory>
+    requires basis { IsBasis basis.now }
+    requires sound { IsSound basis.now.image.now }
+    requires image { basis.now.image.now ≡ with_movement image.now row.now }
+    requires locks { IfSome locks (λ rows. HasLocks image.now row.now rows.now) }
+    requires cuts { cuts.now ≡ spec.cuts basis.now.image.now }
+    ensures { IfOk result
+        (AreLocks basis.now.image.now (others basis.now.image.now.sequences row.now.node)) }
+{
+    if let Some(locks) = locks {
+        if let Some(kept) = basis.locks_kept(image, row, locks, cuts)? {
+            return Ok(kept);
+        }
+    }
+    basis.locks_beside(row.node)
+}
 
 /// The plan of a movement, in the image with this movement.
 fn planned<L: Ledger>(
     alloc: Global,
     image: &Image,
     directory: &Directory,
+    locks: Option<&[LockRow]>,
     row: &SeqRow,
     walks: &mut Steps<L>,
 ) -> Result<Plan, Memory>
     requires sound { IsSound (with_movement image.now row.now) }
     requires nodes { directory.now.rows ≡ image.now.nodes }
+    requires locks { IfSome locks (λ rows. HasLocks image.now row.now rows.now) }
     ensures { IfOk result (IsPlan (with_movement image.now row.now) row.now) }
 {
     let wide = WideImage::new(image, row)?;
@@ -32,15 +64,38 @@ fn planned<L: Ledger>(
     let cuts = cuts_among(alloc, wide.tokens(), wide.sequences())?;
     let ranges = basis.book_of(row)?;
     let books = basis.deltas_of(row, ranges.as_slice(), cuts.as_slice(), walks)?;
+    let others = locks_with(&basis, image, row, locks, cuts.as_slice())?;
     Ok(Plan {
         row: row.copy()?,
         cuts,
         ranges,
-        wide: basis.locks_beside(row.node)?,
+        wide: others,
         gain: books.gain,
         swap: books.swap,
         lose: books.lose,
     })
+}
+
+/// The plan that `plan` makes, or the row and want of memory.
+fn plan_with<L: Ledger>(
+    alloc: Global,
+    image: &Image,
+    directory: &Directory,
+    locks: Option<&[LockRow]>,
+    row: SeqRow,
+    walks: &mut Steps<L>,
+) -> Result<Plan, (SeqRow, Memory)>
+    requires sound { IsSound (with_movement image.now row) }
+    requires nodes { directory.now.rows ≡ image.now.nodes }
+    requires locks { IfSome locks (λ rows. HasLocks image.now row rows.now) }
+    ensures plan { MatchResult result (IsPlan (with_movement image.now row) row) (λ e. e.0 ≡ row) }
+    ensures persists { IfOk result
+        (λ plan. IsValid (begun image.now row) → StaysExact (begun image.now row) plan) }
+{
+    match planned(alloc, image, directory, locks, &row, walks) {
+        Ok(plan) => Ok(plan),
+        Err(memory) => Err((row, memory)),
+    }
 }
 
 /// The plan of a movement that is to be prepared, in the image with this movement: the cuts, its ranges, the ranges of
@@ -90,8 +145,30 @@ pub fn plan_in<L: Ledger>(
     ensures persists { IfOk result
         (λ plan. IsValid (begun image.now row) → StaysExact (begun image.now row) plan) }
 {
-    match planned(alloc, image, directory, &row, walks) {
-        Ok(plan) => Ok(plan),
-        Err(memory) => Err((row, memory)),
-    }
+    plan_with(alloc, image, directory, None, row, walks)
+}
+
+/// The plan that `plan` makes, for a node that has no movement, and a caller that has a directory with the nodes of the
+/// image, and the ranges of its movements (`locks`), in the order of the movements.
+///
+/// Cost: that of `plan_in`, but if the movement takes no pair out and the shape of each group is settled, `reached` is
+/// called r times, and the ranges of the other movements are copied.
+pub fn plan_beside<L: Ledger>(
+    alloc: Global,
+    image: &Image,
+    directory: &Directory,
+    locks: &[LockRow],
+    row: SeqRow,
+    walks: &mut Steps<L>,
+) -> Result<Plan, (SeqRow, Memory)>
+    requires prepared { row.phase ≡ phase.Prepared }
+    requires new { IsNew image.now row }
+    requires sound { IsSound (with_movement image.now row) }
+    requires nodes { directory.now.rows ≡ image.now.nodes }
+    requires locks { AreLocksOf image.now image.now.sequences locks.now }
+    ensures plan { MatchResult result (IsPlan (with_movement image.now row) row) (λ e. e.0 ≡ row) }
+    ensures persists { IfOk result
+        (λ plan. IsValid (begun image.now row) → StaysExact (begun image.now row) plan) }
+{
+    plan_with(alloc, image, directory, Some(locks), row, walks)
 }

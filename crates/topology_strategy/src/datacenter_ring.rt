@@ -65,7 +65,7 @@ impl<'a> DatacenterRing<'a> {
     {
         let members = Members::Datacenter(dir, name, rf);
         let racked = racked_pairs(alloc, &members, ring.pairs())?;
-        let shape = shape_of(alloc, &members, ring.pairs())?;
+        let shape = shape_of(&members, ring.pairs());
         Ok(DatacenterRing {
             ring,
             dir,

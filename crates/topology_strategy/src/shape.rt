@@ -20,7 +20,7 @@ pub fn count_all(
     let mut shapes = Vec::with_capacity(alloc, factors.len())?;
     for (name, rf) in factors {
         let members = Members::Datacenter(dir, name, *rf);
-        shapes.push(shape_of(alloc, &members, pairs)?)?;
+        shapes.push(shape_of(&members, pairs))?;
     }
     Ok(shapes)
 }

@@ -61,11 +61,16 @@ fn started_of(image: &Image, n: NodeId) -> Option<&SeqRow>
         .find(|row| row.node == n && has_started(row.phase))
 }
 
-/// Whether a pair in a list is the node's.
+/// Whether a pair in a list is the node's. Looks at all pairs, several at once, as most nodes that are asked for have
+/// none.
 pub(crate) fn has_pair(pairs: &[Pair], n: NodeId) -> bool
     ensures { result ≡ list_any (λ p. p.node == n) pairs.now }
 {
-    pairs.iter().any(|pair| pair.node == n)
+    let mut found = false;
+    for pair in pairs {
+        found |= pair.node == n;
+    }
+    found
 }
 
 /// The row of a node, if it is registered.

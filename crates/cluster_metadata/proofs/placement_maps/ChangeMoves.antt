@@ -1,9 +1,13 @@
 -- How the change of an accepted command moves the placements and the cuts.
 use Rattle.std.proofs.Common.{◌≡◌, ℕ, ℤ, true, not, List, [], ◌∷◌, None, Some, Option, refl, sym, ap, ◌∙◌, subst}
 use Rattle.std.specs.List.{AllByRecursion, slice_get}
+use Rattle.std.specs.Ordering.{int_cmp}
 use Rattle.cluster_terms.specs.Arc.{IsToken}
+use Rattle.cluster_terms.specs.Ascending.{put_all}
+use Rattle.cluster_terms.specs.Pair.{tokens_of}
 use Rattle.cluster_terms.specs.Replication.{same_replication}
 use Rattle.cluster_terms.specs.declared.replication.Replication.{Replication}
+use Rattle.cluster_terms.specs.declared.token.Pair.{Pair}
 use Rattle.sequence_plans.proofs.DeltaBookLemmas.{at_each_token}
 use Rattle.sequence_plans.specs.Replications.{replications_of}
 use Rattle.transformations.proofs.cut_changes.CutsFollowed.{cuts_followed}
@@ -14,6 +18,7 @@ use Rattle.transformations.specs.DeltaSteps.{AreChanged, PlacementDelta, cancel_
 use Rattle.transformations.specs.History.{is_command, next_image}
 use Rattle.transformations.specs.Meeting.{makes_movement_epoch}
 use Rattle.transformations.specs.Refusals.{prepared_by, refusal_of}
+use Rattle.transformations.specs.Rings.{cuts}
 use Rattle.transformations.specs.Steps.{movement_of}
 use Rattle.transformations.specs.Valid.{IsValid}
 use Rattle.transformations.specs.declared.command.Command.{Command}
@@ -25,6 +30,7 @@ use Rattle.transformations.specs.declared.sequence.Goal.TheVariants as goal
 use Rattle.transformations.specs.declared.sequence.Kind.{Kind}
 use Rattle.transformations.specs.declared.sequence.Phase.TheVariants as phase
 use Rattle.transformations.specs.declared.sequence.SeqRow.{SeqRow}
+use Rattle.cluster_metadata.proofs.placement_maps.KeptCuts.{finish_keeps}
 use Rattle.cluster_metadata.specs.Change.{Follows, IsChange, Suits, changed, in_phase}
 use Rattle.cluster_metadata.specs.MapSteps.{MapSteps, MovesBy, deltas_of, no_deltas}
 use Rattle.cluster_metadata.specs.declared.change.Change.{Change}
@@ -98,8 +104,10 @@ map_steps image c change valid formed accepted makes = by c change makes.suits f
           cuts = subst (λ (o : Option SeqRow). CutsChange image after None (unless_mid o)) found (cuts_by image after (Cancel n) valid formed accepted made refl);
         }
     by (Step goal.Finish kind n) (Finished at left tokens rows) suits formed accepted made follows =
-        λ s here.
-        moves_by image (changed image (Finished at left tokens rows)) (Step goal.Finish kind n) valid formed accepted made refl (deltas_of (step_delta goal.Finish) image s) (step_moves image n at suits goal.Finish kind s here) refl
+        let after : Image = changed image (Finished at left tokens rows) in (
+          λ s here. moves_by image after (Step goal.Finish kind n) valid formed accepted made refl (deltas_of (step_delta goal.Finish) image s) (step_moves image n at suits goal.Finish kind s here) refl,
+          λ s here none. finish_keeps image after kind n s valid.sound made (sym suits ∙ here) none,
+        )
     by (Cancel n) (Ended at rows) suits formed accepted made follows =
         λ s here. moves_by image (changed image (Ended at rows)) (Cancel n) valid formed accepted made refl (deltas_of (cancel_delta s.phase) image s) (cancel_moves image n at suits s here) refl
     by c (Begun at plan rows) suits formed accepted made follows = begun c suits formed accepted made
@@ -108,14 +116,16 @@ map_steps image c change valid formed accepted makes = by c change makes.suits f
         after = changed image (Begun at plan rows)
 
         prepared : (c : Command) → is_command c ≡ true → refusal_of image c ≡ None → after ≡ next_image image c → makes_movement_epoch c ≡ true
-            → ((r : Replication) (x : ℤ) → delta_of_command image c r x ≡ no_deltas r x) → MapSteps image (Begun at plan rows)
-        prepared c formed accepted made epoch none = moves_by image after c valid formed accepted made epoch no_deltas none refl
+            → prepared_by image.tokens c ≡ Some plan.row → ((r : Replication) (x : ℤ) → delta_of_command image c r x ≡ no_deltas r x) → MapSteps image (Begun at plan rows)
+        prepared c formed accepted made epoch suits none =
+            let own : CutsChange image after (Some plan.row) (ended_by image c) = subst (λ (o : Option SeqRow). CutsChange image after o (ended_by image c)) suits (cuts_by image after c valid formed accepted made epoch) in
+            (moves_by image after c valid formed accepted made epoch no_deltas none refl, λ empty. own ∙ ap (λ (ps : List Pair). put_all int_cmp (tokens_of ps) (cuts image)) empty)
 
         begun : (c : Command) → prepared_by image.tokens c ≡ Some plan.row → is_command c ≡ true → refusal_of image c ≡ None → after ≡ next_image image c → MapSteps image (Begun at plan rows)
-        begun (PrepareJoin n tokens) suits formed accepted made = prepared (PrepareJoin n tokens) formed accepted made refl (λ r x. refl)
-        begun (PrepareMove n t) suits formed accepted made = prepared (PrepareMove n t) formed accepted made refl (λ r x. refl)
-        begun (PrepareLeave n) suits formed accepted made = prepared (PrepareLeave n) formed accepted made refl (λ r x. refl)
-        begun (PrepareReplace n gone) suits formed accepted made = prepared (PrepareReplace n gone) formed accepted made refl (λ r x. refl)
+        begun (PrepareJoin n tokens) suits formed accepted made = prepared (PrepareJoin n tokens) formed accepted made refl suits (λ r x. refl)
+        begun (PrepareMove n t) suits formed accepted made = prepared (PrepareMove n t) formed accepted made refl suits (λ r x. refl)
+        begun (PrepareLeave n) suits formed accepted made = prepared (PrepareLeave n) formed accepted made refl suits (λ r x. refl)
+        begun (PrepareReplace n gone) suits formed accepted made = prepared (PrepareReplace n gone) formed accepted made refl suits (λ r x. refl)
         begun c suits formed accepted made = cc suits
     by c (Tokens pairs) suits formed accepted made follows = tt
     by c (Keyspaces rows) suits formed accepted made follows = tt

@@ -1,18 +1,18 @@
 -- What a change of each kind says of the movement at its position, and of the placements after it.
-use Rattle.std.proofs.Common.{◌≡◌, ℕ, false, List, Option, Some, None, option_map, refl, sym, subst}
+use Rattle.std.proofs.Common.{◌≡◌, ℕ, false, List, [], Option, Some, None, option_map, refl, sym, subst}
 use Rattle.std.proofs.lemmas.Option.{none-some}
 use Rattle.std.specs.List.{slice_get}
 use Rattle.cluster_terms.specs.declared.token.Pair.{Pair}
 use Rattle.placement_deltas.specs.declared.plan.Plan.{Plan}
 use Rattle.sequence_plans.specs.Deltas.{HasDeltas}
 use Rattle.transformations.specs.DeltaSteps.{cancel_delta, step_delta}
-use Rattle.transformations.specs.Rings.{is_mid}
+use Rattle.transformations.specs.Rings.{cuts, is_mid}
 use Rattle.transformations.specs.declared.image.Image.{Image}
 use Rattle.transformations.specs.declared.sequence.Goal.TheVariants as goal
 use Rattle.transformations.specs.declared.sequence.Phase.TheVariants as phase
 use Rattle.transformations.specs.declared.sequence.SeqRow.{SeqRow}
 use Rattle.cluster_metadata.specs.Change.{BringsPlan, Follows, HasCuts, changed, in_phase}
-use Rattle.cluster_metadata.specs.MapSteps.{MapSteps, MovesAt, MovesBy, MovesOf, Stays, no_deltas}
+use Rattle.cluster_metadata.specs.MapSteps.{MapSteps, MovesAt, MovesBy, MovesOf, Stays, StaysWithout, no_deltas}
 use Rattle.cluster_metadata.specs.declared.change.Change.{Change}
 use Rattle.cluster_metadata.specs.declared.change.Change.TheVariants.{Registered, Unregistered, Begun, Started, Mid, Finished, Ended, BroughtBack}
 use Rattle.cluster_metadata.specs.declared.leaving.LeftRow.{LeftRow}
@@ -64,10 +64,13 @@ module _ (image : Image) (change : Change) (at : ℕ) where
     ended_moves is steps = subst (λ c. MapSteps image c → MovesOf image (changed image c) at (λ s. cancel_delta s.phase)) (sym is) (λ s. s) steps
 
     pub begun_moves : (plan : Plan) → change ≡ Begun at plan rows → MapSteps image change → MovesBy image (changed image change) no_deltas
-    begun_moves plan is steps = subst (λ c. MapSteps image c → MovesBy image (changed image c) no_deltas) (sym is) (λ s. s) steps
+    begun_moves plan is steps = subst (λ c. MapSteps image c → MovesBy image (changed image c) no_deltas) (sym is) (λ s. s.0) steps
 
-    pub begun_deltas : (plan : Plan) → change ≡ Begun at plan rows → BringsPlan image change → HasDeltas (changed image (Begun at plan rows)) plan
-    begun_deltas plan is brings = (subst (BringsPlan image) is brings).0
+    pub begun_stays : (plan : Plan) → change ≡ Begun at plan rows → MapSteps image change → plan.row.in_pairs ≡ [] → cuts (changed image change) ≡ cuts image
+    begun_stays plan is steps = subst (λ c. MapSteps image c → plan.row.in_pairs ≡ [] → cuts (changed image c) ≡ cuts image) (sym is) (λ s. s.1) steps
+
+    pub begun_deltas : (plan : Plan) → change ≡ Begun at plan rows → BringsPlan image change → HasDeltas (changed image change) plan
+    begun_deltas plan is brings = subst (λ (ch : Change). HasDeltas (changed image ch) plan) (sym is) (subst (BringsPlan image) is brings).0
 
     pub begun_cuts : (plan : Plan) → change ≡ Begun at plan rows → BringsPlan image change → HasCuts (changed image change) plan
     begun_cuts plan is brings = subst (λ (ch : Change). HasCuts (changed image ch) plan) (sym is) (subst (BringsPlan image) is brings).2
@@ -81,4 +84,7 @@ module _ (image : Image) (change : Change) (at : ℕ) where
           by (Some s) here half = record { row = s; here = here; holds = cc half }
 
       pub finished_moves : change ≡ Finished at left tokens rows → MapSteps image change → MovesOf image (changed image change) at (λ s. step_delta goal.Finish)
-      finished_moves is steps = subst (λ c. MapSteps image c → MovesOf image (changed image c) at (λ s. step_delta goal.Finish)) (sym is) (λ s. s) steps
+      finished_moves is steps = subst (λ c. MapSteps image c → MovesOf image (changed image c) at (λ s. step_delta goal.Finish)) (sym is) (λ s. s.0) steps
+
+      pub finished_stays : change ≡ Finished at left tokens rows → MapSteps image change → StaysWithout image (changed image change) at
+      finished_stays is steps = subst (λ c. MapSteps image c → StaysWithout image (changed image c) at) (sym is) (λ s. s.1) steps

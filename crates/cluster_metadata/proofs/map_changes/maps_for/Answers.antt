@@ -5,20 +5,22 @@ use Rattle.cluster_terms.specs.Row.{rows_between}
 use Rattle.placement_deltas.specs.declared.book.DeltaBookRow.{DeltaBookRow}
 use Rattle.placement_deltas.specs.declared.plan.Plan.{Plan}
 use Rattle.range_placements.specs.declared.row_changes.RowChange.{RowChange}
-use Rattle.sequence_plans.specs.Deltas.{gained_by, no_nodes}
+use Rattle.sequence_plans.specs.Deltas.{HasDeltas}
+use Rattle.transformations.specs.DeltaSteps.{step_delta}
 use Rattle.transformations.specs.declared.image.Image.{Image}
 use Rattle.transformations.specs.Rings.{cuts, cuts_among}
-use Rattle.cluster_metadata.proofs.placement_maps.ChangeSteps.{back_at, back_moves, begun_cuts, begun_deltas, begun_moves, ended_at, ended_moves, finished_at, finished_moves, mid_at, mid_moves, registered_stays, started_at, started_moves, unregistered_stays}
+use Rattle.transformations.specs.declared.sequence.Goal.TheVariants as step
+use Rattle.cluster_metadata.proofs.placement_maps.ChangeSteps.{back_at, back_moves, begun_cuts, begun_deltas, begun_moves, begun_stays, ended_at, ended_moves, finished_at, finished_moves, finished_stays, mid_at, mid_moves, registered_stays, started_at, started_moves, unregistered_stays}
 use Rattle.cluster_metadata.proofs.placement_maps.EditedMaps.{RecutsAll}
 use Rattle.cluster_metadata.proofs.placement_maps.ExchangedMaps.{made_from}
-use Rattle.cluster_metadata.proofs.placement_maps.TurnedMaps.{SetsTurned, back_maps, begin_maps, end_maps, finish_maps, mid_maps, nodes_maps, start_maps}
+use Rattle.cluster_metadata.proofs.placement_maps.TurnedMaps.{SetsTurned, back_maps, end_maps, held, mid_maps, moved, nodes_maps, start_maps, stays}
 use Rattle.cluster_metadata.specs.Change.{HasCuts, changed}
 use Rattle.cluster_metadata.specs.MapChanges.{BringsMaps, maps_after}
+use Rattle.cluster_metadata.specs.MapSteps.{MovesBy, deltas_of}
 use Rattle.cluster_metadata.specs.Maps.{AreMaps}
 use Rattle.cluster_metadata.specs.Running.{phase_of, plan_of}
 use Rattle.cluster_metadata.specs.Turns.{undoing}
 use Rattle.cluster_metadata.specs.declared.change.Change.{Change}
-use Rattle.cluster_metadata.specs.declared.change.Change.TheVariants.{Begun}
 use Rattle.cluster_metadata.specs.declared.map_change.MapChange.{MapChange}
 use Rattle.cluster_metadata.specs.declared.map_change.MapChange.TheVariants.{Sets}
 use Rattle.cluster_metadata.specs.declared.map_row.MapRow.{MapRow}
@@ -35,21 +37,29 @@ returns-in-Registered c book are =
       | inr unregistered ↦ nodes_maps image (changed image change) (unregistered_stays image change unregistered.0 unregistered.1 c.requires.steps) book are
     ]
 
-pub returns-in_ok-next-in-Begun : goal.returns-in_ok-next-in-Begun
-returns-in_ok-next-in-Begun c =
+pub maps_begun-requires-clause-own : goal.maps_begun-requires-clause-own
+maps_begun-requires-clause-own c =
     let image = c.args.image.now in
     let change = c.args.change.now in
     let b = c.in-Begun in
-    let own : HasCuts (changed image change) b.plan = begun_cuts image change b.at b.sequences b.plan b.is c.requires.brings in
-    let cut = c.as_slice-cuts.ensures ∙ ap (λ (p : Plan). p.cuts) c.get-plan.ensures ∙ own.0 in
-    let maps = c.args.maps.now in
-    let next = c.in_ok-next-in-Begun.next in
-    let sets : RecutsAll turn.Keep (rows_between (cuts (changed image change))) maps b.plan.gain next =
-    subst (λ (p : Plan). RecutsAll turn.Keep (rows_between (cuts (changed image change))) maps p.gain next) c.get-plan.ensures
-    (subst (λ (ts : List ℤ). RecutsAll turn.Keep (rows_between ts) maps c.get-plan.result.now.gain next) cut c.in_ok-next-in-Begun.ensures) in
-    made_from image change next maps c.requires.maps
-    (begin_maps image (changed image change) maps (gained_by (changed image (Begun b.at b.plan b.sequences)) b.plan.row) no_nodes b.plan.gain next sets c.requires.maps (begun_deltas image change b.at b.sequences b.plan b.is c.requires.brings).gains
-    (subst (AllByRecursion IsToken) own.0 own.1) (begun_moves image change b.at b.sequences b.plan b.is c.requires.steps))
+    subst (HasCuts (changed image change)) (sym c.get.ensures) (begun_cuts image change b.at b.sequences b.plan b.is c.requires.brings)
+
+pub maps_begun-requires-clause-stay : goal.maps_begun-requires-clause-stay
+maps_begun-requires-clause-stay c none =
+    let b = c.in-Begun in
+    begun_stays c.args.image.now c.args.change.now b.at b.sequences b.plan b.is c.requires.steps (ap (λ (p : Plan). p.row.in_pairs) (sym c.get.ensures) ∙ none)
+
+pub maps_begun-requires-clause-moves : goal.maps_begun-requires-clause-moves
+maps_begun-requires-clause-moves c =
+    let b = c.in-Begun in
+    begun_moves c.args.image.now c.args.change.now b.at b.sequences b.plan b.is c.requires.steps
+
+pub maps_begun-requires-clause-deltas : goal.maps_begun-requires-clause-deltas
+maps_begun-requires-clause-deltas c =
+    let image = c.args.image.now in
+    let change = c.args.change.now in
+    let b = c.in-Begun in
+    subst (HasDeltas (changed image change)) (sym c.get.ensures) (begun_deltas image change b.at b.sequences b.plan b.is c.requires.brings)
 
 -- new sets that the deltas of a plan give lead to the maps of the next image, where those of an equal plan do
 turned_to : (image : Image) (change : Change) (made : MapChange) (maps : List MapRow) → AreMaps image maps → (t : Turn) (sets : List (List RowChange)) (deltas : Plan → List DeltaBookRow) (found own : Plan) → found ≡ own
@@ -93,21 +103,35 @@ returns-in_ok-turned_book-in-BroughtBack c =
     (λ turned. back_maps image maps c.args.running.now s.at movement.result _ c.requires.maps c.requires.running c.requires.deltas (back_at image change s.at s.row s.is c.requires.follows) movement.is (changed image change) made.items
     turned (back_moves image change s.at s.row s.is c.requires.steps))
 
-pub returns-in_ok-next-in-Finished : goal.returns-in_ok-next-in-Finished
-returns-in_ok-next-in-Finished c =
+pub maps_finished-requires-clause-stay : goal.maps_finished-requires-clause-stay
+maps_finished-requires-clause-stay c none =
     let image = c.args.image.now in
     let change = c.args.change.now in
     let s = c.in-Finished in
     let found = finished_at image change s.at s.sequences s.left s.tokens s.is c.requires.follows in
-    let cut : cuts (changed image change) ≡ cuts_among s.tokens s.sequences = ap (λ (ch : Change). cuts (changed image ch)) s.is in
-    let maps = c.args.maps.now in
-    let next = c.in_ok-next-in-Finished.next in
-    let sets : RecutsAll turn.Writes (rows_between (cuts (changed image change))) maps (plan_of c.index-running-at-in-Finished.result).lose next =
-    subst (λ (p : Plan). RecutsAll turn.Writes (rows_between (cuts (changed image change))) maps p.lose next) c.plan-in-Finished.ensures
-    (subst (λ (ts : List ℤ). RecutsAll turn.Writes (rows_between ts) maps c.plan-in-Finished.result.now.lose next) (sym cut) c.in_ok-next-in-Finished.ensures.maps) in
-    made_from image change next maps c.requires.maps
-    (finish_maps image maps c.args.running.now s.at c.index-running-at-in-Finished.result found.row c.requires.maps c.requires.running c.requires.deltas found.here c.index-running-at-in-Finished.is (changed image change) next sets
-    (subst (AllByRecursion IsToken) (sym cut) c.in_ok-next-in-Finished.ensures.tokens) (finished_moves image change s.at s.sequences s.left s.tokens s.is c.requires.steps))
+    let movement = c.index-running-at-in-Finished in
+    stays image c.args.maps.now c.args.running.now s.at movement.result found.row c.requires.maps c.requires.running c.requires.deltas found.here movement.is (changed image change)
+    (finished_stays image change s.at s.sequences s.left s.tokens s.is c.requires.steps) (ap (λ (p : Plan). p.row.out_pairs) (sym c.plan-plan.ensures) ∙ none)
+
+pub maps_finished-requires-clause-moves : goal.maps_finished-requires-clause-moves
+maps_finished-requires-clause-moves c =
+    let image = c.args.image.now in
+    let change = c.args.change.now in
+    let s = c.in-Finished in
+    let found = finished_at image change s.at s.sequences s.left s.tokens s.is c.requires.follows in
+    let movement = c.index-running-at-in-Finished in
+    subst (λ (p : Plan). MovesBy image (changed image change) (deltas_of (step_delta step.Finish) image p.row)) (sym c.plan-plan.ensures)
+    (moved image c.args.maps.now c.args.running.now s.at movement.result found.row c.requires.maps c.requires.running c.requires.deltas found.here movement.is (changed image change) (λ s. step_delta step.Finish)
+    (finished_moves image change s.at s.sequences s.left s.tokens s.is c.requires.steps))
+
+pub maps_finished-requires-clause-deltas : goal.maps_finished-requires-clause-deltas
+maps_finished-requires-clause-deltas c =
+    let image = c.args.image.now in
+    let s = c.in-Finished in
+    let found = finished_at image c.args.change.now s.at s.sequences s.left s.tokens s.is c.requires.follows in
+    let movement = c.index-running-at-in-Finished in
+    subst (HasDeltas image) (sym c.plan-plan.ensures)
+    (held image c.args.maps.now c.args.running.now s.at movement.result found.row c.requires.maps c.requires.running c.requires.deltas found.here movement.is)
 
 pub returns-in_ok-next-in-Ended : goal.returns-in_ok-next-in-Ended
 returns-in_ok-next-in-Ended c =

@@ -26,17 +26,18 @@ returns-in-Some-clause-refusal g c =
     sym (plan_locked _ _ _ c.in-Ok.ensures.plan) ∙ ap shown (sym found)
 
 pub begun-requires-clause-new : goal.begun-requires-clause-new
-begun-requires-clause-new g c = rw c.in-Ok.ensures.plan.row c.requires.new
+begun-requires-clause-new g c = rw (c.without_others.ensures, c.in-Ok.ensures.plan.row) c.requires.new
 
 pub begun-requires-clause-deltas : goal.begun-requires-clause-deltas
 begun-requires-clause-deltas g c =
-    deltas_elsewhere (with_movement c.args.image.now c.args.row) c.args.image.now.epoch c.args.image.now.sequences c.in-Ok.plan c.in-Ok.ensures.plan.deltas
+    rw c.without_others.ensures
+    (deltas_elsewhere (with_movement c.args.image.now c.args.row) c.args.image.now.epoch c.args.image.now.sequences c.in-Ok.plan c.in-Ok.ensures.plan.deltas)
 
 pub begun-requires-clause-ranges : goal.begun-requires-clause-ranges
-begun-requires-clause-ranges g c = rw c.in-Ok.ensures.plan.row (lock_of_book _ _ _ c.in-Ok.ensures.plan.ranges)
+begun-requires-clause-ranges g c = rw (c.without_others.ensures, c.in-Ok.ensures.plan.row) (lock_of_book _ _ _ c.in-Ok.ensures.plan.ranges)
 
 pub begun-requires-clause-cuts : goal.begun-requires-clause-cuts
-begun-requires-clause-cuts g c = rw c.in-Ok.ensures.plan.row (c.in-Ok.ensures.plan.cuts, c.in-Ok.ensures.plan.tokens)
+begun-requires-clause-cuts g c = rw (c.without_others.ensures, c.in-Ok.ensures.plan.row) (c.in-Ok.ensures.plan.cuts, c.in-Ok.ensures.plan.tokens)
 
 pub returns-clause-refusal : goal.returns-clause-refusal
 returns-clause-refusal g c =

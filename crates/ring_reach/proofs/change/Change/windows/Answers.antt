@@ -26,15 +26,15 @@ returns-in_default-clause-reach c x =
     ap (λ (ws : List Window). have ws x) c.empty.ensures
     ∙ none_reached (group_of c.args.members.now) self.fixed.now self.widest.now self.moved.now tokens c.in_ok-moved.ensures empty x
 
-pub returns-in-Some-2-clause-reach : goal.returns-in-Some-2-clause-reach
-returns-in-Some-2-clause-reach c =
+pub returns-in-Some-common_shape-clause-reach : goal.returns-in-Some-common_shape-clause-reach
+returns-in-Some-common_shape-clause-reach c =
     let self = c.args.self.now in
     let g = group_of c.args.members.now in
     let tokens = c.in_ok-moved.moved in
-    let told : Some c.in-Some-2.shape ≡ cond (same_shape g self.fixed.now self.widest.now) (Some (shape_of (nodes_of self.fixed.now) g)) None =
-    sym c.in-Some-2.is ∙ c.in_ok-shape.ensures
+    let told : Some c.in-Some-common_shape.shape ≡ cond (same_shape g self.fixed.now self.widest.now) (Some (shape_of (nodes_of self.fixed.now) g)) None =
+    sym c.in-Some-common_shape.is ∙ c.common_shape.ensures.common
     ∙ ap (λ (ps : List Pair). cond (same_shape g ps self.widest.now) (Some (shape_of (nodes_of ps) g)) None) c.pairs.ensures.pairs in
-    let common = common_some (same_shape g self.fixed.now self.widest.now) (shape_of (nodes_of self.fixed.now) g) c.in-Some-2.shape told in
+    let common = common_some (same_shape g self.fixed.now self.widest.now) (shape_of (nodes_of self.fixed.now) g) c.in-Some-common_shape.shape told in
     let course : Shape → Course = λ s. record { group = g; fixed = self.fixed.now; nodes = s.wanted; racks = s.wanted - s.spare } in
     IfOk-weaker c.windows.result _ _
     (λ ws h x.
@@ -42,8 +42,8 @@ returns-in-Some-2-clause-reach c =
     ∙ leaves-reached g self.fixed.now self.widest.now self.moved.now tokens c.in_ok-moved.ensures common.0 x)
     c.windows.ensures.reach
 
-pub returns-in-Some-2-clause-bounds : goal.returns-in-Some-2-clause-bounds
-returns-in-Some-2-clause-bounds c =
+pub returns-in-Some-common_shape-clause-bounds : goal.returns-in-Some-common_shape-clause-bounds
+returns-in-Some-common_shape-clause-bounds c =
     let self = c.args.self.now in
     IfOk-weaker c.windows.result _ _
     (λ ws h. bounds_in_both (group_of c.args.members.now) self.fixed.now self.widest.now self.moved.now c.in_ok-moved.moved c.in_ok-moved.ensures (window_bounds ws) h)
@@ -57,7 +57,7 @@ returns-clause-reach c =
     let t = c.in-Some.first.now in
     let there : is_member int_eq tokens t ≡ true = first_member tokens t (c.in-Some.ensures.value ∙ ap (λ (ts : List ℤ). slice_get ts 0) c.as_slice.ensures.tokens) in
     let told : None ≡ cond (same_shape g self.fixed.now self.widest.now) (Some (shape_of (nodes_of self.fixed.now) g)) None =
-    sym c.in-None.is ∙ c.in_ok-shape.ensures
+    sym c.in-None.is ∙ c.common_shape.ensures.common
     ∙ ap (λ (ps : List Pair). cond (same_shape g ps self.widest.now) (Some (shape_of (nodes_of ps) g)) None) c.pairs.ensures.pairs in
     let differ = common_none (same_shape g self.fixed.now self.widest.now) (shape_of (nodes_of self.fixed.now) g) told in
     IfOk-weaker c.whole_ring.result _ _

@@ -31,7 +31,7 @@ returns-then-not-lacks-clause-left c =
     let p = c.index-pairs-at.result in
     let within : is_inside p.token span ≡ true = sym c.has.ensures ∙ c.if-not-has.false in
     let next = met course.group p.node (met_back course (drop c.loop-at.at ps) tally) in
-    let is : c.meet.new.self ≡ next = c.in_ok-meet.ensures ∙ ap (met course.group p.node) c.loop-at.invariant.met in
+    let is : c.meet.new.self ≡ next = c.meet.ensures ∙ ap (met course.group p.node) c.loop-at.invariant.met in
     let full : lacks next ≡ false = ap lacks (sym is) ∙ sym c.lacks.ensures ∙ c.if-not-lacks.true in
     let in_i : i < length ps = omega arith in
     let n : i + 1 ≡ c.loop-at.at = omega arith in
@@ -49,7 +49,7 @@ returns-then-not-lacks-clause-sizes c =
     let course = course_of c.args.self.now in
     let p = c.index-pairs-at.result in
     let rest = drop c.loop-at.at c.args.pairs.now in
-    let is : c.meet.new.self ≡ met_back course (p ∷ rest) c.args.tally.now = c.in_ok-meet.ensures ∙ ap (met course.group p.node) c.loop-at.invariant.met in
+    let is : c.meet.new.self ≡ met_back course (p ∷ rest) c.args.tally.now = c.meet.ensures ∙ ap (met course.group p.node) c.loop-at.invariant.met in
     subst (AskSame c.args.tally.now) (sym is) (met_back-asks course (p ∷ rest) c.args.tally.now)
 
 pub returns-clause-sizes : goal.returns-clause-sizes

@@ -17,8 +17,8 @@ loop-token-preserved c =
     let i = c.loop-token.token-index in
     let in_i : i < length tokens = omega arith in
     let inv = c.loop-token.invariant in
-    let more = part_more course tokens i c.loop-token.windows.items c.push.new.self.items c.loop-token.left c.token-item.result c.in_ok-part.field-0 in_i c.token-item.is inv.left inv.rights inv.parts c.in_ok-part.ensures.reach c.in_ok-push.ensures.items in
-    record { asks = c.in_ok-part.ensures.asks; left = more.left; rights = more.rights; parts = more.parts }
+    let more = part_more course tokens i c.loop-token.windows.items c.push.new.self.items c.loop-token.left c.token-item.result c.part.result in_i c.token-item.is inv.left inv.rights inv.parts c.part.ensures.reach c.in_ok-push.ensures.items in
+    record { asks = c.part.ensures.asks; left = more.left; rights = more.rights; parts = more.parts }
 
 pub returns-clause-reach : goal.returns-clause-reach
 returns-clause-reach c x =

@@ -10,6 +10,6 @@ use Rattle.ring_reach.proofs.walk.Walk.windows.Goals as goal
 pub returns-then-not-lacks-clause-reach : goal.returns-then-not-lacks-clause-reach
 returns-then-not-lacks-clause-reach c x =
     let course = course_of c.args.self.now in
-    let empty : c.in_ok-tally.tally ≡ none_yet course = cc (c.in_ok-tally.ensures) in
+    let empty : c.new-tally.result ≡ none_yet course = cc (c.new-tally.ensures) in
     let full : lacks (none_yet course) ≡ false = ap lacks (sym empty) ∙ sym c.lacks.ensures ∙ c.if-not-lacks.true in
     ap (λ (l : List Window). have l x) c.empty.ensures ∙ sym (leaves-none course full x c.args.moved.now)

@@ -9,9 +9,9 @@ from_distinct-requires c =
     let image = c.args.image.now in
     rw (c.as_slice.ensures, c.tokens.ensures) (distinct_tokens (tokens_of (low_ring image)) (widest-tokens image c.requires.sound).0)
 
-pub from_distinct-requires-2 : goal.from_distinct-requires-2
-from_distinct-requires-2 c =
+pub from_list-requires : goal.from_list-requires
+from_list-requires c =
     let image = c.args.image.now in
     let s = c.args.row.now in
-    rw (c.as_slice-2.ensures, c.in_ok-after.ensures)
+    rw c.in_ok-after.ensures
     (distinct_tokens (tokens_of (replaced (low_ring image) s.out_pairs s.in_pairs)) (applied-tokens image s c.requires.sound c.requires.moves))
