@@ -8,6 +8,7 @@ ghost use Rattle.cluster_metadata.specs.MapChanges as spec;
 use crate::arrangement::Arrangement;
 use crate::map_change::{BookChanges, BookEdits};
 use crate::map_row::MapRow;
+use cluster_terms::{Memory, TryCopy};
 use range_placements::{RowChanges, RowEdits};
 use std::alloc::Global;
 use std::marker::Model;
@@ -89,5 +90,15 @@ impl MapBook {
         while let Some(last) = edits.pop() {
             edit_at(&mut self.rows, edits.len(), last);
         }
+    }
+}
+
+impl TryCopy for MapBook {
+    fn copy(&self) -> Result<MapBook, Memory> {
+        let mut rows = Vec::with_capacity(*self.rows.allocator(), self.rows.len())?;
+        for row in &self.rows {
+            rows.push(row.copy()?)?;
+        }
+        Ok(MapBook { rows })
     }
 }

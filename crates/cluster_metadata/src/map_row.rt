@@ -1,4 +1,4 @@
-use cluster_terms::Replication;
+use cluster_terms::{Memory, Replication, TryCopy};
 use range_placements::PlacementMap;
 
 /// The placements under one replication.
@@ -6,4 +6,13 @@ use range_placements::PlacementMap;
 pub struct MapRow {
     pub replication: Replication,
     pub map: PlacementMap,
+}
+
+impl TryCopy for MapRow {
+    fn copy(&self) -> Result<MapRow, Memory> {
+        Ok(MapRow {
+            replication: self.replication.copy()?,
+            map: self.map.copy()?,
+        })
+    }
 }

@@ -1,4 +1,4 @@
-ghost use Rattle.std.specs.Prelude.{◌≡◌, ◌*◌, ◌-◌, ◌<◌, ◌≤◌, ◌^◌, ℤ, true, false, None, length, map, option_map, IfErr, IfOk, IfSome, IsNone, IsSome, IsTrue, MatchResult};
+ghost use Rattle.std.specs.Prelude.{◌≡◌, ◌*◌, ◌-◌, ◌<◌, ◌≤◌, ◌^◌, ◌↔◌, ℤ, [], true, false, None, length, map, option_map, IfErr, IfOk, IfSome, IsNone, IsSome, IsTrue, MatchResult};
 ghost use Rattle.std.specs.List.{All};
 ghost use Rattle.std.specs.Option.{option_copied};
 ghost use Rattle.std.specs.Ordering.{int_eq};
@@ -147,6 +147,29 @@ impl Metadata {
         ensures replications { HaveReplications self.now }
     {
         self.image.copy()
+    }
+
+    /// A copy of the metadata if no movement is in flight, and otherwise `None`: the lock of a movement has one holder.
+    /// Fails only if memory runs out.
+    ///
+    /// Cost: copies of the image, the directory and the rows of the placement maps.
+    pub fn idle_copy(&self) -> Result<Option<Metadata>, Memory>
+        ensures copy { IfOk result (λ copy. IfSome copy (λ other. other ≡ self.now)) }
+        ensures idle { IfOk result (λ copy. IsSome copy ↔ (self.now.sequences ≡ [])) }
+    {
+        if !self.image.sequences.as_slice().is_empty() {
+            return Ok(None);
+        }
+        let (image, directory) = (self.image.copy()?, self.directory.copy()?);
+        let maps = self.maps.copy()?;
+        Ok(Some(Metadata {
+            alloc: self.alloc,
+            image,
+            directory,
+            maps,
+            running: Vec::new(self.alloc),
+            locks: LockTable::empty(self.alloc),
+        }))
     }
 
     /// Returns a permit if the image accepts the command. The permit holds all memory that the command needs.

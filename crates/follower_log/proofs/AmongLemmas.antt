@@ -15,10 +15,10 @@ use Rattle.follower_log.specs.Follower.{by_epoch, waiting_at}
 -- ---- an entry among entries that are numbered
 
 -- an entry is the first one, or among the others
-abbrev Place : Entry → Entry → List Entry → Type 0
+abbrev pub Place : Entry → Entry → List Entry → Type 0
 Place entry first rest = (entry ≡ first) ⊎ Contains rest entry
 
-place_in : (entry first : Entry) (rest : List Entry) → Contains (first ∷ rest) entry → Place entry first rest
+pub place_in : (entry first : Entry) (rest : List Entry) → Contains (first ∷ rest) entry → Place entry first rest
 place_in entry first rest (k, within, is) = by k within is
   where
     by : (k : ℕ) → k < length (first ∷ rest) → get_or (first ∷ rest) k entry ≡ entry → Place entry first rest
@@ -69,10 +69,10 @@ contains_drop (suc k) m (first ∷ rest) entry all in_it up =
 -- ---- the entries of some epochs
 
 -- the first is among them or not, and the others are
-among_yes : (test : ℕ → Bool) (first : Entry) (rest : List Entry) → test first.epoch ≡ true → among test (first ∷ rest) ≡ first ∷ among test rest
+pub among_yes : (test : ℕ → Bool) (first : Entry) (rest : List Entry) → test first.epoch ≡ true → among test (first ∷ rest) ≡ first ∷ among test rest
 among_yes test first rest is = rw is refl
 
-among_no : (test : ℕ → Bool) (first : Entry) (rest : List Entry) → test first.epoch ≡ false → among test (first ∷ rest) ≡ among test rest
+pub among_no : (test : ℕ → Bool) (first : Entry) (rest : List Entry) → test first.epoch ≡ false → among test (first ∷ rest) ≡ among test rest
 among_no test first rest is = rw is refl
 
 -- two tests that agree from an epoch on find the same entries
@@ -124,7 +124,7 @@ found_among test m (first ∷ rest) entry all in_it =
         passes test entry.epoch first rest (ne_eqb entry.epoch first.epoch (λ same. omega (arith, same, is.own, low))) ∙ later in_rest
 
 -- an entry that is put among them is one more epoch that is tested
-put_before : (test : ℕ → Bool) (entry : Entry) (m : ℕ) (rest : List Entry) → are_numbered m rest ≡ true → entry.epoch < m → put by_epoch entry (among test rest) ≡ entry ∷ among test rest
+pub put_before : (test : ℕ → Bool) (entry : Entry) (m : ℕ) (rest : List Entry) → are_numbered m rest ≡ true → entry.epoch < m → put by_epoch entry (among test rest) ≡ entry ∷ among test rest
 put_before test entry m [] all low = refl
 put_before test entry m (first ∷ rest) all low =
     let is = numbered_first m first rest all in

@@ -27,13 +27,13 @@ use Rattle.follower_log.specs.declared.took.Took.TheVariants.{At, Old, Held, Ful
 
 -- ---- the states of a log
 
-epoch_of_state : (log : List Entry) (k : ℕ) → k ≤ length log → (state_after (commands_of log) k).epoch ≡ k
+pub epoch_of_state : (log : List Entry) (k : ℕ) → k ≤ length log → (state_after (commands_of log) k).epoch ≡ k
 epoch_of_state log k within = omega (arith, epoch_after (take k (commands_of log)), length-take k (commands_of log), length-commands_of log)
 
-numbers_of : (log : List Entry) → IsLog log → are_numbered 1 log ≡ true
+pub numbers_of : (log : List Entry) → IsLog log → are_numbered 1 log ≡ true
 numbers_of log is = (and_parts (are_numbered 1 log) (have_own_ids log) is.entries).0
 
-numbers_after : (log : List Entry) (k : ℕ) → IsLog log → k ≤ length log → are_numbered (k + 1) (drop k log) ≡ true
+pub numbers_after : (log : List Entry) (k : ℕ) → IsLog log → k ≤ length log → are_numbered (k + 1) (drop k log) ≡ true
 numbers_after log k is within = subst (λ m. are_numbered (m + 1) (drop k log) ≡ true) (epoch_of_state log k within) (log_follows log k is).numbered
 
 -- ---- what is reached without a gap
@@ -355,7 +355,7 @@ empty_stands log = record {
 -- ---- the entry of the next epoch
 
 -- it waits if and only if it was taken
-next_waits : (log : List Entry) (taken : Taken) (f : FollowerState) → IsLog log → StandsFor log taken f → (waiting_at f.waiting (f.image.epoch + 1) ≡ None) ↔ (has_entry taken (f.image.epoch + 1) ≡ false)
+pub next_waits : (log : List Entry) (taken : Taken) (f : FollowerState) → IsLog log → StandsFor log taken f → (waiting_at f.waiting (f.image.epoch + 1) ≡ None) ↔ (has_entry taken (f.image.epoch + 1) ≡ false)
 next_waits log taken f is stands = by (drop f.image.epoch log) refl
   where
     k : ℕ

@@ -1,5 +1,5 @@
 -- The follower machine: what a follower shows, and what it makes of each entry and image that it is handed.
-use Rattle.std.specs.Prelude.{◌≡◌, ℕ, ◌+◌, ◌<◌, ◌≤◌, Bool, ◌&&◌, ◌==◌, if◌then◌else◌, List, [], ◌∷◌, filter, find, length, Option, Some, None, Result, Ok, Err, nat_le, nat_lt}
+use Rattle.std.specs.Prelude.{◌≡◌, ℕ, ◌+◌, ◌<◌, ◌≤◌, Bool, ◌&&◌, ◌==◌, if◌then◌else◌, List, [], ◌∷◌, filter, find, is_none, length, Option, Some, None, Result, Ok, Err, nat_le, nat_lt}
 use Rattle.std.specs.Ordering.{nat_cmp}
 use Rattle.std.specs.declared.cmp.Ordering.{Ordering}
 use Rattle.cluster_terms.specs.Ascending.{put}
@@ -66,6 +66,12 @@ advanced image (entry ∷ waiting) =
 -- the waiting entry of an epoch
 abbrev pub waiting_at : List Entry → ℕ → Option Entry
 waiting_at waiting epoch = find (λ entry. epoch == entry.epoch) waiting
+
+-- whether a follower lacks the entry of this epoch alone, of all up to an epoch: it is the next one, it doesn't wait, and
+-- as many wait as there are epochs after it
+abbrev pub lacks_only : FollowerState → ℕ → ℕ → Bool
+lacks_only follower epoch last =
+    (epoch == follower.image.epoch + 1) && (is_none (waiting_at follower.waiting epoch) && (epoch + length follower.waiting == last))
 
 -- the most entries that wait
 abbrev pub most_waiting : ℕ

@@ -1,11 +1,12 @@
-ghost use Rattle.std.specs.Prelude.{◌≡◌, ◌+◌, ◌<◌, ◌≤◌, ◌∷◌, true, List, Some, None, length, IfOk, IsTrue};
+ghost use Rattle.std.specs.Prelude.{◌≡◌, ◌+◌, ◌<◌, ◌≤◌, ◌∷◌, true, List, [], Ok, Some, None, length, IfOk, IsTrue};
 ghost use Rattle.cluster_terms.specs.Ascending.{put};
-ghost use Rattle.transformations.specs.History.{is_command, most_epochs};
-ghost use Rattle.transformations.specs.Log.{IsLog};
+ghost use Rattle.transformations.specs.History.{is_command, most_epochs, state_after};
+ghost use Rattle.transformations.specs.Log.{IsLog, commands_of};
 ghost use Rattle.transformations.specs.declared.entry.Entry.{Entry as LogEntry};
-ghost use Rattle.follower_log.specs.Follower.{Performs, FollowerState, IsAdvance, IsCutFrom, IsCutPast, advanced, by_epoch, empty_follower, hand_above, hand_entry, hand_image, hand_new, hand_valid, is_next, waiting_at};
+ghost use Rattle.follower_log.specs.Follower.{Performs, FollowerState, IsAdvance, IsCutFrom, IsCutPast, advanced, by_epoch, empty_follower, hand_above, hand_entry, hand_image, hand_new, hand_valid, is_next, lacks_only, waiting_at};
 ghost use Rattle.follower_log.specs.Kept.{Advances, ComesFirst};
 ghost use Rattle.follower_log.specs.Kept as spec;
+ghost use Rattle.follower_log.specs.declared.took.Took.{Took};
 ghost use Rattle.follower_log.specs.Prefix.{IsEntryOf, IsImageOf, StandsAfter, StandsFor, Taken, nothing_taken, with_entry, with_image};
 
 use crate::apply_fault::ApplyFault;
@@ -121,6 +122,37 @@ impl Follower {
             return compared(held, entry, epoch);
         }
         Ok(self.take(entry)?)
+    }
+
+    /// Whether the follower lacks the entry of this epoch alone, of all up to the epoch `last`: it is the next one, it
+    /// doesn't wait, and as many entries wait as there are epochs after it. The cost is a search among the waiting
+    /// entries, if their number fits.
+    pub fn lacks_only(&self, epoch: u64, last: u64) -> bool
+        ensures { result ≡ lacks_only self.now epoch last }
+    {
+        epoch > self.epoch()
+            && epoch - self.epoch() == 1
+            && last >= epoch
+            && last - epoch == self.waiting.len() as u64
+            && self.waiting.at(epoch).is_none()
+    }
+
+    /// Takes over the metadata of the last epoch of a log, and forgets the entries that wait. If the follower lacks one
+    /// entry of this log, it comes to the same as `deliver` with this entry, without applying it and those that wait.
+    ///
+    /// Takes no memory. Cost: that of `Metadata::close`.
+    pub fn end_at(&mut self, last: Metadata) -> Took
+        ensures state { self.new ≡ record { image = last; waiting = [] } }
+        ensures took { result ≡ Took.At last.epoch }
+        ensures step { (log : List LogEntry) (taken : Taken) (entry : LogEntry) → IsLog log → IsEntryOf log entry
+            → StandsFor log taken self.old → lacks_only self.old entry.epoch (length log) ≡ true
+            → last ≡ state_after (commands_of log) (length log)
+            → Performs self.old (hand_entry self.old entry) (Ok result) self.new }
+    {
+        let epoch = last.epoch();
+        self.waiting = Waiting::empty(self.alloc);
+        replace(&mut self.metadata, last).close();
+        Took::At(epoch)
     }
 
     /// Takes an entry above the follower's epoch, at whose epoch none waits, unless too many wait.

@@ -1,4 +1,4 @@
-ghost use Rattle.std.specs.Prelude.{◌≡◌, [], ◌∷◌, ◌++◌, length, IfOk, OnOk};
+ghost use Rattle.std.specs.Prelude.{◌≡◌, [], ◌∷◌, ◌++◌, length, IfOk, IfSome, OnOk};
 
 use crate::few_ids::{FewIds, INLINE_IDS};
 use cluster_terms::{Memory, NodeId};
@@ -80,6 +80,17 @@ impl IdList {
         match &self.ids {
             Ids::Few(few) => few.as_slice(),
             Ids::Many(many) => many.as_slice(),
+        }
+    }
+
+    /// The ids, if they are stored inline.
+    #[inline]
+    pub(crate) fn inline(&self) -> Option<&FewIds>
+        ensures { IfSome result (λ few. few.now ≡ self.now) }
+    {
+        match &self.ids {
+            Ids::Few(few) => Some(few),
+            Ids::Many(_) => None,
         }
     }
 

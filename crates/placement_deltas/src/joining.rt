@@ -1,4 +1,4 @@
-ghost use Rattle.std.specs.Prelude.{◌≡◌, ◌++◌, None, length, map, IfOk};
+ghost use Rattle.std.specs.Prelude.{◌≡◌, ◌++◌, None, Some, length, map, IfOk};
 ghost use Rattle.placement_deltas.specs.Joining as spec;
 
 use crate::delta_row::{DeltaRow, DeltaRows};
@@ -8,9 +8,21 @@ use node_sets::NodeSet;
 use std::alloc::Global;
 
 /// The row up to a right end, with the nodes that are in only one of two sets.
-fn change_row(right: RightEnd, before: &NodeSet, after: &NodeSet) -> Result<DeltaRow, Memory>
+fn change_row(
+    alloc: Global,
+    right: RightEnd,
+    before: &NodeSet,
+    after: &NodeSet,
+) -> Result<DeltaRow, Memory>
     ensures { IfOk result (λ row. row ≡ spec.change_row right before.now after.now) }
 {
+    if before.ids() == after.ids() {
+        return Ok(DeltaRow {
+            right,
+            gained: NodeSet::empty(alloc),
+            lost: NodeSet::empty(alloc),
+        });
+    }
     let gained = after.minus(before)?;
     let lost = before.minus(after)?;
     Ok(DeltaRow {
@@ -80,10 +92,10 @@ pub(crate) fn joined(
     ensures { IfOk result
         (λ joined. joined ≡ spec.joined_from None (spec.change_rows rows.now before.now after.now)) }
 {
-    let mut joined = DeltaRows::empty(alloc);
+    let mut joined = DeltaRows::with_room(alloc, rows.len())?;
     let mut begun = None;
     for ((row, before), after) in rows.iter().zip(before).zip(after) {
-        let next = change_row(row.right, before, after)?;
+        let next = change_row(alloc, row.right, before, after)?;
         push_begun(&mut joined, begun, &next)?;
         begun = Some(next);
     }
@@ -91,18 +103,46 @@ pub(crate) fn joined(
     Ok(joined)
 }
 
+/// Whether two rows have the same nodes on one side.
+fn same_side(side: Side, row: &DeltaRow, other: &DeltaRow) -> bool
+    ensures { result ≡ spec.same_change (spec.row_of_side side row.now) (spec.row_of_side side other.now) }
+{
+    match side {
+        Side::Gained => row.gained.ids() == other.gained.ids(),
+        Side::Lost => row.lost.ids() == other.lost.ids(),
+    }
+}
+
+/// Adds the row with the nodes of one side alone, unless the next row has the same nodes on this side.
+fn push_side(
+    rows: &mut DeltaRows,
+    alloc: Global,
+    side: Side,
+    row: &DeltaRow,
+    next: &DeltaRow,
+) -> Result<(), Memory>
+    ensures { IfOk result (λ _. rows.new
+        ≡ rows.old ++ spec.closed (Some (spec.row_of_side side row.now)) (spec.row_of_side side next.now)) }
+{
+    if !same_side(side, row, next) {
+        rows.push(row_of_side(alloc, side, row)?)?;
+    }
+    Ok(())
+}
+
 /// The rows with the nodes of one side alone, with adjacent rows joined if these nodes are equal.
 pub(crate) fn joined_side(alloc: Global, side: Side, rows: &[DeltaRow]) -> Result<DeltaRows, Memory>
     ensures { IfOk result
         (λ joined. joined ≡ spec.joined_from None (map (spec.row_of_side side) rows.now)) }
 {
-    let mut joined = DeltaRows::empty(alloc);
-    let mut begun = None;
-    for row in rows {
-        let next = row_of_side(alloc, side, row)?;
-        push_begun(&mut joined, begun, &next)?;
-        begun = Some(next);
+    let mut joined = DeltaRows::with_room(alloc, rows.len())?;
+    if rows.is_empty() {
+        return Ok(joined);
     }
-    push_last(&mut joined, begun)?;
+    let last = rows.len() - 1;
+    for i in 0..last {
+        push_side(&mut joined, alloc, side, &rows[i], &rows[i + 1])?;
+    }
+    push_last(&mut joined, Some(row_of_side(alloc, side, &rows[last])?))?;
     Ok(joined)
 }

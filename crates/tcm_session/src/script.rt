@@ -16,15 +16,14 @@ use crate::lines::{cut_line, keep_begun};
 use crate::session::Session;
 use cluster_terms::ByteText;
 use std::alloc::Global;
+use std::mem::replace;
 use tcm_edges::{Sink, Store, write_all};
 
-/// The bytes for which the text of an answer has room at once. Most answers have fewer.
-const ANSWER_ROOM: usize = 64;
-
-/// Answers a line, and writes the answer to `out` at once. At a fault, a prefix of the answer may be written, and a
-/// prefix of the line of its entry may be in the file: all of this line, if any byte of the answer is written.
+/// Answers a line, and writes the answer to `out` at once. The answer is made in the memory of `room`, whose bytes are
+/// passed over. At a fault, a prefix of the answer may be written, and a prefix of the line of its entry may be in the
+/// file: all of this line, if any byte of the answer is written.
 pub fn answer_line<K: Sink, D: Store>(
-    alloc: Global,
+    room: &mut Vec<u8>,
     session: &mut Session,
     line: &[u8],
     log: Option<&str>,
@@ -44,9 +43,12 @@ pub fn answer_line<K: Sink, D: Store>(
         (D.files store.old) (D.files store.new)) }
     ensures unnamed { LeavesStore (option_copied log.entry) store.old store.new result }
 {
-    let mut text = ByteText::from_vec(Vec::with_capacity(alloc, ANSWER_ROOM)?);
+    room.clear();
+    let no_room = Vec::new(*room.allocator());
+    let mut text = ByteText::from_vec(replace(room, no_room));
     session.step(line, log, store, &mut text)?;
     write_all(out, text.as_slice())?;
+    *room = text.into_vec();
     Ok(())
 }
 
@@ -73,10 +75,11 @@ pub fn feed<K: Sink, D: Store>(
         ≡ counts_by result (counts 0 (K.faults out.old) (D.faults store.old)) }
     ensures unnamed { LeavesStore (option_copied log.entry) store.old store.new result }
 {
+    let mut room = Vec::new(alloc);
     let mut rest = piece;
     while let Some((line, more)) = cut_line(rest) {
         keep_begun(begun, line)?;
-        answer_line(alloc, session, begun.as_slice(), log, store, out)?;
+        answer_line(&mut room, session, begun.as_slice(), log, store, out)?;
         begun.clear();
         rest = more;
     }

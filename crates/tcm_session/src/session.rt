@@ -15,6 +15,7 @@ ghost use Rattle.tcm_session.specs.Steps.{IsNextEntry, Leaves, LeavesSession, On
 
 mod asking;
 mod handing;
+mod handing_over;
 mod keeping;
 mod taking;
 
@@ -165,7 +166,8 @@ impl Session {
     ///
     /// Cost: a commit costs one look-up of its id, and the cost of `Metadata::admit`. The first one that is accepted
     /// after each 256th epoch also copies the image. A line on a follower costs a comparison with the names of the followers,
-    /// and the cost of `Follower::deliver` or `Follower::snapshot`. The image of an earlier epoch costs as
+    /// and the cost of `Follower::deliver` or `Follower::snapshot`; a follower that lacks this entry alone may cost a
+    /// copy of the metadata instead. The image of an earlier epoch costs as
     /// `Snapshots::state_at` says, with at most 255 commands.
     pub fn step<D: Store>(
         &mut self,

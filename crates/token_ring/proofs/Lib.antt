@@ -1,6 +1,7 @@
 mod ApartLemmas
 pub mod BoundLemmas
 pub mod ChosenRows
+mod CutLemmas
 pub mod DistinctLemmas
 pub mod JoinLemmas
 pub mod MergedRings

@@ -65,7 +65,7 @@ fn place_in_all(
         let mut walk = Walk::begin(*shape);
         walk.go_along(&members, shape.wanted, rest);
         walk.go_along(&members, shape.wanted, front);
-        add_nodes(alloc, &mut placed, walk.nodes())?;
+        add_nodes(&mut placed, walk.nodes())?;
     }
     Ok(placed)
 }

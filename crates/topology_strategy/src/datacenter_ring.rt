@@ -78,7 +78,7 @@ impl<'a> DatacenterRing<'a> {
 
     /// Adds the replicas that the datacenter has at a token to a set: the nodes that the walk from the token takes.
     /// Takes memory only for more than 7 nodes. If memory runs out, the set is unchanged. The cost is a binary search,
-    /// the walk, and one pass over the set.
+    /// the walk, and that of `NodeSet::with_all`.
     pub fn place_at(&self, t: Token, placed: &mut NodeSet) -> Result<(), Memory>
         ensures ascend { OnOk result (IsNodeSet placed.new) }
         ensures nodes { OnOk result ((v : ℕ) → has_node placed.new v
@@ -91,6 +91,6 @@ impl<'a> DatacenterRing<'a> {
         let mut walk = Walk::begin(self.shape);
         walk.go_among(self.shape.wanted, rest, rest_racks);
         walk.go_among(self.shape.wanted, front, front_racks);
-        add_nodes(*pairs.allocator(), placed, walk.nodes())
+        add_nodes(placed, walk.nodes())
     }
 }

@@ -5,19 +5,13 @@ ghost use Rattle.node_sets.specs.NodeSets.{IsNodeSet, has_node};
 
 use cluster_terms::{Memory, NodeId};
 use node_sets::NodeSet;
-use std::alloc::Global;
 
 /// Adds nodes to a set. Takes memory only for more than 7 nodes. If memory runs out, the set is unchanged.
-pub fn add_nodes(alloc: Global, placed: &mut NodeSet, nodes: &[NodeId]) -> Result<(), Memory>
+pub fn add_nodes(placed: &mut NodeSet, nodes: &[NodeId]) -> Result<(), Memory>
     ensures ascend { OnOk result (IsNodeSet placed.new) }
     ensures nodes { OnOk result ((v : ℕ) → has_node placed.new v
         ≡ (has_node placed.old v || has_node nodes.now v)) }
 {
-    let more = NodeSet::from_ids(alloc, nodes)?;
-    if placed.is_empty() {
-        *placed = more;
-    } else {
-        *placed = placed.union(&more)?;
-    }
+    *placed = placed.with_all(nodes)?;
     Ok(())
 }

@@ -3,7 +3,7 @@
 use crate::tests::running::Script;
 
 /// Followers of a log of four nodes, and of a join.
-pub const ON_FOUR: [Script; 4] = [
+pub const ON_FOUR: [Script; 5] = [
     (
         "follower-out-of-order",
         "follower f\n\
@@ -147,6 +147,82 @@ pub const ON_FOUR: [Script; 4] = [
             2 b dc1 r1 JOINED 100\n\
             3 c dc1 r1 JOINED 200\n\
             4 d dc1 r1 JOINED 300\n",
+    ),
+    (
+        "a follower that came to the end of the log goes on",
+        "follower f\n\
+            deliver f 11\n\
+            deliver f 10\n\
+            deliver f 9\n\
+            deliver f 8\n\
+            deliver f 7\n\
+            deliver f 6\n\
+            deliver f 5\n\
+            deliver f 4\n\
+            deliver f 3\n\
+            deliver f 2\n\
+            deliver f 1\n\
+            commit 12 prepare-join 5 150\n\
+            commit 13 start-join 5\n\
+            deliver f 12\n\
+            deliver f 13\n\
+            commit 14 mid-join 5\n\
+            commit 15 finish-join 5\n\
+            deliver f 15\n\
+            deliver f 14\n\
+            place f ks\n\
+            commit 16 prepare-leave 1\n\
+            commit 17 start-leave 1\n\
+            commit 18 mid-leave 1\n\
+            deliver f 18\n\
+            deliver f 16\n\
+            deliver f 17\n\
+            quorum f ks 350\n\
+            nodes f\n\
+            deliver f 18\n",
+        "AT 0\n\
+            AT 0\n\
+            AT 0\n\
+            AT 0\n\
+            AT 0\n\
+            AT 0\n\
+            AT 0\n\
+            AT 0\n\
+            AT 0\n\
+            AT 0\n\
+            AT 0\n\
+            AT 11\n\
+            OK 12\n\
+            OK 13\n\
+            AT 12\n\
+            AT 13\n\
+            OK 14\n\
+            OK 15\n\
+            AT 13\n\
+            AT 15\n\
+            PLACE 15 ks 6\n\
+            (min,0] read 1,2,5 write 1,2,5\n\
+            (0,100] read 2,3,5 write 2,3,5\n\
+            (100,150] read 3,4,5 write 3,4,5\n\
+            (150,200] read 1,3,4 write 1,3,4\n\
+            (200,300] read 1,2,4 write 1,2,4\n\
+            (300,max] read 1,2,5 write 1,2,5\n\
+            OK 16\n\
+            OK 17\n\
+            OK 18\n\
+            AT 15\n\
+            AT 16\n\
+            AT 18\n\
+            QUORUM 18 read 2 of 2,3,5 write 3 of 1,2,3,5\n\
+            NODES 18 6 1\n\
+            1 a dc1 r1 LEAVING 0\n\
+            2 b dc1 r1 JOINED 100\n\
+            3 c dc1 r1 JOINED 200\n\
+            4 d dc1 r1 JOINED 300\n\
+            5 e dc1 r1 JOINED 150\n\
+            6 f dc1 r1 REGISTERED -\n\
+            SEQ 1 leave MID out 0@1 in -\n\
+            OLD 18\n",
     ),
 ];
 

@@ -12,10 +12,20 @@ use script_lang::labelled;
 use std::alloc::Global;
 use tcm_edges::SureStore;
 
+/// The bytes for which the text of a line or of an answer has room at once. Most have fewer.
+const TEXT_ROOM: usize = 64;
+
 /// The session after some lines, and the kinds of the answers to them. The value must be consumed, by `close`.
 pub struct Generation {
     pub session: Session,
     pub kinds: SmallList<AnswerKind>,
+}
+
+/// The empty text, with room for a line or an answer. Fails only if memory runs out.
+fn text_in_room(alloc: Global) -> Result<ByteText, Memory>
+    ensures { IfOk result (λ text. text ≡ []) }
+{
+    ByteText::with_room(alloc, TEXT_ROOM)
 }
 
 impl Generation {
@@ -51,7 +61,7 @@ impl Generation {
         ensures { OnOk result (self.new ≡ spec.after_line self.old line.now) }
     {
         let mut store = SureStore::new(alloc);
-        let mut text = ByteText::empty(alloc);
+        let mut text = text_in_room(alloc)?;
         match self.session.step(line, None, &mut store, &mut text) {
             Ok(()) => self.note(kind_of(text.as_slice())),
             Err(_fault) => Err(Memory),
@@ -71,7 +81,7 @@ impl Generation {
         ensures { OnOk result (self.new ≡ spec.after_line self.old
             (lines.commit_line id (lines.register_words letter.now number dc rack))) }
     {
-        let mut line = ByteText::empty(alloc);
+        let mut line = text_in_room(alloc)?;
         register_line(id, letter, number, dc, rack, &mut line)?;
         self.answer(alloc, line.as_slice())
     }
@@ -88,7 +98,7 @@ impl Generation {
         ensures { OnOk result (self.new ≡ spec.after_line self.old
             (lines.commit_line id (lines.with_token word.now node token))) }
     {
-        let mut line = ByteText::empty(alloc);
+        let mut line = text_in_room(alloc)?;
         token_line(id, word, node, token, &mut line)?;
         self.answer(alloc, line.as_slice())
     }
@@ -104,7 +114,7 @@ impl Generation {
         ensures { OnOk result (self.new ≡ spec.after_line self.old
             (lines.commit_line id (lines.on_node word.now node))) }
     {
-        let mut line = ByteText::empty(alloc);
+        let mut line = text_in_room(alloc)?;
         node_line(id, word, node, &mut line)?;
         self.answer(alloc, line.as_slice())
     }
@@ -113,7 +123,7 @@ impl Generation {
     fn deliver(&mut self, alloc: Global, epoch: u64) -> Result<(), Memory>
         ensures { OnOk result (self.new ≡ spec.after_line self.old (lines.deliver_line epoch)) }
     {
-        let mut line = ByteText::empty(alloc);
+        let mut line = text_in_room(alloc)?;
         labelled(b"deliver f ", &epoch, &mut line)?;
         self.answer(alloc, line.as_slice())
     }
