@@ -1,6 +1,7 @@
 pub mod CancelLemmas
 pub mod DeltasAcross
 pub mod ImageRings
+pub mod KeyspaceLemmas
 pub mod LockLemmas
 pub mod LockRefusals
 pub mod LocksKept

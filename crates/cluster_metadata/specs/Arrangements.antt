@@ -7,7 +7,7 @@ use Rattle.transformations.specs.declared.image.Image.{Image}
 use Rattle.cluster_metadata.specs.Maps.{AreMapsOf}
 use Rattle.cluster_metadata.specs.declared.arrangement.Slot.{Slot}
 use Rattle.cluster_metadata.specs.declared.arrangement.Slot.TheVariants.{Kept, Placed}
-use Rattle.cluster_metadata.specs.declared.map_row.MapRow.{MapRow}
+use Rattle.range_placements.specs.declared.map_row.MapRow.{MapRow}
 
 -- the maps of these slots: each that is kept is taken out of a book, and a position past the last map gives none
 abbrev pub arranged : List Slot → List MapRow → List MapRow

@@ -23,10 +23,11 @@ use Rattle.transformations.specs.declared.sequence.Phase.TheVariants as phase
 use Rattle.transformations.specs.declared.sequence.SeqRow.{SeqRow}
 use Rattle.cluster_metadata.specs.Nodes.{IsLeftRow, IsNew, nodes_left}
 use Rattle.cluster_metadata.specs.declared.change.Change.{Change}
-use Rattle.cluster_metadata.specs.declared.change.Change.TheVariants.{Registered, Unregistered, Tokens, Keyspaces, Begun, Started, Mid, Finished, Ended, BroughtBack}
+use Rattle.cluster_metadata.specs.declared.change.Change.TheVariants.{Unchanged, Registered, Unregistered, Tokens, Keyspaces, Begun, Started, Mid, Finished, Ended, BroughtBack}
 
 -- the image after a change; each change adds one epoch
 abbrev pub changed : Image → Change → Image
+changed image Unchanged = record image { epoch = image.epoch + 1 }
 changed image (Registered node) = record image { epoch = image.epoch + 1; next = node.next; nodes = image.nodes ++ node.row ∷ [] }
 changed image (Unregistered n) = record image { epoch = image.epoch + 1; nodes = other_rows image.nodes n }
 changed image (Tokens tokens) = record image { epoch = image.epoch + 1; tokens = tokens }
@@ -99,6 +100,7 @@ Suits image (Register name dc rack) (Registered node) = Unit {0}
 Suits image (Unregister n) (Unregistered m) = Unit {0}
 Suits image (UnsafeJoin n tokens) (Tokens pairs) = Unit {0}
 Suits image (Keyspace name r) (Keyspaces rows) = Unit {0}
+Suits image (Keyspace name r) Unchanged = Unit {0}
 Suits image (DropKeyspace name) (Keyspaces rows) = Unit {0}
 Suits image (Step goal.Start kind n) (Started at row) = IsMovementAt image n at
 Suits image (Step goal.Mid kind n) (Mid at row) = IsMovementAt image n at

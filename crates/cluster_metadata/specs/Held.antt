@@ -9,7 +9,7 @@ use Rattle.cluster_metadata.specs.Change.{directory_of}
 use Rattle.sequence_plans.specs.Locks.{AreLocksOf}
 use Rattle.cluster_metadata.specs.Maps.{AreMaps}
 use Rattle.cluster_metadata.specs.Running.{HaveDeltas, IsRunning}
-use Rattle.cluster_metadata.specs.declared.map_row.MapRow.{MapRow}
+use Rattle.range_placements.specs.declared.map_row.MapRow.{MapRow}
 use Rattle.cluster_metadata.specs.declared.running.Running.{Running}
 
 -- the image is valid, each of its keyspaces has a replication, and there are the directory of its nodes, its placement

@@ -14,7 +14,7 @@ use Rattle.cluster_metadata.specs.Maps.{AreMaps}
 use Rattle.cluster_metadata.specs.declared.change.Change.{Change}
 use Rattle.cluster_metadata.specs.declared.map_change.MapChange.{MapChange}
 use Rattle.cluster_metadata.specs.declared.map_change.MapChange.TheVariants.{Keep, Anew, Arranged, Sets, Rows}
-use Rattle.cluster_metadata.specs.declared.map_row.MapRow.{MapRow}
+use Rattle.range_placements.specs.declared.map_row.MapRow.{MapRow}
 
 -- a book with a change of the map at a position, and with a change of each map
 abbrev pub revised_at : {C : Type 0} → (C → List PlacementRow → List PlacementRow) → ℕ → C → List MapRow → List MapRow

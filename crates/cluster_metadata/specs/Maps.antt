@@ -9,7 +9,7 @@ use Rattle.range_placements.specs.declared.placement_row.PlacementRow.{Placement
 use Rattle.sequence_plans.specs.Replications.{replications_of}
 use Rattle.transformations.specs.Rings.{cuts, reads_at, writes_at}
 use Rattle.transformations.specs.declared.image.Image.{Image}
-use Rattle.cluster_metadata.specs.declared.map_row.MapRow.{MapRow}
+use Rattle.range_placements.specs.declared.map_row.MapRow.{MapRow}
 
 -- a row between cuts, with the nodes that are read and the nodes that are written at its last token
 abbrev pub placement_row : Image → Replication → TokenRange → PlacementRow

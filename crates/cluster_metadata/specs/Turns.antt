@@ -15,7 +15,7 @@ use Rattle.range_placements.specs.declared.placement_row.PlacementRow.{Placement
 use Rattle.range_placements.specs.declared.row_changes.RowChange.{RowChange}
 use Rattle.transformations.specs.declared.sequence.Phase.{Phase}
 use Rattle.transformations.specs.declared.sequence.Phase.TheVariants.{Prepared, Started, Mid}
-use Rattle.cluster_metadata.specs.declared.map_row.MapRow.{MapRow}
+use Rattle.range_placements.specs.declared.map_row.MapRow.{MapRow}
 use Rattle.cluster_metadata.specs.declared.turn.Turn.{Turn}
 use Rattle.cluster_metadata.specs.declared.turn.Turn.TheVariants.{Keep, Reads, Writes, ReadsBack, WritesBack}
 

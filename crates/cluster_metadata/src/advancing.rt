@@ -67,6 +67,7 @@ fn change_image(image: &mut Image, change: Change)
 {
     image.epoch += 1;
     match change {
+        Change::Unchanged => {}
         Change::Registered(node) => add_node(image, node.take()),
         Change::Unregistered { node } => remove_node(&mut image.nodes, node),
         Change::Tokens(tokens) => image.tokens = tokens,

@@ -2,8 +2,8 @@ ghost use Rattle.std.specs.Prelude.{◌≡◌, ◌+◌, ◌<◌, ◌≤◌, ◌�
 ghost use Rattle.cluster_metadata.specs.Arrangements.{arranged};
 ghost use Rattle.cluster_metadata.specs.declared.arrangement.Slot.{Slot as AnySlot};
 
-use crate::map_row::MapRow;
 use cluster_terms::Memory;
+use range_placements::MapRow;
 use std::alloc::Global;
 use std::marker::Model;
 

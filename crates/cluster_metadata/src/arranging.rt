@@ -10,10 +10,10 @@ ghost use Rattle.cluster_metadata.specs.Maps.{AreMapsOf, IsMapOf};
 
 use crate::arrangement::{Arrangement, Slot};
 use crate::map_book::MapBook;
-use crate::map_row::MapRow;
 use crate::maps::place_map;
 use cluster_terms::{Memory, Replication, Steps, TryCopy};
 use node_directory::Directory;
+use range_placements::MapRow;
 use std::alloc::Global;
 use std::marker::Brand;
 use std::sync::ledger::{Blank, Ledger};

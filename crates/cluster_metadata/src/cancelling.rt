@@ -14,7 +14,7 @@ use cluster_terms::{Memory, NodeId};
 use transformations::{Image, Phase};
 
 /// Whether a movement at a phase is half way.
-fn is_mid(phase: Phase) -> bool
+pub fn is_mid(phase: Phase) -> bool
     ensures { result ≡ is_mid phase }
 {
     matches!(phase, Phase::Mid)

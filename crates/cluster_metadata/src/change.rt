@@ -9,6 +9,8 @@ use transformations::{KeyspaceRows, SeqRow, SeqRows};
 /// of the row of one node or one movement. `at` is the position of this movement among the movements.
 #[derive(Drop)]
 pub enum Change {
+    /// All lists stay as they are.
+    Unchanged,
     /// A node is registered.
     Registered(OnHeap<NewNode>),
     /// A node is removed.

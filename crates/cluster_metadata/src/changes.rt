@@ -1,6 +1,6 @@
 //! The change that a command makes in an image that accepts it.
 
-ghost use Rattle.std.specs.Prelude.{◌≡◌, ◌<◌, ◌^◌, ◌-◌, true, not, None, filter, IfOk, OnOk};
+ghost use Rattle.std.specs.Prelude.{◌≡◌, ◌<◌, ◌^◌, ◌-◌, true, not, None, Some, filter, option_map, IfOk, IsTrue, OnOk};
 ghost use Rattle.std.specs.Str.{bytes_eq};
 ghost use Rattle.cluster_terms.specs.Replication.{IsReplication};
 ghost use Rattle.transformations.specs.History.{is_command};
@@ -10,11 +10,14 @@ ghost use Rattle.transformations.specs.Valid.{IsSound};
 ghost use Rattle.transformations.specs.declared.command.Command.TheVariants as command;
 ghost use Rattle.cluster_metadata.specs.Change.{IsChange};
 ghost use Rattle.sequence_plans.specs.Locks.{AreLocksOf};
+ghost use Rattle.cluster_metadata.specs.Maps.{AreMaps};
+ghost use Rattle.cluster_metadata.specs.Served.{keyspace_of};
 ghost use Rattle.cluster_metadata.specs.Permission.{AdmitsUnless};
 
 use crate::admit_fault::AdmitFault;
 use crate::cancelling::cancel;
 use crate::change::Change;
+use crate::keyspaces::keyspace_of;
 use crate::new_node::{NewNode, new_row};
 use crate::on_heap::OnHeap;
 use crate::pairs::with_pairs;
@@ -23,6 +26,7 @@ use crate::stepping::step;
 use cluster_terms::{Memory, Name, NodeId, Replication, Steps, TokenList, TryCopy};
 use locked_ranges::LockTable;
 use node_directory::Directory;
+use range_placements::MapRow;
 use sequence_rows::pairs_with;
 use std::alloc::Global;
 use std::sync::ledger::Ledger;
@@ -62,12 +66,29 @@ fn unsafe_join(
     Ok(Change::Tokens(ring))
 }
 
-/// The change that makes a keyspace, or gives it another replication.
+/// Whether a keyspace of this name has this replication already.
+fn has_keyspace(image: &Image, name: &Name, replication: &Replication) -> bool
+    ensures { IsTrue result → option_map (λ row. row.replication) (keyspace_of image.now name.now) ≡ Some replication.now }
+{
+    match keyspace_of(image, name) {
+        Some(row) => row.replication.same(replication),
+        None => false,
+    }
+}
+
+/// The change that makes a keyspace, or gives it another replication. A keyspace that has the replication already stays
+/// as it is.
 #[tactic(auto, unfolding(transformations::specs::History::next_image))]
 fn set_keyspace(image: &Image, name: &Name, replication: &Replication) -> Result<Change, Memory>
+    requires { IsSound image.now }
     ensures change { IfOk result (IsChange image.now (command.Keyspace name.now replication.now)) }
     ensures replicated { OnOk result (IsReplication replication.now) }
 {
+    if has_keyspace(image, name, replication) {
+        // For the proof: a replication with a total is valid.
+        let _total = replication.total();
+        return Ok(Change::Unchanged);
+    }
     let mut keyspaces = image.keyspaces.copy()?;
     keyspaces.put(KeyspaceRow {
         name: name.copy()?,
@@ -124,6 +145,7 @@ pub fn change_of<L: Ledger>(
     alloc: Global,
     image: &Image,
     directory: &Directory,
+    maps: &[MapRow],
     locks: &LockTable,
     cmd: &Command,
     walks: &mut Steps<L>,
@@ -131,6 +153,7 @@ pub fn change_of<L: Ledger>(
     requires next { image.now.next < 2 ^ 32 - 1 }
     requires sound { IsSound image.now }
     requires nodes { directory.now.rows ≡ image.now.nodes }
+    requires maps { AreMaps image.now maps.now }
     requires locks { AreLocksOf image.now image.now.sequences locks.now }
     requires formed { is_command cmd.now ≡ true }
     requires early { early_refusal_of image.now cmd.now ≡ None }
@@ -140,7 +163,7 @@ pub fn change_of<L: Ledger>(
     ensures uncounted { prepared_by image.now.tokens cmd.now ≡ None → walks.new ≡ walks.old }
 {
     if let Some(row) = row_prepared(alloc, image, cmd)? {
-        return prepare(alloc, image, directory, locks, row, walks);
+        return prepare(alloc, image, directory, maps, locks, row, walks);
     }
     Ok(settled(alloc, image, cmd)?)
 }

@@ -5,8 +5,8 @@ ghost use Rattle.std.specs.List.{list_any, slice_get};
 ghost use Rattle.cluster_terms.specs.Replication.{same_replication};
 ghost use Rattle.sequence_plans.specs.Replications.{replications_of};
 
-use crate::map_row::MapRow;
 use cluster_terms::Replication;
+use range_placements::MapRow;
 use transformations::KeyspaceRow;
 
 /// Whether one of the first maps of a book is that of a replication.

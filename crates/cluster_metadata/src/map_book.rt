@@ -1,15 +1,14 @@
 ghost use Rattle.std.specs.Prelude.{◌≡◌, ◌<◌, [], length, get_or};
 ghost use Rattle.range_placements.specs.Editing.{edited};
 ghost use Rattle.range_placements.specs.Placements.{IsPlacementMap};
-ghost use Rattle.cluster_metadata.specs.declared.map_row.MapRow.{MapRow as AnyRow};
+ghost use Rattle.range_placements.specs.declared.map_row.MapRow.{MapRow as AnyRow};
 ghost use Rattle.cluster_metadata.specs.Arrangements.{arranged};
 ghost use Rattle.cluster_metadata.specs.MapChanges as spec;
 
 use crate::arrangement::Arrangement;
 use crate::map_change::{BookChanges, BookEdits};
-use crate::map_row::MapRow;
 use cluster_terms::{Memory, TryCopy};
-use range_placements::{RowChanges, RowEdits};
+use range_placements::{MapRow, RowChanges, RowEdits};
 use std::alloc::Global;
 use std::marker::Model;
 
@@ -22,7 +21,7 @@ pub struct MapBook {
 
 impl Model for MapBook {
     ghost use Rattle.std.specs.Prelude.{List};
-    ghost use Rattle.cluster_metadata.specs.declared.map_row.MapRow.{MapRow};
+    ghost use Rattle.range_placements.specs.declared.map_row.MapRow.{MapRow};
 
     ghost Value = { List MapRow };
 

@@ -209,6 +209,7 @@ pub fn maps_for(
 {
     match change {
         Change::Registered(_) | Change::Unregistered { .. } => Ok(MapChange::Keep),
+        Change::Unchanged => Ok(MapChange::Keep),
         Change::Tokens(tokens) => maps_on(alloc, image, directory, tokens, change),
         Change::Keyspaces(rows) => maps_under(alloc, image, directory, maps, rows, change),
         Change::Begun { plan, .. } => maps_begun(alloc, image, maps, plan.get(), change),

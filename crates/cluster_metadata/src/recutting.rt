@@ -8,12 +8,11 @@ ghost use Rattle.cluster_metadata.specs.Turns.{HasEnds, each_map, recut_rows};
 
 use crate::map_book::MapBook;
 use crate::map_change::MapChange;
-use crate::map_row::MapRow;
 use crate::turn::Turn;
 use crate::turning::{recut_book, turned_book};
 use cluster_terms::{Memory, TokenRange};
 use placement_deltas::DeltaBook;
-use range_placements::PlacementRow;
+use range_placements::{MapRow, PlacementRow};
 use std::alloc::Global;
 
 /// Whether rows have the right ends of these ranges.

@@ -6,3 +6,4 @@ pub mod GrowthLemmas
 pub mod KeptLemmas
 pub mod PrefixLemmas
 pub mod ShowsLemmas
+pub mod WaitingLemmas

@@ -1,8 +1,7 @@
 -- How a follower keeps the entries that wait.
 -- Of the code: no promise rests on these.
-use Rattle.std.specs.Prelude.{◌≡◌, ℕ, ◌≤◌, ◌<◌, Bool, true, false, List, [], ◌∷◌, map, Option, Some, None, Result, Ok, Err}
+use Rattle.std.specs.Prelude.{◌≡◌, ℕ, ◌≤◌, ◌<◌, Bool, true, false, List, [], ◌∷◌, Option, Some, None, Result, Ok, Err}
 use Rattle.std.specs.List.{AllByRecursion}
-use Rattle.std.specs.Map.{keys_of, values_of}
 use Rattle.transformations.specs.History.{is_command, most_epochs, next_image}
 use Rattle.transformations.specs.Refusals.{refusal_of}
 use Rattle.transformations.specs.declared.entry.Entry.{Entry}
@@ -13,10 +12,6 @@ use Rattle.follower_log.specs.declared.fault.FollowerFault.{FollowerFault}
 use Rattle.follower_log.specs.declared.fault.FollowerFault.TheVariants.{Refused, Memory, MemoryAt}
 use Rattle.follower_log.specs.declared.took.Took.{Took}
 use Rattle.follower_log.specs.declared.took.Took.TheVariants.{At}
-
--- each entry is kept under its epoch
-abbrev pub AreByEpoch : List (ℕ × Entry) → Type 0
-AreByEpoch kept = keys_of kept ≡ map (λ entry. entry.epoch) (values_of kept)
 
 -- the first entry
 abbrev pub first_entry : List Entry → Option Entry

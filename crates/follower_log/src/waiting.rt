@@ -1,34 +1,37 @@
 //! The entries that wait, by epoch.
 
-ghost use Rattle.std.specs.Prelude.{◌≡◌, [], drop, filter, length, nat_lt, None, OnErr, OnOk};
+ghost use Rattle.std.specs.Prelude.{◌≡◌, ◌<◌, ◌≤◌, [], drop, filter, length, nat_lt, None, OnErr, OnOk};
+ghost use Rattle.std.specs.List.Sorted.{IsPartitionPoint};
 ghost use Rattle.std.specs.Option.{option_copied};
 ghost use Rattle.cluster_terms.specs.Ascending.{put};
 ghost use Rattle.follower_log.specs.Follower.{by_epoch, waiting_at};
 ghost use Rattle.follower_log.specs.Kept.{AreAbove, first_entry};
 
+use cluster_metadata::OnHeap;
 use cluster_terms::{Memory, TryCopy};
 use std::alloc::Global;
-use std::collections::BTreeMap;
+use std::collections::VecDeque;
 use std::marker::Model;
 use transformations::Entry;
 
-/// Entries that ascend by epoch, no two at one epoch.
-#[derive(Debug, Drop)]
+/// Entries that ascend by epoch, no two at one epoch. Each is on the heap, so that an entry that comes or goes moves
+/// pointers alone.
+#[derive(Drop)]
 pub struct Waiting {
-    by_epoch: BTreeMap<u64, Entry>,
+    entries: VecDeque<OnHeap<Entry>>,
 }
 
 impl Model for Waiting {
     ghost use Rattle.std.specs.Prelude.{List};
-    ghost use Rattle.std.specs.Map.{values_of};
+    ghost use Rattle.std.specs.List.Sorted.{IsStrictlySortedBy};
     ghost use Rattle.transformations.specs.declared.entry.Entry.{Entry};
-    ghost use Rattle.follower_log.specs.Kept.{AreByEpoch};
+    ghost use Rattle.follower_log.specs.Follower.{by_epoch};
 
     ghost Value = { List Entry };
 
-    ghost view = { λ waiting. values_of waiting.by_epoch.entries };
+    ghost view = { λ waiting. waiting.entries.items };
 
-    ghost invariant = { λ waiting. AreByEpoch waiting.by_epoch.entries };
+    ghost invariant = { λ waiting. IsStrictlySortedBy by_epoch waiting.entries.items };
 }
 
 impl Waiting {
@@ -37,7 +40,7 @@ impl Waiting {
         ensures { result ≡ [] }
     {
         Waiting {
-            by_epoch: BTreeMap::new(alloc),
+            entries: VecDeque::new(alloc),
         }
     }
 
@@ -45,38 +48,53 @@ impl Waiting {
     pub fn len(&self) -> usize
         ensures { result ≡ length self.now }
     {
-        self.by_epoch.len()
+        self.entries.len()
     }
 
-    /// The entry of an epoch. The cost is a search by epoch.
+    /// How many entries have an epoch below this one. The cost is a binary search.
+    fn count_below(&self, epoch: u64) -> usize
+        ensures bound { result ≤ length self.now }
+        ensures split { IsPartitionPoint (λ entry. entry.epoch < epoch) (λ entry. epoch ≤ entry.epoch) self.now result }
+    {
+        self.entries
+            .partition_point(|entry| entry.get().epoch < epoch)
+    }
+
+    /// The entry of an epoch. The cost is a binary search.
     pub fn at(&self, epoch: u64) -> Option<&Entry>
         ensures { option_copied result ≡ waiting_at self.now epoch }
     {
-        self.by_epoch.get(&epoch)
+        let below = self.count_below(epoch);
+        let entry = self.entries.get(below)?.get();
+        if entry.epoch == epoch {
+            Some(entry)
+        } else {
+            None
+        }
     }
 
     /// The entry of the least epoch.
     pub fn first(&self) -> Option<&Entry>
         ensures { option_copied result ≡ first_entry self.now }
     {
-        match self.by_epoch.first_key_value() {
-            Some((_epoch, entry)) => Some(entry),
+        match self.entries.front() {
+            Some(entry) => Some(entry.get()),
             None => None,
         }
     }
 
-    /// Adds a copy of an entry whose epoch no entry has. If memory runs out, nothing is added. The cost is a search by
-    /// epoch.
+    /// Adds a copy of an entry whose epoch no entry has. If memory runs out, nothing is added. The cost is a binary
+    /// search, and a move of a pointer for each entry below this one, or for each above it if these are fewer.
     pub fn insert(&mut self, entry: &Entry) -> Result<(), Memory>
         requires { waiting_at self.old entry.now.epoch ≡ None }
         ensures ok { OnOk result (self.new ≡ put by_epoch entry.now self.old) }
         ensures err { OnErr result (self.new ≡ self.old) }
     {
-        let entry = entry.copy()?;
-        match self.by_epoch.insert(entry.epoch, entry) {
-            Ok(_) => Ok(()),
-            Err(_) => Err(Memory),
-        }
+        let alloc = *self.entries.allocator();
+        let below = self.count_below(entry.epoch);
+        let entry = OnHeap::new(alloc, entry.copy()?)?;
+        self.entries.insert(below, entry)?;
+        Ok(())
     }
 
     /// Drops the entry of the least epoch, if there is one. Takes no memory.
@@ -84,13 +102,13 @@ impl Waiting {
         ensures others { self.new ≡ drop 1 self.old }
         ensures above { AreAbove (first_entry self.old) self.new }
     {
-        let _first = self.by_epoch.pop_first();
+        let _first = self.entries.pop_front();
     }
 
     /// Drops the entries whose epoch is at most this one. Takes no memory.
     pub fn drop_to(&mut self, epoch: u64)
         ensures { self.new ≡ filter (λ entry. nat_lt epoch entry.epoch) self.old }
     {
-        self.by_epoch.retain(|kept, _| *kept > epoch);
+        self.entries.retain(|entry| entry.get().epoch > epoch);
     }
 }

@@ -7,8 +7,8 @@ use crate::command_words::command_of;
 use crate::number::number_of;
 use crate::script_line::{ScriptLine, Target};
 use crate::tokens::token_of;
-use crate::words::{is_word, words_of};
-use cluster_terms::{Memory, Name};
+use crate::words::{USUAL_WORDS, is_word, put_words, words_of};
+use cluster_terms::{Few, Memory, Name};
 use std::alloc::Global;
 
 /// The most bytes of a line.
@@ -27,6 +27,10 @@ pub fn parse_line(alloc: Global, bytes: &[u8]) -> Result<Option<ScriptLine>, Mem
 {
     if bytes.len() > LINE_LIMIT {
         return Ok(None);
+    }
+    let mut few: Few<&[u8], USUAL_WORDS> = Few::of(&[]);
+    if put_words(&mut few, bytes) {
+        return line_of_words(alloc, few.as_slice());
     }
     let words = words_of(alloc, bytes)?;
     line_of_words(alloc, words.as_slice())

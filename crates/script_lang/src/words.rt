@@ -1,20 +1,34 @@
 //! The words of a line.
 
-ghost use Rattle.std.specs.Prelude.{◌≡◌, map, IfOk};
+ghost use Rattle.std.specs.Prelude.{◌≡◌, map, IfOk, IsTrue};
 ghost use Rattle.std.specs.Str.{bytes_eq};
 ghost use Rattle.cluster_terms.specs.ReplicationText as spec;
 
-use cluster_terms::Memory;
+use cluster_terms::{Few, Memory};
 use std::alloc::Global;
 
-/// How many words have room at once: most lines have no more.
-const USUAL_WORDS: usize = 8;
+/// How many words a usual line has at most.
+pub const USUAL_WORDS: usize = 8;
+
+/// Makes `words` the words of a line, separated by single spaces. Returns whether there was room for all of them.
+pub fn put_words<'a>(words: &mut Few<&'a [u8], USUAL_WORDS>, bytes: &'a [u8]) -> bool
+    ensures { IsTrue result → map (λ word. word.now) words.new ≡ spec.words_of bytes.now }
+{
+    words.clear();
+    for word in bytes.split(|byte| *byte == b' ') {
+        if words.is_full() {
+            return false;
+        }
+        words.push(word);
+    }
+    true
+}
 
 /// The words of a line, separated by single spaces. Fails only if memory runs out.
 pub fn words_of(alloc: Global, bytes: &[u8]) -> Result<Vec<&[u8]>, Memory>
     ensures { IfOk result (λ words. map (λ word. word.now) words.items ≡ spec.words_of bytes.now) }
 {
-    let mut words = Vec::with_capacity(alloc, USUAL_WORDS)?;
+    let mut words = Vec::with_capacity(alloc, 4 * USUAL_WORDS)?;
     for word in bytes.split(|byte| *byte == b' ') {
         words.push(word)?;
     }

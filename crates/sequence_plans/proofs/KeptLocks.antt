@@ -1,6 +1,6 @@
 -- A new movement that takes no pair out leaves the ranges of the others as they are, if the shapes of the groups are
 -- settled.
-use Rattle.std.proofs.Common.{◌≡◌, ℕ, Bool, true, false, not, ◌&&◌, ◌||◌, nat_eq, ◌==◌, ℤ, List, [], ◌∷◌, ◌++◌, map, is_some, refl, sym, ap, ◌∙◌, subst, if◌then◌else◌, arith}
+use Rattle.std.proofs.Common.{◌≡◌, ℕ, Bool, true, false, not, ◌&&◌, ◌||◌, ◌==◌, ℤ, List, [], ◌∷◌, ◌++◌, map, is_some, refl, sym, ap, ◌∙◌, subst, if◌then◌else◌, arith}
 use Rattle.std.proofs.lemmas.Bool.{false≢true}
 use Rattle.std.proofs.lemmas.Bool.Decides.{nat_tests}
 use Rattle.std.proofs.lemmas.List.Folds.{list_any-append}
@@ -12,7 +12,7 @@ use Rattle.cluster_terms.proofs.ReachSame.{reached-same}
 use Rattle.cluster_terms.proofs.SettledLemmas.{shape-between}
 use Rattle.cluster_terms.specs.Group.{Group, nodes_of, wanted, spare}
 use Rattle.cluster_terms.specs.Pair.{has_pair, same_pair, without_pairs}
-use Rattle.cluster_terms.specs.Reach.{IsBetween, is_reached, is_reached_in, is_open, reaches, same_shape}
+use Rattle.cluster_terms.specs.Reach.{IsBetween, is_reached, is_open, reaches, same_shape}
 use Rattle.cluster_terms.specs.Replication.{groups_of}
 use Rattle.cluster_terms.specs.declared.replication.Replication.{Replication}
 use Rattle.cluster_terms.specs.declared.token.Pair.{Pair}
@@ -22,7 +22,7 @@ use Rattle.token_ring.specs.declared.book.LockRow.{LockRow}
 use Rattle.token_ring.specs.declared.book.RangeRow.{RangeRow}
 use Rattle.transformations.proofs.movements.MovementLemmas.{flat_put, others_put}
 use Rattle.transformations.proofs.ranges.MovementRanges.{fixed_part, part_within}
-use Rattle.transformations.proofs.lists.ListLemmas.{all_from_map, member_holds}
+use Rattle.transformations.proofs.lists.ListLemmas.{member_holds}
 use Rattle.transformations.specs.Ranges.{in_ranges, moved_by}
 use Rattle.transformations.specs.Refusals.{with_movement}
 use Rattle.transformations.specs.Rings.{cuts, fixed_ring, incoming, outgoing, widest}
@@ -31,7 +31,7 @@ use Rattle.transformations.specs.declared.image.Image.{Image}
 use Rattle.transformations.specs.declared.sequence.SeqRow.{SeqRow}
 use Rattle.sequence_plans.specs.Basis.{IsBasis}
 use Rattle.sequence_plans.specs.KeptLocks.{AreCutOutRows, IsNew, IsSettled}
-use Rattle.sequence_plans.specs.Locks.{AreLocksOf, IsLockOf}
+use Rattle.sequence_plans.specs.Locks.{AreLocksOf}
 use Rattle.sequence_plans.specs.Plan.{AreLocks, IsBook}
 use Rattle.sequence_plans.specs.Replications.{replications_of}
 use Rattle.sequence_plans.specs.declared.basis.Basis.{Basis}

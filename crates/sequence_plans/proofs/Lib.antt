@@ -2,8 +2,10 @@ pub mod BasisLemmas
 pub mod BookLemmas
 pub mod DeltaBookLemmas
 pub mod KeptLocks
+pub mod LowMaps
 pub mod NearCuts
 pub mod NearRows
 pub mod PersistLemmas
+pub mod PlacerLemmas
 pub mod ReplicationsLemmas
 pub mod RowDeltas

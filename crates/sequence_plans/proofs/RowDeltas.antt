@@ -4,6 +4,7 @@ use Rattle.std.proofs.lemmas.List.Elements.{All-contains, All-from_recursion}
 use Rattle.std.specs.List.{AllByRecursion, Contains}
 use Rattle.std.specs.List.Sorted.{IsStrictlySortedBy}
 use Rattle.std.specs.Ordering.{int_cmp}
+use Rattle.cluster_terms.proofs.RowLemmas.{rows_have_last}
 use Rattle.cluster_terms.specs.Arc.{IsToken}
 use Rattle.cluster_terms.specs.Row.{is_within, last_token, rows_between}
 use Rattle.cluster_terms.specs.declared.replication.Replication.{Replication}
@@ -15,7 +16,7 @@ use Rattle.placement_deltas.specs.declared.delta_row.DeltaRow.{DeltaRow}
 use Rattle.token_ring.specs.Ranges.{AreCutOut, HaveTokens, IsRangeList, have_token}
 use Rattle.transformations.proofs.deltas.DeltaRows.{IsWithPart, before-between, with-between, with_parts}
 use Rattle.transformations.proofs.deltas.OutsideDeltas.{none_outside}
-use Rattle.transformations.proofs.lists.ListLemmas.{all_weaker}
+use Rattle.transformations.proofs.lists.ListLemmas.{all_both}
 use Rattle.transformations.proofs.ranges.RowEndLemmas.{IsUpTo}
 use Rattle.transformations.proofs.ranges.RowsServed.{cuts_ascend}
 use Rattle.transformations.specs.Deltas.{gained_at, lost_at}
@@ -27,6 +28,7 @@ use Rattle.transformations.specs.declared.sequence.SeqRow.{SeqRow}
 use Rattle.sequence_plans.proofs.NearCuts.{near_ascend}
 use Rattle.sequence_plans.proofs.NearRows.{IsNearRow, near_rows}
 use Rattle.sequence_plans.specs.Deltas.{IsExact, gained_by, lost_by}
+use Rattle.sequence_plans.specs.LowNodes.{nodes_by}
 use Rattle.sequence_plans.specs.MovementPlacers.{PlacesMovement}
 use Rattle.sequence_plans.specs.NearCuts.{near_cuts}
 use Rattle.sequence_plans.specs.Placers.{placed_by}
@@ -43,7 +45,7 @@ module _ (image : Image) (s : SeqRow) (r : Replication) (h : IsSound image) (the
     (placers : MovementPlacers) (places : PlacesMovement image s r placers) where
   -- the nodes before the movement and after it, and those that are gained and lost
   abbrev before : ℤ → List ℕ
-  before = inside ranges (placed_by placers.before)
+  before = inside ranges (nodes_by placers.before)
 
   abbrev after : ℤ → List ℕ
   after = inside ranges (placed_by placers.after)
@@ -57,46 +59,47 @@ module _ (image : Image) (s : SeqRow) (r : Replication) (h : IsSound image) (the
   gained_is : (x : ℤ) → IsToken x → gained x ≡ gained_at image r s x
   gained_is x token = by (have_token ranges x) refl
     where
-      by : (b : Bool) → have_token ranges x ≡ b → without (if b then placed_by placers.after x else []) (if b then placed_by placers.before x else []) ≡ gained_at image r s x
-      by true e = λ i. without (places.after x i) (places.before x i)
+      by : (b : Bool) → have_token ranges x ≡ b → without (if b then placed_by placers.after x else []) (if b then nodes_by placers.before x else []) ≡ gained_at image r s x
+      by true e = λ i. without (places.after x i) (places.before x token i)
       by false e = sym (none_outside image r s x h there (sym (have x token) ∙ e)).0
 
   lost_is : (x : ℤ) → IsToken x → lost x ≡ lost_at image r s x
   lost_is x token = by (have_token ranges x) refl
     where
-      by : (b : Bool) → have_token ranges x ≡ b → without (if b then placed_by placers.before x else []) (if b then placed_by placers.after x else []) ≡ lost_at image r s x
-      by true e = λ i. without (places.before x i) (places.after x i)
+      by : (b : Bool) → have_token ranges x ≡ b → without (if b then nodes_by placers.before x else []) (if b then placed_by placers.after x else []) ≡ lost_at image r s x
+      by true e = λ i. without (places.before x token i) (places.after x i)
       by false e = sym (none_outside image r s x h there (sym (have x token) ∙ e)).1
 
   -- ---- they are the same at all tokens of a row
 
-  stands : (nodes : ℤ → List ℕ) → ((x w : ℤ) → IsUpTo (cuts image) x w → nodes x ≡ nodes w) → StandInRows (inside ranges nodes) (rows_between near)
+  up : IsStrictlySortedBy int_cmp near
+  up = near_ascend (cuts image) ranges near is (cuts_ascend image)
+
+  stands : (nodes : ℤ → List ℕ) → ((x w : ℤ) → IsToken x → IsToken w → IsUpTo (cuts image) x w → nodes x ≡ nodes w) → StandInRows (inside ranges nodes) (rows_between near)
   stands nodes same =
-      all_weaker (λ row. (x : ℤ) → is_within x row ≡ true → IsNearRow (cuts image) ranges x (last_token row.right))
+      all_both (λ row. (x : ℤ) → is_within x row ≡ true → IsNearRow (cuts image) ranges x (last_token row.right))
+      (λ row. (is_within (last_token row.right) row ≡ true) × IsToken (last_token row.right))
       (λ row. (x : ℤ) → IsToken x → is_within x row ≡ true → inside ranges nodes x ≡ inside ranges nodes (last_token row.right))
-      (λ row alike x token here.
+      (λ row alike last x token here.
       let a = alike x here in
-      ap (λ b. if b then nodes x else []) a.same ∙ by x (last_token row.right) (have_token ranges (last_token row.right)) refl a.upto)
-      (rows_between near) (near_rows (cuts image) ranges near is (cuts_ascend image) list out tokens)
+      ap (λ b. if b then nodes x else []) a.same ∙ by x (last_token row.right) token last.1 (have_token ranges (last_token row.right)) refl a.upto)
+      (rows_between near) (near_rows (cuts image) ranges near is (cuts_ascend image) list out tokens) (rows_have_last near up tokens)
     where
-      by : (x w : ℤ) (b : Bool) → have_token ranges w ≡ b → (have_token ranges w ≡ true → IsUpTo (cuts image) x w) → (if b then nodes x else []) ≡ (if b then nodes w else [])
-      by x w true e upto = same x w (upto e)
-      by x w false e upto = refl
+      by : (x w : ℤ) → IsToken x → IsToken w → (b : Bool) → have_token ranges w ≡ b → (have_token ranges w ≡ true → IsUpTo (cuts image) x w) → (if b then nodes x else []) ≡ (if b then nodes w else [])
+      by x w one other true e upto = same x w one other (upto e)
+      by x w one other false e upto = refl
 
   before_stands : StandInRows before (rows_between near)
-  before_stands = stands (placed_by placers.before) (λ x w u. places.before x ∙ before-between image x w u.upto u.clear r ∙ sym (places.before w))
+  before_stands = stands (nodes_by placers.before) (λ x w one other u. places.before x one ∙ before-between image x w u.upto u.clear r ∙ sym (places.before w other))
 
   after_stands : StandInRows after (rows_between near)
   after_stands =
       let part = All-contains (IsWithPart image) image.sequences s (All-from_recursion (IsWithPart image) image.sequences (with_parts image)) there in
-      stands (placed_by placers.after) (λ x w u. places.after x ∙ with-between image x w u.upto u.clear r s part ∙ sym (places.after w))
+      stands (placed_by placers.after) (λ x w one other u. places.after x ∙ with-between image x w u.upto u.clear r s part ∙ sym (places.after w))
 
   -- ---- so the delta is exact
 
-  module _ (rows : List TokenRange) (rows_is : rows ≡ rows_between near) (sets : RowSets) (are : AreRowSets ranges (placed_by placers.before) (placed_by placers.after) rows sets) (delta : List DeltaRow) where
-    up : IsStrictlySortedBy int_cmp near
-    up = near_ascend (cuts image) ranges near is (cuts_ascend image)
-
+  module _ (rows : List TokenRange) (rows_is : rows ≡ rows_between near) (sets : RowSets) (are : AreRowSets ranges (nodes_by placers.before) (placed_by placers.after) rows sets) (delta : List DeltaRow) where
     pub swap_found : ShowsChanges (rows_between near) sets.before.items sets.after.items delta → IsExact (gained_by image s r) (lost_by image s r) delta
     swap_found shows x token =
         shown_at near sets.before.items sets.after.items delta before after up tokens shows

@@ -3,6 +3,8 @@ pub mod DeltaParts
 pub mod Deltas
 pub mod KeptLocks
 pub mod Locks
+pub mod LowMaps
+pub mod LowNodes
 pub mod MovementPlacers
 pub mod NearCuts
 pub mod Placers

@@ -10,6 +10,7 @@ ghost use Rattle.sequence_plans.specs.Basis.{IsBasis, MovesWithin};
 ghost use Rattle.sequence_plans.specs.Deltas.{AreStepDeltas};
 ghost use Rattle.sequence_plans.specs.KeptLocks.{IsNew, IsSettled};
 ghost use Rattle.sequence_plans.specs.Locks.{AreLocksOf};
+ghost use Rattle.sequence_plans.specs.LowMaps.{ShowLow};
 ghost use Rattle.sequence_plans.specs.Plan.{AreLocks, IsBook};
 ghost use Rattle.sequence_plans.specs.Replications.{replications_of};
 
@@ -19,6 +20,7 @@ use crate::replications::{Replications, replications_of};
 use crate::wide_image::WideImage;
 use cluster_terms::{Memory, NodeId, PairList, Replication, Steps, Token, TryCopy};
 use node_directory::Directory;
+use range_placements::MapRow;
 use ring_reach::{any_shape_differs, reached};
 use std::alloc::Global;
 use std::sync::ledger::Ledger;
@@ -154,10 +156,12 @@ impl<'a> Basis<'a> {
     }
 
     /// The deltas of a movement, under the replication of each row of its ranges. Fails only if memory runs out.
-    /// Makes two walks for each row between cuts that is in its ranges, under each replication.
+    /// Under each replication it makes two walks for each row between cuts that is in its ranges, or one if maps are
+    /// known.
     pub fn deltas_of<L: Ledger>(
         &self,
         row: &SeqRow,
+        known: Option<&[MapRow]>,
         ranges: &[RangeRow],
         cuts: &[Token],
         walks: &mut Steps<L>,
@@ -165,6 +169,7 @@ impl<'a> Basis<'a> {
         requires basis { IsBasis self.now }
         requires sound { IsSound self.now.image.now }
         requires moves { Contains self.now.image.now.sequences row.now }
+        requires known { IfSome known (λ maps. ShowLow self.now.image.now maps.now) }
         requires ranges { IsBook self.now.image.now row.now ranges.now }
         requires cuts { cuts.now ≡ spec.cuts self.now.image.now }
         ensures { IfOk result (λ books. AreStepDeltas self.now.image.now row.now
@@ -175,6 +180,7 @@ impl<'a> Basis<'a> {
             self.image,
             row,
             self.directory,
+            known,
             ranges,
             cuts,
             walks,

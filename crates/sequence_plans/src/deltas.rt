@@ -1,6 +1,6 @@
 //! The deltas of a movement.
 
-ghost use Rattle.std.specs.Prelude.{◌≡◌, [], ◌∷◌, ◌++◌, IfOk, OnOk};
+ghost use Rattle.std.specs.Prelude.{◌≡◌, [], ◌∷◌, ◌++◌, map, IfOk, IfSome, OnOk};
 ghost use Rattle.std.specs.List.{AllByRecursion, Contains};
 ghost use Rattle.std.specs.List.Sorted.{IsStrictlySortedBy};
 ghost use Rattle.std.specs.Ordering.{int_cmp};
@@ -9,8 +9,10 @@ ghost use Rattle.transformations.specs.Ranges.{in_ranges};
 ghost use Rattle.transformations.specs.Rings as spec;
 ghost use Rattle.transformations.specs.Valid.{IsSound};
 ghost use Rattle.sequence_plans.specs.DeltaParts.{AreBooks, AreExact};
+ghost use Rattle.sequence_plans.specs.LowMaps.{ShowLow};
 ghost use Rattle.sequence_plans.specs.MovementPlacers.{PlacesMovement};
 ghost use Rattle.sequence_plans.specs.NearCuts.{near_cuts};
+ghost use Rattle.sequence_plans.specs.Replications.{replications_of};
 
 use crate::movement_rings::{MovementPlacers, MovementRings};
 use crate::near_cuts::near_cuts;
@@ -19,6 +21,7 @@ use crate::wide_image::WideImage;
 use cluster_terms::{Memory, Replication, Steps, Token, TryCopy, rows_between};
 use node_directory::Directory;
 use placement_deltas::{Delta, DeltaBook, DeltaBookRow, Side};
+use range_placements::MapRow;
 use std::alloc::Global;
 use std::sync::ledger::Ledger;
 use token_ring::{RangeList, RangeRow};
@@ -40,8 +43,9 @@ pub struct DeltaBooks {
     pub lose: DeltaBook,
 }
 
-/// The deltas of a movement under one replication, whose ranges have these cuts near them. Makes two walks for each row
-/// between cuts that is in the ranges. The rest costs about k log m for m ranges with k cuts near them.
+/// The deltas of a movement under one replication, whose ranges have these cuts near them. For each row between cuts
+/// that is in the ranges a placer makes one walk, and a map is looked at. The rest costs about k log m for m ranges with
+/// k cuts near them.
 fn deltas_under<L: Ledger>(
     alloc: Global,
     image: &WideImage,
@@ -109,13 +113,14 @@ impl DeltaBooks {
     }
 
     /// The deltas of a movement of an image, under the replication of each row of its ranges. The directory must hold
-    /// the nodes of the image. Fails only if memory runs out. Makes two walks for each row between cuts that is in
-    /// its ranges, under each replication.
+    /// the nodes of the image. Fails only if memory runs out. Under each replication it makes two walks for each row
+    /// between cuts that is in its ranges, or one if maps are known.
     pub fn of_movement<L: Ledger>(
         alloc: Global,
         image: &WideImage,
         row: &SeqRow,
         dir: &Directory,
+        known: Option<&[MapRow]>,
         ranges: &[RangeRow],
         cuts: &[Token],
         walks: &mut Steps<L>,
@@ -123,20 +128,24 @@ impl DeltaBooks {
         requires sound { IsSound image.now }
         requires moves { Contains image.now.sequences row.now }
         requires nodes { dir.now.rows ≡ image.now.nodes }
+        requires known { IfSome known (λ maps. ShowLow image.now maps.now) }
+        requires rows { map (λ r. r.replication) ranges.now ≡ replications_of image.now.keyspaces }
         requires ranges { AllByRecursion
             (λ r. HaveTokens (in_ranges image.now r.replication row.now) r.ranges) ranges.now }
         requires bounds { AllByRecursion (λ r. AreCutOut (spec.cuts image.now) r.ranges) ranges.now }
         requires cuts { cuts.now ≡ spec.cuts image.now }
         ensures { IfOk result (AreBooks image.now row.now ranges.now) }
     {
-        let rings = MovementRings::new(alloc, image, row)?;
+        let rings = MovementRings::new(alloc, image, known, row)?;
         let mut books = DeltaBooks::empty(alloc);
-        for RangeRow {
-            replication,
-            ranges,
-        } in ranges {
+        for (at, range_row) in ranges.iter().enumerate() {
+            let RangeRow {
+                replication,
+                ranges,
+            } = range_row;
             let near = near_cuts(alloc, cuts, ranges.as_slice())?;
-            let placers = rings.placers(alloc, image, row, dir, replication, near.len())?;
+            let count = near.len();
+            let placers = rings.placers(alloc, image, row, dir, at, replication, count)?;
             let deltas = deltas_under(
                 alloc,
                 image,

@@ -4,6 +4,7 @@
 mod basis;
 mod deltas;
 mod kept_locks;
+mod low_nodes;
 mod movement_rings;
 mod near_cuts;
 pub mod placer;

@@ -9,6 +9,7 @@ ghost use Rattle.sequence_plans.specs.Basis.{IsBasis};
 ghost use Rattle.sequence_plans.specs.Deltas.{StaysExact};
 ghost use Rattle.sequence_plans.specs.KeptLocks.{HasLocks, IsNew};
 ghost use Rattle.sequence_plans.specs.Locks.{AreLocksOf};
+ghost use Rattle.sequence_plans.specs.LowMaps.{ShowLow};
 ghost use Rattle.sequence_plans.specs.Plan.{AreLocks, IsPlan};
 
 use crate::basis::Basis;
@@ -16,6 +17,7 @@ use crate::wide_image::WideImage;
 use cluster_terms::{Memory, Steps, Token, TryCopy};
 use node_directory::Directory;
 use placement_deltas::Plan;
+use range_placements::MapRow;
 use std::alloc::Global;
 use std::sync::ledger::Ledger;
 use token_ring::{LockRow, LockRows};
@@ -51,19 +53,21 @@ fn planned<L: Ledger>(
     image: &Image,
     directory: &Directory,
     locks: Option<&[LockRow]>,
+    known: Option<&[MapRow]>,
     row: &SeqRow,
     walks: &mut Steps<L>,
 ) -> Result<Plan, Memory>
     requires sound { IsSound (with_movement image.now row.now) }
     requires nodes { directory.now.rows ≡ image.now.nodes }
     requires locks { IfSome locks (λ rows. HasLocks image.now row.now rows.now) }
+    requires known { IfSome known (λ maps. ShowLow image.now maps.now) }
     ensures { IfOk result (IsPlan (with_movement image.now row.now) row.now) }
 {
     let wide = WideImage::new(image, row)?;
     let basis = Basis::of_image(alloc, &wide, directory)?;
     let cuts = cuts_among(alloc, wide.tokens(), wide.sequences())?;
     let ranges = basis.book_of(row)?;
-    let books = basis.deltas_of(row, ranges.as_slice(), cuts.as_slice(), walks)?;
+    let books = basis.deltas_of(row, known, ranges.as_slice(), cuts.as_slice(), walks)?;
     let others = locks_with(&basis, image, row, locks, cuts.as_slice())?;
     Ok(Plan {
         row: row.copy()?,
@@ -82,17 +86,19 @@ fn plan_with<L: Ledger>(
     image: &Image,
     directory: &Directory,
     locks: Option<&[LockRow]>,
+    known: Option<&[MapRow]>,
     row: SeqRow,
     walks: &mut Steps<L>,
 ) -> Result<Plan, (SeqRow, Memory)>
     requires sound { IsSound (with_movement image.now row) }
     requires nodes { directory.now.rows ≡ image.now.nodes }
     requires locks { IfSome locks (λ rows. HasLocks image.now row rows.now) }
+    requires known { IfSome known (λ maps. ShowLow image.now maps.now) }
     ensures plan { MatchResult result (IsPlan (with_movement image.now row) row) (λ e. e.0 ≡ row) }
     ensures persists { IfOk result
         (λ plan. IsValid (begun image.now row) → StaysExact (begun image.now row) plan) }
 {
-    match planned(alloc, image, directory, locks, &row, walks) {
+    match planned(alloc, image, directory, locks, known, &row, walks) {
         Ok(plan) => Ok(plan),
         Err(memory) => Err((row, memory)),
     }
@@ -145,19 +151,22 @@ pub fn plan_in<L: Ledger>(
     ensures persists { IfOk result
         (λ plan. IsValid (begun image.now row) → StaysExact (begun image.now row) plan) }
 {
-    plan_with(alloc, image, directory, None, row, walks)
+    plan_with(alloc, image, directory, None, None, row, walks)
 }
 
 /// The plan that `plan` makes, for a node that has no movement, and a caller that has a directory with the nodes of the
-/// image, and the ranges of its movements (`locks`), in the order of the movements.
+/// image, and the ranges of its movements (`locks`), in the order of the movements. `known` may have maps whose reads
+/// are the replicas on the low ring, as the placement maps of the image are if no movement is at `Mid`.
 ///
 /// Cost: that of `plan_in`, but if the movement takes no pair out and the shape of each group is settled, `reached` is
-/// called r times, and the ranges of the other movements are copied.
+/// called r times, and the ranges of the other movements are copied. If there are maps, the low ring isn't made, and
+/// under each replication one walk is counted for each row between cuts that is in the movement's ranges.
 pub fn plan_beside<L: Ledger>(
     alloc: Global,
     image: &Image,
     directory: &Directory,
     locks: &[LockRow],
+    known: Option<&[MapRow]>,
     row: SeqRow,
     walks: &mut Steps<L>,
 ) -> Result<Plan, (SeqRow, Memory)>
@@ -166,9 +175,10 @@ pub fn plan_beside<L: Ledger>(
     requires sound { IsSound (with_movement image.now row) }
     requires nodes { directory.now.rows ≡ image.now.nodes }
     requires locks { AreLocksOf image.now image.now.sequences locks.now }
+    requires known { IfSome known (λ maps. ShowLow image.now maps.now) }
     ensures plan { MatchResult result (IsPlan (with_movement image.now row) row) (λ e. e.0 ≡ row) }
     ensures persists { IfOk result
         (λ plan. IsValid (begun image.now row) → StaysExact (begun image.now row) plan) }
 {
-    plan_with(alloc, image, directory, Some(locks), row, walks)
+    plan_with(alloc, image, directory, Some(locks), known, row, walks)
 }

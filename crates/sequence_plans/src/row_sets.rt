@@ -1,6 +1,7 @@
 //! The nodes of each row between cuts before a movement and after it, under one replication.
 
 ghost use Rattle.std.specs.Prelude.{[], IfOk, OnOk};
+ghost use Rattle.sequence_plans.specs.LowNodes.{nodes_by};
 ghost use Rattle.sequence_plans.specs.Placers.{placed_by};
 ghost use Rattle.sequence_plans.specs.RowSets.{AreRowSets, AreWithRow, nodes_in_ranges};
 
@@ -38,23 +39,25 @@ impl RowSets {
         Ok(())
     }
 
-    /// Adds the sets of a row. Makes two walks if the ranges contain its last token, and none otherwise.
+    /// Adds the sets of a row: those that the placers give at its last token, if the ranges contain it, and empty sets
+    /// otherwise. `near` is where a map was looked at last.
     fn push_row<L: Ledger>(
         &mut self,
         alloc: Global,
         placers: &MovementPlacers,
         ranges: &RangeList,
         row: &TokenRange,
+        near: &mut usize,
         walks: &mut Steps<L>,
     ) -> Result<(), Memory>
         ensures { OnOk result (AreWithRow self.old
-            (nodes_in_ranges ranges.now (placed_by placers.now.before) row.now)
+            (nodes_in_ranges ranges.now (nodes_by placers.now.before) row.now)
             (nodes_in_ranges ranges.now (placed_by placers.now.after) row.now)
             self.new) }
     {
         let last = row.last_token();
         if ranges.contains(last) {
-            let before = placers.before.place(alloc, last, walks)?;
+            let before = placers.before.place(alloc, last, near, walks)?;
             let after = placers.after.place(alloc, last, walks)?;
             self.push(before, after)
         } else {
@@ -62,8 +65,8 @@ impl RowSets {
         }
     }
 
-    /// The sets of these rows. Makes two walks for each row in the ranges, and none elsewhere. Fails only if memory
-    /// runs out.
+    /// The sets of these rows. For each row in the ranges a placer makes one walk, and a map is looked at; elsewhere
+    /// nothing is done. Fails only if memory runs out.
     pub fn of_rows<L: Ledger>(
         alloc: Global,
         placers: &MovementPlacers,
@@ -72,11 +75,12 @@ impl RowSets {
         walks: &mut Steps<L>,
     ) -> Result<RowSets, Memory>
         ensures { IfOk result (AreRowSets ranges.now
-            (placed_by placers.now.before) (placed_by placers.now.after) rows.now) }
+            (nodes_by placers.now.before) (placed_by placers.now.after) rows.now) }
     {
         let mut sets = RowSets::empty(alloc, rows.len())?;
+        let mut near = 0;
         for row in rows {
-            sets.push_row(alloc, placers, ranges, row, walks)?;
+            sets.push_row(alloc, placers, ranges, row, &mut near, walks)?;
         }
         Ok(sets)
     }

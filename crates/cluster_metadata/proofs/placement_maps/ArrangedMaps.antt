@@ -17,7 +17,7 @@ use Rattle.cluster_metadata.specs.Arrangements.{Arranges, Fills, arranged, left_
 use Rattle.cluster_metadata.specs.Maps.{AreMapsOf, IsMapOf}
 use Rattle.cluster_metadata.specs.declared.arrangement.Slot.{Slot}
 use Rattle.cluster_metadata.specs.declared.arrangement.Slot.TheVariants.{Kept, Placed}
-use Rattle.cluster_metadata.specs.declared.map_row.MapRow.{MapRow}
+use Rattle.range_placements.specs.declared.map_row.MapRow.{MapRow}
 
 -- ---- more slots
 

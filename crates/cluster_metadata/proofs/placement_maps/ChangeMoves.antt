@@ -34,7 +34,7 @@ use Rattle.cluster_metadata.proofs.placement_maps.KeptCuts.{finish_keeps}
 use Rattle.cluster_metadata.specs.Change.{Follows, IsChange, Suits, changed, in_phase}
 use Rattle.cluster_metadata.specs.MapSteps.{MapSteps, MovesBy, deltas_of, no_deltas}
 use Rattle.cluster_metadata.specs.declared.change.Change.{Change}
-use Rattle.cluster_metadata.specs.declared.change.Change.TheVariants.{Registered, Unregistered, Tokens, Keyspaces, Begun, Started, Mid, Finished, Ended, BroughtBack}
+use Rattle.cluster_metadata.specs.declared.change.Change.TheVariants.{Unchanged, Registered, Unregistered, Tokens, Keyspaces, Begun, Started, Mid, Finished, Ended, BroughtBack}
 
 -- what holds of the replication of each keyspace holds of each replication
 all_replications : (P : Replication → Type 0) (ks : List KeyspaceRow) → AllByRecursion (λ k. P k.replication) ks → AllByRecursion P (replications_of ks)
@@ -129,4 +129,5 @@ map_steps image c change valid formed accepted makes = by c change makes.suits f
         begun c suits formed accepted made = cc suits
     by c (Tokens pairs) suits formed accepted made follows = tt
     by c (Keyspaces rows) suits formed accepted made follows = tt
+    by c Unchanged suits formed accepted made follows = tt
     by c change suits formed accepted made follows = absurd suits

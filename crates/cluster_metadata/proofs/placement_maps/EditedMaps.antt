@@ -11,7 +11,7 @@ use Rattle.cluster_metadata.specs.MapChanges.{HoldMaps, each_edited, maps_after}
 use Rattle.cluster_metadata.specs.Maps.{IsMapOf}
 use Rattle.cluster_metadata.specs.Turns.{each_map, recut_rows}
 use Rattle.cluster_metadata.specs.declared.map_change.MapChange.{MapChange}
-use Rattle.cluster_metadata.specs.declared.map_row.MapRow.{MapRow}
+use Rattle.range_placements.specs.declared.map_row.MapRow.{MapRow}
 use Rattle.cluster_metadata.specs.declared.turn.Turn.{Turn}
 
 -- where all maps are maps after their edits, so is the last one

@@ -19,7 +19,7 @@ use Rattle.cluster_metadata.specs.declared.change.Change.{Change}
 use Rattle.cluster_metadata.specs.declared.change.Change.TheVariants.{Keyspaces, Tokens}
 use Rattle.cluster_metadata.specs.declared.map_change.MapChange.{MapChange}
 use Rattle.cluster_metadata.specs.declared.map_change.MapChange.TheVariants.{Arranged, Keep}
-use Rattle.cluster_metadata.specs.declared.map_row.MapRow.{MapRow}
+use Rattle.range_placements.specs.declared.map_row.MapRow.{MapRow}
 
 -- ---- an image has one book of maps
 

@@ -26,7 +26,7 @@ use Rattle.transformations.specs.declared.sequence.SeqRow.{SeqRow}
 use Rattle.cluster_metadata.specs.MapBasis.{row_placed_once}
 use Rattle.cluster_metadata.specs.Maps.{placement_row, placement_rows}
 
-without_none : (ring : List Pair) → without_pairs ring [] ≡ ring
+pub without_none : (ring : List Pair) → without_pairs ring [] ≡ ring
 without_none [] = refl
 without_none (p ∷ ring) = ap (λ l. p ∷ l) (without_none ring)
 

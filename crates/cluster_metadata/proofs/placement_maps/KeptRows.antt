@@ -12,7 +12,7 @@ use Rattle.range_placements.proofs.MapRows.{rows_tell}
 use Rattle.range_placements.specs.Placements.{IsPlacementMap, map_at, placement_in, right_ends}
 use Rattle.range_placements.specs.declared.placement_row.PlacementRow.{PlacementRow}
 use Rattle.cluster_metadata.specs.Turns.{AreKept, HasEnds, each_map, recut_rows, row_to, turned, turned_at, turned_rows}
-use Rattle.cluster_metadata.specs.declared.map_row.MapRow.{MapRow}
+use Rattle.range_placements.specs.declared.map_row.MapRow.{MapRow}
 use Rattle.cluster_metadata.specs.declared.turn.Turn.{Turn}
 use Rattle.cluster_metadata.specs.declared.turn.Turn.TheVariants.{Keep}
 

@@ -27,7 +27,7 @@ use Rattle.cluster_metadata.proofs.LockLemmas.{any_replications}
 use Rattle.cluster_metadata.specs.MapBasis.{AreRings, PlaceOnRings, row_placed}
 use Rattle.cluster_metadata.specs.Maps.{AreMaps, IsMapOf, placement_row, placement_rows}
 use Rattle.cluster_metadata.specs.Served.{keyspace_of, served, served_by}
-use Rattle.cluster_metadata.specs.declared.map_row.MapRow.{MapRow}
+use Rattle.range_placements.specs.declared.map_row.MapRow.{MapRow}
 use Rattle.cluster_metadata.specs.declared.placers.Placers.{Placers}
 use Rattle.cluster_metadata.specs.declared.rings.Rings.{Rings}
 

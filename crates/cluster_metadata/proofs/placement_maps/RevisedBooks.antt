@@ -5,7 +5,7 @@ use Rattle.placement_deltas.specs.declared.delta_row.DeltaRow.{DeltaRow}
 use Rattle.range_placements.specs.declared.placement_row.PlacementRow.{PlacementRow}
 use Rattle.cluster_metadata.specs.MapChanges.{each_revised, revised_at}
 use Rattle.cluster_metadata.specs.Turns.{each_map}
-use Rattle.cluster_metadata.specs.declared.map_row.MapRow.{MapRow}
+use Rattle.range_placements.specs.declared.map_row.MapRow.{MapRow}
 
 module _ {C : Type 0} (made : C → List PlacementRow → List PlacementRow) where
   pub revised_stored : (change : C) (book : List MapRow) (n : ℕ) (row : MapRow) → n < length book → row ≡ get_or book n row

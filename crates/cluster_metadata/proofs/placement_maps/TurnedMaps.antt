@@ -37,7 +37,7 @@ use Rattle.cluster_metadata.specs.Running.{HaveDeltas, IsRunning, movement_row, 
 use Rattle.cluster_metadata.specs.Served.{served_by}
 use Rattle.cluster_metadata.specs.Turns.{each_map, recut_rows, row_to, row_with, turned, turned_at, turned_rows, undoing}
 use Rattle.cluster_metadata.specs.declared.map_change.MapChange.{MapChange}
-use Rattle.cluster_metadata.specs.declared.map_row.MapRow.{MapRow}
+use Rattle.range_placements.specs.declared.map_row.MapRow.{MapRow}
 use Rattle.cluster_metadata.specs.declared.running.Running.{Running}
 use Rattle.cluster_metadata.specs.declared.turn.Turn.{Turn}
 use Rattle.cluster_metadata.specs.declared.turn.Turn.TheVariants.{Keep, Reads, Writes, ReadsBack}

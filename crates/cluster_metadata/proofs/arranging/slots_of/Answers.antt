@@ -10,7 +10,7 @@ use Rattle.cluster_metadata.proofs.placement_maps.ArrangedMaps.{no_slots, slot_n
 use Rattle.cluster_metadata.specs.Arrangements.{Arranges, Fills, arranged}
 use Rattle.cluster_metadata.specs.Maps.{AreMapsOf}
 use Rattle.cluster_metadata.specs.declared.arrangement.Slot.{Slot}
-use Rattle.cluster_metadata.specs.declared.map_row.MapRow.{MapRow}
+use Rattle.range_placements.specs.declared.map_row.MapRow.{MapRow}
 use Rattle.cluster_metadata.proofs.arranging.slots_of.Goals as goal
 use Rattle.cluster_metadata.proofs.arranging.slots_of.Goals.{then-not-has+in_ok-slot+in_ok-push, else-not-has}
 

@@ -5,7 +5,7 @@ use Rattle.cluster_terms.specs.declared.replication.Replication.{Replication}
 use Rattle.sequence_plans.proofs.ReplicationsLemmas.{new, shown}
 use Rattle.sequence_plans.specs.Replications.{replications_of}
 use Rattle.cluster_metadata.proofs.placement_maps.MapBooks.{any_row, one_more}
-use Rattle.cluster_metadata.specs.declared.map_row.MapRow.{MapRow}
+use Rattle.range_placements.specs.declared.map_row.MapRow.{MapRow}
 use Rattle.cluster_metadata.proofs.fitting.fits.Goals as goal
 use Rattle.cluster_metadata.proofs.fitting.fits.Goals.{then-not-has_among+else-not-is_at, else-not-has_among}
 

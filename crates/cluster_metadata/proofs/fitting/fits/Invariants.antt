@@ -1,6 +1,6 @@
 use Rattle.std.proofs.Common.{◌≡◌, ◌≤◌, length, map, take}
 use Rattle.sequence_plans.specs.Replications.{replications_of}
-use Rattle.cluster_metadata.specs.declared.map_row.MapRow.{MapRow}
+use Rattle.range_placements.specs.declared.map_row.MapRow.{MapRow}
 use Rattle.cluster_metadata.proofs.fitting.fits.Given as goal
 
 -- the first maps are those of the keyspaces so far

@@ -2,7 +2,7 @@ use Rattle.std.proofs.Common.{◌≡◌, length, Some, option_map, refl, ap, sym
 use Rattle.std.proofs.lemmas.Option.{slice_get_read}
 use Rattle.cluster_terms.proofs.ReplicationLemmas.{same_replication-exact}
 use Rattle.cluster_terms.specs.declared.replication.Replication.{Replication}
-use Rattle.cluster_metadata.specs.declared.map_row.MapRow.{MapRow}
+use Rattle.range_placements.specs.declared.map_row.MapRow.{MapRow}
 use Rattle.cluster_metadata.proofs.fitting.is_at.Goals as goal
 
 pub returns-in-Some : goal.returns-in-Some

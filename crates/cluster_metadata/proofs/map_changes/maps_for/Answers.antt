@@ -10,6 +10,7 @@ use Rattle.transformations.specs.DeltaSteps.{step_delta}
 use Rattle.transformations.specs.declared.image.Image.{Image}
 use Rattle.transformations.specs.Rings.{cuts, cuts_among}
 use Rattle.transformations.specs.declared.sequence.Goal.TheVariants as step
+use Rattle.cluster_metadata.proofs.KeyspaceLemmas.{unchanged_maps}
 use Rattle.cluster_metadata.proofs.placement_maps.ChangeSteps.{back_at, back_moves, begun_cuts, begun_deltas, begun_moves, begun_stays, ended_at, ended_moves, finished_at, finished_moves, finished_stays, mid_at, mid_moves, registered_stays, started_at, started_moves, unregistered_stays}
 use Rattle.cluster_metadata.proofs.placement_maps.EditedMaps.{RecutsAll}
 use Rattle.cluster_metadata.proofs.placement_maps.ExchangedMaps.{made_from}
@@ -23,7 +24,7 @@ use Rattle.cluster_metadata.specs.Turns.{undoing}
 use Rattle.cluster_metadata.specs.declared.change.Change.{Change}
 use Rattle.cluster_metadata.specs.declared.map_change.MapChange.{MapChange}
 use Rattle.cluster_metadata.specs.declared.map_change.MapChange.TheVariants.{Sets}
-use Rattle.cluster_metadata.specs.declared.map_row.MapRow.{MapRow}
+use Rattle.range_placements.specs.declared.map_row.MapRow.{MapRow}
 use Rattle.cluster_metadata.specs.declared.turn.Turn.{Turn}
 use Rattle.cluster_metadata.specs.declared.turn.Turn.TheVariants as turn
 use Rattle.cluster_metadata.proofs.map_changes.maps_for.Goals as goal
@@ -150,3 +151,6 @@ returns-in_ok-next-in-Ended c =
     made_from image change next maps c.requires.maps
     (end_maps image maps c.args.running.now s.at c.index-running-at-in-Ended.result found.row c.requires.maps c.requires.running c.requires.deltas found.here c.index-running-at-in-Ended.is (changed image change) next sets found.holds
     (subst (AllByRecursion IsToken) (sym cut) c.in_ok-next-in-Ended.ensures.tokens) (ended_moves image change s.at s.sequences s.is c.requires.steps))
+
+pub returns-in-Unchanged : goal.returns-in-Unchanged
+returns-in-Unchanged c = unchanged_maps c.args.image.now c.args.change.now c.in-Unchanged.is

@@ -4,7 +4,7 @@ use Rattle.transformations.specs.declared.keyspace.KeyspaceRow.{KeyspaceRow}
 use Rattle.cluster_metadata.proofs.placement_maps.ExchangedMaps.{arranged_maps, kept_maps}
 use Rattle.cluster_metadata.specs.Arrangements.{arranged}
 use Rattle.cluster_metadata.specs.Maps.{AreMapsOf}
-use Rattle.cluster_metadata.specs.declared.map_row.MapRow.{MapRow}
+use Rattle.range_placements.specs.declared.map_row.MapRow.{MapRow}
 use Rattle.cluster_metadata.proofs.map_changes.maps_under.Goals as goal
 
 pub returns-then-fits : goal.returns-then-fits

@@ -1,15 +1,25 @@
-use Rattle.std.proofs.Common.{sym, ap, ◌∙◌, subst}
-use Rattle.std.specs.Map.{values_of}
+use Rattle.std.proofs.Common.{◌≡◌, sym, ap, ◌∙◌, subst}
+use Rattle.std.specs.List.{insert}
+use Rattle.std.specs.List.Sorted.{IsStrictlySortedBy}
+use Rattle.cluster_terms.proofs.AscendingLemmas.{put_sorted}
 use Rattle.cluster_terms.specs.Ascending.{put}
-use Rattle.follower_log.proofs.KeptLemmas.{insert_entry-by_epoch, values_of-insert_entry}
+use Rattle.follower_log.proofs.WaitingLemmas.{by_epoch_total, put_there}
 use Rattle.follower_log.specs.Follower.{by_epoch}
-use Rattle.follower_log.specs.Kept.{AreByEpoch}
 use Rattle.follower_log.proofs.waiting.Waiting.insert.Goals as goal
 
-pub invariant_of-self : goal.invariant_of-self
-invariant_of-self c = subst AreByEpoch (sym c.in-Ok.ensures.entries) (insert_entry-by_epoch c.self.inside.by_epoch.entries c.in_ok-entry.entry c.self.invariant)
+made : (c : goal.In_ok-insert) → c.insert.new.self.items ≡ put by_epoch c.args.entry.now c.args.self.now
+made c =
+    let below = c.count_below-below.result in
+    let entry = c.args.entry.now in
+    c.in_ok-insert.ensures.items
+    ∙ ap (λ e. insert c.self.inside.entries.items below e) (c.in_ok-entry.ensures ∙ c.in_ok-copy.ensures)
+    ∙ ap (λ l. insert l below entry) c.self.view_is
+    ∙ put_there c.args.self.now below entry c.count_below-below.ensures.split c.count_below-below.ensures.bound c.requires
 
-pub returns-in-Ok-clause-ok : goal.returns-in-Ok-clause-ok
-returns-in-Ok-clause-ok c =
-    ap values_of c.in-Ok.ensures.entries ∙ values_of-insert_entry c.self.inside.by_epoch.entries c.in_ok-entry.entry c.self.invariant
-    ∙ ap (λ entry. put by_epoch entry (values_of c.self.inside.by_epoch.entries)) c.in_ok-entry.ensures ∙ ap (put by_epoch c.args.entry.now) c.self.view_is
+pub invariant_of-self-2 : goal.invariant_of-self-2
+invariant_of-self-2 c =
+    subst (IsStrictlySortedBy by_epoch) (sym (made c))
+    (put_sorted by_epoch by_epoch_total c.args.entry.now c.args.self.now (subst (IsStrictlySortedBy by_epoch) c.self.view_is c.self.invariant))
+
+pub returns-clause-ok : goal.returns-clause-ok
+returns-clause-ok c = made c

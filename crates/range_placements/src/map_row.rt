@@ -1,5 +1,5 @@
+use crate::placement_map::PlacementMap;
 use cluster_terms::{Memory, Replication, TryCopy};
-use range_placements::PlacementMap;
 
 /// The placements under one replication.
 #[derive(Debug, Drop)]
