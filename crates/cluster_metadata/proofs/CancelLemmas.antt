@@ -15,8 +15,8 @@ use Rattle.transformations.specs.declared.sequence.Phase.TheVariants as phase
 use Rattle.transformations.specs.declared.sequence.SeqRow.{SeqRow}
 use Rattle.cluster_metadata.proofs.MovementPlaces.{others_at}
 use Rattle.transformations.proofs.commands.AcceptedLemmas.{first_none, test_false}
-use Rattle.cluster_metadata.proofs.StepLemmas.{after, back, found, negated, own, stands}
-use Rattle.cluster_metadata.specs.Change.{IsChange, in_phase}
+use Rattle.cluster_metadata.proofs.StepLemmas.{after, found, negated, own, stands, stands_in}
+use Rattle.cluster_metadata.specs.Change.{IsChange}
 use Rattle.cluster_metadata.specs.declared.change.Change.TheVariants.{BroughtBack, Ended}
 
 -- a cancel is accepted only where the node has a movement
@@ -49,18 +49,22 @@ module _ (image : Image) (n : ℕ) (at : ℕ) (s : SeqRow) (up : IsStrictlySorte
       ap (sequences_after_cancel image.sequences n) (found image n at s up within here place) ∙ ap chosen (mid_same s.phase ∙ is)
 
   -- half way it goes back
-  pub brought_back : (row : SeqRow) → is_mid s.phase ≡ true → row ≡ in_phase phase.Started s → IsChange image (Cancel n) (BroughtBack at row)
+  pub brought_back : is_mid s.phase ≡ true → IsChange image (Cancel n) (BroughtBack at)
   unfolding next_image
-  brought_back row was made =
-      let goes = back image n at s up within here place phase.Mid phase.Started row (mid_is s.phase was) made in
-      record { made = after image n at s up within here place phase.Started row made ∙ ap with_rows (sym (left true was)); nodes = tt; follows = (goes, ap (λ (r : SeqRow). r.phase) made); plan = tt; suits = place }
+  brought_back was = record {
+    made = after image n at s up within here place phase.Started ∙ ap with_rows (sym (left true was));
+    nodes = tt;
+    follows = stands_in image n at s up within here place phase.Mid (mid_is s.phase was);
+    plan = tt;
+    suits = place;
+  }
 
   -- else it ends
-  pub ended : (rows : List SeqRow) → is_mid s.phase ≡ false → rows ≡ others image.sequences n → IsChange image (Cancel n) (Ended at rows)
+  pub ended : is_mid s.phase ≡ false → IsChange image (Cancel n) (Ended at)
   unfolding next_image
-  ended rows was made =
+  ended was =
       let is : slice_get image.sequences at ≡ Some s = stands image n at s up within here place in
-      let without : rows ≡ remove image.sequences at = made ∙ others_at n image.sequences at s up is (own image n at s up within here place) in
+      let without : others image.sequences n ≡ remove image.sequences at = others_at n image.sequences at s up is (own image n at s up within here place) in
       let early : option_map (λ (q : SeqRow). is_mid q.phase) (slice_get image.sequences at) ≡ Some false =
       ap (option_map (λ (q : SeqRow). is_mid q.phase)) is ∙ ap (λ (b : Bool). Some b) was in
-      record { made = ap with_rows (made ∙ sym (left false was)); nodes = tt; follows = (early, without); plan = tt; suits = place }
+      record { made = ap with_rows (sym without ∙ sym (left false was)); nodes = tt; follows = early; plan = tt; suits = place }

@@ -10,6 +10,7 @@ pub mod LocksTaken
 pub mod LockPlaces
 pub mod MovementPlaces
 pub mod NodeLemmas
+pub mod NumberLemmas
 pub mod OverlapLemmas
 pub mod PermitOutcomes
 pub mod PlanLemmas

@@ -1,5 +1,5 @@
 -- The lock of a movement, by its place in the table.
-use Rattle.std.proofs.Common.{◌≡◌, ℕ, suc, zero, Bool, true, false, true≢false, not, ◌||◌, ◌==◌, List, [], ◌∷◌, ◌++◌, map, get_or, nat_eq, cond, arith, Option, Some, None, option_map, refl, sym, ap, ◌∙◌, subst}
+use Rattle.std.proofs.Common.{◌≡◌, ℕ, suc, zero, Bool, true, false, true≢false, not, ◌||◌, ◌==◌, List, [], ◌∷◌, ◌++◌, map, get_or, nat_eq, cond, arith, Some, option_map, refl, sym, ap, ◌∙◌, subst}
 use Rattle.std.proofs.lemmas.Bool.Decides.{Decides-eqb, nat_tests}
 use Rattle.std.proofs.lemmas.Option.{none-some}
 use Rattle.std.specs.List.{AllByRecursion, IsDistinct, remove, slice_get}
@@ -13,6 +13,7 @@ use Rattle.transformations.specs.Orders.{by_node}
 use Rattle.transformations.specs.declared.image.Image.{Image}
 use Rattle.transformations.specs.declared.sequence.SeqRow.{SeqRow}
 use Rattle.cluster_metadata.proofs.MovementPlaces.{at_place, later_others, less_other}
+use Rattle.cluster_metadata.proofs.MovementPlaces.{some_there}
 use Rattle.cluster_metadata.proofs.RunningLemmas.{value_at}
 use Rattle.cluster_metadata.specs.Locking.{AreLocked}
 use Rattle.sequence_plans.specs.Locks.{AreLocksOf}
@@ -81,10 +82,6 @@ named_at (q ∷ rows) (l ∷ table) (suc at) s names found =
     or_true (nat_eq s.node l.node) (has_row table s.node) (named_at rows table at s left found)
 
 -- ---- the key of a movement that ends
-
-some_there : {X : Type 0} (f : SeqRow → X) (b : X) (o : Option SeqRow) → option_map f o ≡ Some b → (P : Type 0) → ((s : SeqRow) → o ≡ Some s → P) → P
-some_there f b None h P by = absurd (none-some b h)
-some_there f b (Some s) h P by = by s refl
 
 module _ {X : Type 0} (f : SeqRow → X) (b : X) (rows : List SeqRow) (values : List Running) (table : List LockRow) (at : ℕ) (m : Running) (is : IsRunning rows values) (names : lock_nodes table ≡ row_nodes rows)
     (stands : option_map f (slice_get rows at) ≡ Some b) (here : m ≡ get_or values at m) where

@@ -139,8 +139,8 @@ new_locks image (Begun at plan sequences) plans table brings follows up are =
     let there : slice_get sequences at ≡ Some plan.row = ap (λ (l : List SeqRow). slice_get l at) follows.2 ∙ inserted_there image.sequences at plan.row follows.1 in
     let own : movement_of after plan.row.node ≡ Some plan.row = at_place (λ s. movement_of after s.node ≡ Some s) sequences at plan.row (each_found sequences up) there in
     at_insert after plans table at (uncut plan) (plan_lock plan) (λ q found. let same : plan.row ≡ q = cc in subst (λ s. IsLockOf after s (plan_lock plan)) same brings.1) are
-new_locks image (Finished at left tokens sequences) plans table brings follows up are = at_remove (changed image (Finished at left tokens sequences)) plans table at are
-new_locks image (Ended at sequences) plans table brings follows up are = at_remove (changed image (Ended at sequences)) plans table at are
+new_locks image (Finished at left tokens) plans table brings follows up are = at_remove (changed image (Finished at left tokens)) plans table at are
+new_locks image (Ended at) plans table brings follows up are = at_remove (changed image (Ended at)) plans table at are
 new_locks image _ plans table brings follows up are = are
 
 -- each movement of an image is its node's

@@ -1,5 +1,5 @@
 -- Movements by their place: one that is put in, one that takes a step, and one that is taken out.
-use Rattle.std.proofs.Common.{◌≡◌, ℕ, suc, zero, ◌<◌, ◌≤◌, Bool, true, false, true≢false, ◌==◌, cond, List, [], ◌∷◌, length, map, find, get_or, set, Option, Some, None, IsSome, ◌≢◌, nat_lt, refl, sym, ap, ◌∙◌, subst, arith}
+use Rattle.std.proofs.Common.{◌≡◌, ℕ, suc, zero, ◌<◌, ◌≤◌, Bool, true, false, true≢false, ◌==◌, cond, List, [], ◌∷◌, length, map, find, get_or, set, Option, Some, None, IsSome, option_map, ◌≢◌, nat_lt, refl, sym, ap, ◌∙◌, subst, arith}
 use Rattle.std.proofs.lemmas.Bool.Decides.{Decides-eqb, nat_tests}
 use Rattle.std.proofs.lemmas.Option.{none-some}
 use Rattle.std.proofs.lemmas.List.Folds.{find_at}
@@ -11,7 +11,7 @@ use Rattle.transformations.specs.Orders.{by_node}
 use Rattle.transformations.specs.Steps.{at_phase, others}
 use Rattle.transformations.specs.declared.sequence.Phase.{Phase}
 use Rattle.transformations.specs.declared.sequence.SeqRow.{SeqRow}
-use Rattle.cluster_metadata.specs.Change.{in_phase}
+use Rattle.cluster_metadata.specs.Change.{in_phase, phased}
 
 -- ---- the only movement of a node
 
@@ -62,13 +62,13 @@ module _ (n : ℕ) where
   later_others s (q ∷ rows) own less = (greater_other s q n less.0 own, later_others s rows own less.1)
 
   -- the node's movement takes a step at its place
-  pub stepped_at : (p : Phase) (rows : List SeqRow) (at : ℕ) (s : SeqRow) → IsStrictlySortedBy by_node rows → slice_get rows at ≡ Some s → (s.node == n) ≡ true → map (at_phase p n) rows ≡ set rows at (in_phase p s)
+  pub stepped_at : (p : Phase) (rows : List SeqRow) (at : ℕ) (s : SeqRow) → IsStrictlySortedBy by_node rows → slice_get rows at ≡ Some s → (s.node == n) ≡ true → map (at_phase p n) rows ≡ phased rows at p
   unfolding IsStrictlySortedBy
   stepped_at p [] at s up found own = absurd (none-some s found)
   stepped_at p (q ∷ rows) zero s up found own =
       let same : q ≡ s = cc in
       let mine : (q.node == n) ≡ true = rw same own in
-      rw (mine, steps_none p rows (later_others q rows mine up.0)) (ap (λ (r : SeqRow). in_phase p r ∷ rows) same)
+      rw (mine, steps_none p rows (later_others q rows mine up.0)) refl
   stepped_at p (q ∷ rows) (suc at) s up found own =
       let apart = less_other q s n (at_place (λ r. by_node q r ≡ Less) rows at s up.0 found) own in
       rw apart (ap (λ l. q ∷ l) (stepped_at p rows at s up.1 found own))
@@ -86,6 +86,21 @@ module _ (n : ℕ) where
       rw apart (ap (λ l. q ∷ l) (others_at rows at s up.1 found own))
 
 -- ---- the place of a movement
+
+-- a movement of which something is known is there
+pub some_there : {X : Type 0} (f : SeqRow → X) (b : X) (o : Option SeqRow) → option_map f o ≡ Some b → (P : Type 0) → ((s : SeqRow) → o ≡ Some s → P) → P
+some_there f b None h P by = absurd (none-some b h)
+some_there f b (Some s) h P by = by s refl
+
+pub known_of : {X : Type 0} (f : SeqRow → X) (b : X) (o : Option SeqRow) (s : SeqRow) → option_map f o ≡ Some b → o ≡ Some s → f s ≡ b
+known_of f b None s h here = absurd (none-some b h)
+known_of f b (Some q) s h here = (let same : s ≡ q = cc in ap f same ∙ cc h)
+
+-- the movement at a place gets another phase
+pub phased_at : (p : Phase) (rows : List SeqRow) (at : ℕ) (s : SeqRow) → slice_get rows at ≡ Some s → set rows at (in_phase p s) ≡ phased rows at p
+phased_at p [] at s found = absurd (none-some s found)
+phased_at p (q ∷ rows) zero s found = (let same : s ≡ q = cc in ap (λ (r : SeqRow). in_phase p r ∷ rows) same)
+phased_at p (q ∷ rows) (suc at) s found = ap (λ l. q ∷ l) (phased_at p rows at s found)
 
 beyond : {X : Type 0} (xs : List X) (i : ℕ) → length xs ≤ i → slice_get xs i ≡ None
 beyond [] i over = refl

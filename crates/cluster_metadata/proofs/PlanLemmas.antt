@@ -119,8 +119,8 @@ all_remove P (y ∷ ys) (suc i) all = (all.0, all_remove P ys i all.1)
 
 new_plans : (image : Image) (change : Change) (plans : List Plan) → BringsPlan image change → AllByRecursion (HasInFlight (changed image change)) plans → AllByRecursion (HasInFlight (changed image change)) (plans_after plans change)
 new_plans image (Begun at plan sequences) plans brings all = all_insert (HasInFlight (changed image (Begun at plan sequences))) plans at (uncut plan) (λ p there. brings.0) all
-new_plans image (Finished at left tokens sequences) plans brings all = all_remove (HasInFlight (changed image (Finished at left tokens sequences))) plans at all
-new_plans image (Ended at sequences) plans brings all = all_remove (HasInFlight (changed image (Ended at sequences))) plans at all
+new_plans image (Finished at left tokens) plans brings all = all_remove (HasInFlight (changed image (Finished at left tokens))) plans at all
+new_plans image (Ended at) plans brings all = all_remove (HasInFlight (changed image (Ended at))) plans at all
 new_plans image _ plans brings all = all
 
 -- each movement of an image is in flight, so the plans of its movements have their deltas

@@ -1,12 +1,13 @@
 -- The values of the movements, by the place of their rows.
-use Rattle.std.proofs.Common.{◌≡◌, ℕ, suc, zero, ◌<◌, List, [], ◌∷◌, length, map, get_or, set, Some, refl, sym, ap, ◌∙◌, arith}
+use Rattle.std.proofs.Common.{◌≡◌, ℕ, suc, zero, ◌<◌, List, [], ◌∷◌, length, map, get_or, set, Some, refl, ap, ◌∙◌, arith}
 use Rattle.std.proofs.lemmas.List.{map-set}
 use Rattle.std.proofs.lemmas.Option.{none-some}
 use Rattle.std.specs.List.{insert, remove, slice_get}
 use Rattle.placement_deltas.specs.declared.plan.Plan.{Plan}
 use Rattle.transformations.specs.declared.sequence.Phase.{Phase}
 use Rattle.transformations.specs.declared.sequence.SeqRow.{SeqRow}
-use Rattle.cluster_metadata.specs.Change.{in_phase}
+use Rattle.cluster_metadata.proofs.MovementPlaces.{phased_at, some_there}
+use Rattle.cluster_metadata.specs.Change.{StandsAt, in_phase, phased}
 use Rattle.cluster_metadata.specs.Running.{IsRunning, movement_row, phase_of, plan_of}
 use Rattle.cluster_metadata.specs.declared.running.Running.{Running}
 
@@ -58,20 +59,23 @@ running_remove rows rs at is = map_remove movement_row rs at ∙ ap (λ l. remov
 
 -- the value of a movement is taken out, takes its next step, and is put back: its row is at the next phase, and its
 -- plan stays
-module _ (rows : List SeqRow) (rs : List Running) (at : ℕ) (row : SeqRow) (is : IsRunning rows rs) (p q : Phase) (r new : Running) (found : slice_get rows at ≡ Some (in_phase p row)) (here : r ≡ get_or rs at r)
-    (kept : plan_of new ≡ plan_of r) where
-  returned : insert (remove rs at) at new ≡ set rs at new
-  returned = put_back rs at new (place_within rows rs at (in_phase p row) is found)
+module _ (rows : List SeqRow) (rs : List Running) (at : ℕ) (p q : Phase) (r new : Running) (is : IsRunning rows rs) (stands : StandsAt rows at p) (here : r ≡ get_or rs at r) (kept : plan_of new ≡ plan_of r) where
+  returned : (s : SeqRow) → slice_get rows at ≡ Some s → insert (remove rs at) at new ≡ set rs at new
+  returned s found = put_back rs at new (place_within rows rs at s is found)
 
-  pub running_step : row.phase ≡ q → phase_of new ≡ q → IsRunning (set rows at row) (insert (remove rs at) at new)
-  running_step goes next =
-      let was : movement_row r ≡ in_phase p row = value_at rows rs at (in_phase p row) r is found here in
-      let now : movement_row new ≡ in_phase q row = ap (λ (l : Plan). in_phase (phase_of new) l.row) kept ∙ ap (λ f. in_phase f (plan_of r).row) next ∙ ap (in_phase q) was in
-      let same : in_phase q row ≡ row = ap (λ f. in_phase f row) (sym goes) in
-      ap (map movement_row) returned ∙ map-set movement_row rs at new ∙ ap (λ l. set l at (movement_row new)) is ∙ ap (set rows at) (now ∙ same)
+  pub running_step : phase_of new ≡ q → IsRunning (phased rows at q) (insert (remove rs at) at new)
+  running_step next = some_there (λ s. s.phase) p (slice_get rows at) stands (IsRunning (phased rows at q) (insert (remove rs at) at new)) by
+    where
+      by : (s : SeqRow) → slice_get rows at ≡ Some s → IsRunning (phased rows at q) (insert (remove rs at) at new)
+      by s found =
+          let was : movement_row r ≡ s = value_at rows rs at s r is found here in
+          let now : movement_row new ≡ in_phase q s = ap (λ (l : Plan). in_phase (phase_of new) l.row) kept ∙ ap (λ f. in_phase f (plan_of r).row) next ∙ ap (in_phase q) was in
+          ap (map movement_row) (returned s found) ∙ map-set movement_row rs at new ∙ ap (λ l. set l at (movement_row new)) is ∙ ap (set rows at) now ∙ phased_at q rows at s found
 
   pub plans_step : map plan_of (insert (remove rs at) at new) ≡ map plan_of rs
-  plans_step = ap (map plan_of) returned ∙ map-set plan_of rs at new ∙ ap (set (map plan_of rs) at) kept ∙ set_same rs at r here
+  plans_step =
+      some_there (λ s. s.phase) p (slice_get rows at) stands (map plan_of (insert (remove rs at) at new) ≡ map plan_of rs)
+      (λ s found. ap (map plan_of) (returned s found) ∙ map-set plan_of rs at new ∙ ap (set (map plan_of rs) at) kept ∙ set_same rs at r here)
     where
       set_same : (rs : List Running) (at : ℕ) (r : Running) → r ≡ get_or rs at r → set (map plan_of rs) at (plan_of r) ≡ map plan_of rs
       set_same [] at r here = refl

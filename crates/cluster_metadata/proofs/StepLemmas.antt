@@ -1,5 +1,5 @@
 -- What an accepted step says of the movements, and the changes that steps make.
-use Rattle.std.proofs.Common.{◌≡◌, ℕ, ◌+◌, ◌<◌, ◌≤◌, Bool, true, false, not, true≢false, ◌&&◌, ◌==◌, List, [], ◌∷◌, length, map, get_or, set, Option, Some, None, IfSome, IsSome, is_some, option_map, option_and_then, refl, sym, ap, ◌∙◌, subst}
+use Rattle.std.proofs.Common.{◌≡◌, ℕ, ◌+◌, ◌<◌, ◌≤◌, Bool, true, false, not, true≢false, ◌&&◌, ◌==◌, List, [], ◌∷◌, length, map, get_or, Option, Some, None, IfSome, IsSome, is_some, option_map, option_and_then, refl, sym, ap, ◌∙◌, subst}
 use Rattle.std.proofs.lemmas.Bool.Decides.{Decides-eqb}
 use Rattle.std.specs.List.{insert, remove, slice_get}
 use Rattle.std.specs.List.Sorted.{IsStrictlySortedBy}
@@ -26,7 +26,7 @@ use Rattle.transformations.specs.declared.sequence.Phase.TheVariants as phase
 use Rattle.transformations.specs.declared.sequence.SeqRow.{SeqRow}
 use Rattle.cluster_metadata.proofs.PlanLemmas.{deltas_elsewhere}
 use Rattle.cluster_metadata.proofs.MovementPlaces.{at_index, others_at, stepped_at}
-use Rattle.cluster_metadata.specs.Change.{Begins, HasCuts, IsChange, in_phase, plan_lock}
+use Rattle.cluster_metadata.specs.Change.{Begins, HasCuts, IsChange, StandsAt, phased, plan_lock}
 use Rattle.sequence_plans.specs.Locks.{IsLockOf}
 use Rattle.cluster_metadata.proofs.LocksKept.{lock_later}
 use Rattle.cluster_metadata.specs.Nodes.{IsLeftRow, nodes_left}
@@ -107,49 +107,43 @@ module _ (image : Image) (n : ℕ) (at : ℕ) (s : SeqRow) (up : IsStrictlySorte
   pub own : (s.node == n) ≡ true
   own = found_passes (λ (q : SeqRow). q.node == n) image.sequences s found
 
-  pub back : (p q : Phase) (row : SeqRow) → s.phase ≡ p → row ≡ in_phase q s → slice_get image.sequences at ≡ Some (in_phase p row)
-  back p q row was made =
-      let same : s ≡ in_phase p row = ap (λ r. in_phase r s) was ∙ ap (in_phase p) (sym made) in
-      stands ∙ ap (λ (r : SeqRow). Some r) same
+  pub stands_in : (p : Phase) → s.phase ≡ p → StandsAt image.sequences at p
+  stands_in p was = ap (option_map (λ (q : SeqRow). q.phase)) stands ∙ ap (λ (p : Phase). Some p) was
 
   abbrev pub with_rows : List SeqRow → Image
   with_rows rows = record image { epoch = image.epoch + 1; sequences = rows }
 
-  pub after : (p : Phase) (row : SeqRow) → row ≡ in_phase p s → with_rows (set image.sequences at row) ≡ with_rows (map (at_phase p n) image.sequences)
-  after p row made = ap with_rows (ap (set image.sequences at) made ∙ sym (stepped_at n p image.sequences at s up stands own))
+  pub after : (p : Phase) → with_rows (phased image.sequences at p) ≡ with_rows (map (at_phase p n) image.sequences)
+  after p = ap with_rows (sym (stepped_at n p image.sequences at s up stands own))
 
-  pub started : (kind : Kind) (g : Goal) (row : SeqRow) → g ≡ goal.Start → early_refusal_of image (Step g kind n) ≡ None → row ≡ in_phase phase.Started s → IsChange image (Step g kind n) (Started at row)
+  pub started : (kind : Kind) (g : Goal) → g ≡ goal.Start → early_refusal_of image (Step g kind n) ≡ None → IsChange image (Step g kind n) (Started at)
   unfolding next_image
-  started kind goal.Start row is h made =
-      let was = before_step image goal.Start kind n s h found in
-      record { made = after phase.Started row made; nodes = tt; follows = (back phase.Prepared phase.Started row was made, ap (λ (r : SeqRow). r.phase) made); plan = tt; suits = place }
-  started kind goal.Mid row is h made = cc
-  started kind goal.Finish row is h made = cc
+  started kind goal.Start is h =
+      record { made = after phase.Started; nodes = tt; follows = stands_in phase.Prepared (before_step image goal.Start kind n s h found); plan = tt; suits = place }
+  started kind goal.Mid is h = cc
+  started kind goal.Finish is h = cc
 
-  pub half_way : (kind : Kind) (g : Goal) (row : SeqRow) → g ≡ goal.Mid → early_refusal_of image (Step g kind n) ≡ None → row ≡ in_phase phase.Mid s → IsChange image (Step g kind n) (Mid at row)
+  pub half_way : (kind : Kind) (g : Goal) → g ≡ goal.Mid → early_refusal_of image (Step g kind n) ≡ None → IsChange image (Step g kind n) (Mid at)
   unfolding next_image
-  half_way kind goal.Mid row is h made =
-      let was = before_step image goal.Mid kind n s h found in
-      record { made = after phase.Mid row made; nodes = tt; follows = (back phase.Started phase.Mid row was made, ap (λ (r : SeqRow). r.phase) made); plan = tt; suits = place }
-  half_way kind goal.Start row is h made = cc
-  half_way kind goal.Finish row is h made = cc
+  half_way kind goal.Mid is h =
+      record { made = after phase.Mid; nodes = tt; follows = stands_in phase.Started (before_step image goal.Mid kind n s h found); plan = tt; suits = place }
+  half_way kind goal.Start is h = cc
+  half_way kind goal.Finish is h = cc
 
-  pub done : (kind : Kind) (g : Goal) (left : Option LeftRow) (ring : List Pair) (rows : List SeqRow) → g ≡ goal.Finish → early_refusal_of image (Step g kind n) ≡ None → nodes_left image.nodes left ≡ with_left image.nodes (leaver s)
-      → IfSome left (IsLeftRow image.nodes) → ring ≡ ring_after image.tokens s → rows ≡ others image.sequences n → IsChange image (Step g kind n) (Finished at left ring rows)
+  pub done : (kind : Kind) (g : Goal) (left : Option LeftRow) (ring : List Pair) → g ≡ goal.Finish → early_refusal_of image (Step g kind n) ≡ None → nodes_left image.nodes left ≡ with_left image.nodes (leaver s)
+      → IfSome left (IsLeftRow image.nodes) → ring ≡ ring_after image.tokens s → IsChange image (Step g kind n) (Finished at left ring)
   unfolding next_image
-  done kind goal.Finish left ring rows is h marked fits made rest =
-      let was = before_step image goal.Finish kind n s h found in
-      let without : rows ≡ remove image.sequences at = rest ∙ others_at n image.sequences at s up stands own in
+  done kind goal.Finish left ring is h marked fits made =
       let none_own : others image.sequences s.node ≡ remove image.sequences at = others_at s.node image.sequences at s up stands ((Decides-eqb s.node s.node).1 refl) in
       let ended : List NodeRow → List Pair → List SeqRow → Image = λ k r l. record image { epoch = image.epoch + 1; nodes = k; tokens = r; sequences = l } in
       let last : Option SeqRow → Image = λ o. let a : Image = finished image o in record a { epoch = image.epoch + 1 } in
       record {
-        made = ap (λ k. ended k ring rows) marked ∙ ap (λ r. ended (with_left image.nodes (leaver s)) r rows) made
-            ∙ ap (ended (with_left image.nodes (leaver s)) (ring_after image.tokens s)) (without ∙ sym none_own) ∙ ap last (sym found);
+        made = ap (λ k. ended k ring (remove image.sequences at)) marked ∙ ap (λ r. ended (with_left image.nodes (leaver s)) r (remove image.sequences at)) made
+            ∙ ap (ended (with_left image.nodes (leaver s)) (ring_after image.tokens s)) (sym none_own) ∙ ap last (sym found);
         nodes = fits;
-        follows = (ap (option_map (λ (q : SeqRow). q.phase)) stands ∙ ap (λ (p : Phase). Some p) was, without);
+        follows = stands_in phase.Mid (before_step image goal.Finish kind n s h found);
         plan = tt;
         suits = place;
       }
-  done kind goal.Start left ring rows is h marked fits made rest = cc
-  done kind goal.Mid left ring rows is h marked fits made rest = cc
+  done kind goal.Start left ring is h marked fits made = cc
+  done kind goal.Mid left ring is h marked fits made = cc

@@ -1,6 +1,6 @@
 -- The changes that commands make in an image.
 -- Of the code, but for `directory_of`, which `Metadata::directory` promises: no promise rests on the others.
-use Rattle.std.specs.Prelude.{◌≡◌, ℕ, ◌+◌, ◌≤◌, false, List, [], ◌∷◌, ◌++◌, length, slice_set, Some, option_map, IfSome, IsSome}
+use Rattle.std.specs.Prelude.{◌≡◌, ℕ, zero, suc, ◌+◌, ◌≤◌, false, List, [], ◌∷◌, ◌++◌, length, Some, option_map, IfSome, IsSome}
 use Rattle.std.specs.List.{AllByRecursion, insert, remove, slice_get}
 use Rattle.cluster_terms.specs.Arc.{IsToken}
 use Rattle.cluster_terms.specs.NodeRow.{row_of}
@@ -25,6 +25,16 @@ use Rattle.cluster_metadata.specs.Nodes.{IsLeftRow, IsNew, nodes_left}
 use Rattle.cluster_metadata.specs.declared.change.Change.{Change}
 use Rattle.cluster_metadata.specs.declared.change.Change.TheVariants.{Unchanged, Registered, Unregistered, Tokens, Keyspaces, Begun, Started, Mid, Finished, Ended, BroughtBack}
 
+-- a movement at another phase
+abbrev pub in_phase : Phase → SeqRow → SeqRow
+in_phase p row = record row { phase = p }
+
+-- the movements, with the one at this position at another phase
+abbrev pub phased : List SeqRow → ℕ → Phase → List SeqRow
+phased [] at p = []
+phased (s ∷ rows) zero p = in_phase p s ∷ rows
+phased (s ∷ rows) (suc at) p = s ∷ phased rows at p
+
 -- the image after a change; each change adds one epoch
 abbrev pub changed : Image → Change → Image
 changed image Unchanged = record image { epoch = image.epoch + 1 }
@@ -33,16 +43,12 @@ changed image (Unregistered n) = record image { epoch = image.epoch + 1; nodes =
 changed image (Tokens tokens) = record image { epoch = image.epoch + 1; tokens = tokens }
 changed image (Keyspaces keyspaces) = record image { epoch = image.epoch + 1; keyspaces = keyspaces }
 changed image (Begun at plan sequences) = record image { epoch = image.epoch + 1; sequences = sequences }
-changed image (Started at row) = record image { epoch = image.epoch + 1; sequences = slice_set image.sequences at row }
-changed image (Mid at row) = record image { epoch = image.epoch + 1; sequences = slice_set image.sequences at row }
-changed image (Finished at left tokens sequences) =
-    record image { epoch = image.epoch + 1; nodes = nodes_left image.nodes left; tokens = tokens; sequences = sequences }
-changed image (Ended at sequences) = record image { epoch = image.epoch + 1; sequences = sequences }
-changed image (BroughtBack at row) = record image { epoch = image.epoch + 1; sequences = slice_set image.sequences at row }
-
--- a movement at another phase
-abbrev pub in_phase : Phase → SeqRow → SeqRow
-in_phase p row = record row { phase = p }
+changed image (Started at) = record image { epoch = image.epoch + 1; sequences = phased image.sequences at phase.Started }
+changed image (Mid at) = record image { epoch = image.epoch + 1; sequences = phased image.sequences at phase.Mid }
+changed image (Finished at left tokens) =
+    record image { epoch = image.epoch + 1; nodes = nodes_left image.nodes left; tokens = tokens; sequences = remove image.sequences at }
+changed image (Ended at) = record image { epoch = image.epoch + 1; sequences = remove image.sequences at }
+changed image (BroughtBack at) = record image { epoch = image.epoch + 1; sequences = phased image.sequences at phase.Started }
 
 -- the movement at this position is at this phase
 abbrev pub StandsAt : List SeqRow → ℕ → Phase → Type 0
@@ -52,16 +58,16 @@ StandsAt rows at p = option_map (λ s. s.phase) (slice_get rows at) ≡ Some p
 abbrev pub StandsBeforeMid : List SeqRow → ℕ → Type 0
 StandsBeforeMid rows at = option_map (λ s. is_mid s.phase) (slice_get rows at) ≡ Some false
 
--- a change fits the movements in flight before it. The row of a new movement's plan is inserted at its position. For a
--- step, the same row is at this position, at the phase before; for the way back, it is there at MID. A movement that is
--- finished is at MID and is removed. A movement that is given up isn't at MID and is removed
+-- a change fits the movements in flight before it. The row of a new movement's plan is inserted at its position. A
+-- movement that takes a step is at the phase before; one that goes back or is finished is at MID, and one that is given
+-- up isn't
 abbrev pub Follows : List SeqRow → Change → Type 0
 Follows before (Begun at plan after) = (plan.row.phase ≡ phase.Prepared) × (at ≤ length before) × (after ≡ insert before at plan.row)
-Follows before (Started at row) = (slice_get before at ≡ Some (in_phase phase.Prepared row)) × (row.phase ≡ phase.Started)
-Follows before (Mid at row) = (slice_get before at ≡ Some (in_phase phase.Started row)) × (row.phase ≡ phase.Mid)
-Follows before (Finished at left tokens after) = StandsAt before at phase.Mid × (after ≡ remove before at)
-Follows before (Ended at after) = StandsBeforeMid before at × (after ≡ remove before at)
-Follows before (BroughtBack at row) = (slice_get before at ≡ Some (in_phase phase.Mid row)) × (row.phase ≡ phase.Started)
+Follows before (Started at) = StandsAt before at phase.Prepared
+Follows before (Mid at) = StandsAt before at phase.Started
+Follows before (Finished at left tokens) = StandsAt before at phase.Mid
+Follows before (Ended at) = StandsBeforeMid before at
+Follows before (BroughtBack at) = StandsAt before at phase.Mid
 Follows before _ = Unit {0}
 
 -- a change fits the nodes before it: a node that is registered is new, and a node that is removed or leaves is
@@ -69,7 +75,7 @@ Follows before _ = Unit {0}
 abbrev pub FitsNodes : Image → Change → Type 0
 FitsNodes image (Registered node) = IsNew image.nodes image.next node
 FitsNodes image (Unregistered n) = IsSome (row_of image.nodes n)
-FitsNodes image (Finished at left tokens after) = IfSome left (IsLeftRow image.nodes)
+FitsNodes image (Finished at left tokens) = IfSome left (IsLeftRow image.nodes)
 FitsNodes image _ = Unit {0}
 
 -- the lock that a plan takes
@@ -102,11 +108,11 @@ Suits image (UnsafeJoin n tokens) (Tokens pairs) = Unit {0}
 Suits image (Keyspace name r) (Keyspaces rows) = Unit {0}
 Suits image (Keyspace name r) Unchanged = Unit {0}
 Suits image (DropKeyspace name) (Keyspaces rows) = Unit {0}
-Suits image (Step goal.Start kind n) (Started at row) = IsMovementAt image n at
-Suits image (Step goal.Mid kind n) (Mid at row) = IsMovementAt image n at
-Suits image (Step goal.Finish kind n) (Finished at left tokens after) = IsMovementAt image n at
-Suits image (Cancel n) (Ended at after) = IsMovementAt image n at
-Suits image (Cancel n) (BroughtBack at row) = IsMovementAt image n at
+Suits image (Step goal.Start kind n) (Started at) = IsMovementAt image n at
+Suits image (Step goal.Mid kind n) (Mid at) = IsMovementAt image n at
+Suits image (Step goal.Finish kind n) (Finished at left tokens) = IsMovementAt image n at
+Suits image (Cancel n) (Ended at) = IsMovementAt image n at
+Suits image (Cancel n) (BroughtBack at) = IsMovementAt image n at
 Suits image _ _ = ⊥
 
 -- a change is the change of this command
@@ -135,8 +141,8 @@ uncut plan = record plan { cuts = [] }
 -- the plans of the movements in flight after a change, from those before it
 abbrev pub plans_after : List Plan → Change → List Plan
 plans_after plans (Begun at plan sequences) = insert plans at (uncut plan)
-plans_after plans (Finished at left tokens sequences) = remove plans at
-plans_after plans (Ended at sequences) = remove plans at
+plans_after plans (Finished at left tokens) = remove plans at
+plans_after plans (Ended at) = remove plans at
 plans_after plans _ = plans
 
 -- how many movements there are after a change that begins one; 0 for other changes

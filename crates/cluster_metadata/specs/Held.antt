@@ -1,5 +1,5 @@
 -- The invariant of a cluster's metadata.
-use Rattle.std.specs.Prelude.{◌≡◌, List}
+use Rattle.std.specs.Prelude.{◌≡◌, List, []}
 use Rattle.node_directory.specs.Directory.{Registry}
 use Rattle.token_ring.specs.declared.book.LockRow.{LockRow}
 use Rattle.transformations.specs.Meeting.{HaveReplications}
@@ -22,3 +22,8 @@ pub record IsHeld (image : Image) (dir : Registry) (book : List MapRow) (values 
   pub running : IsRunning image.sequences values
   pub deltas : HaveDeltas image values
   pub locks : AreLocksOf image image.sequences table
+
+-- an image without movements, and another that differs from it at most in the epoch and in the id of the next node
+pub record DiffersInNumbers (image other : Image) : Type 0 where
+  pub idle : image.sequences ≡ []
+  pub rest : other ≡ record image { epoch = other.epoch; next = other.next }

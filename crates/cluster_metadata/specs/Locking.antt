@@ -24,8 +24,8 @@ lock_of m = plan_lock (plan_of m)
 -- the locks after a change, from those before it
 abbrev pub locks_after : List LockRow → Change → List LockRow
 locks_after table (Begun at plan sequences) = insert table at (plan_lock plan)
-locks_after table (Finished at left tokens sequences) = remove table at
-locks_after table (Ended at sequences) = remove table at
+locks_after table (Finished at left tokens) = remove table at
+locks_after table (Ended at) = remove table at
 locks_after table _ = table
 
 -- the ranges of the movement that begins, and room for its lock

@@ -50,10 +50,10 @@ MapSteps image (Registered node) = Stays image (changed image (Registered node))
 MapSteps image (Unregistered n) = Stays image (changed image (Unregistered n))
 MapSteps image (Begun at plan after) =
     MovesBy image (changed image (Begun at plan after)) no_deltas × (plan.row.in_pairs ≡ [] → cuts (changed image (Begun at plan after)) ≡ cuts image)
-MapSteps image (Started at row) = MovesAt image (changed image (Started at row)) at (step_delta goal.Start)
-MapSteps image (Mid at row) = MovesAt image (changed image (Mid at row)) at (step_delta goal.Mid)
-MapSteps image (BroughtBack at row) = MovesAt image (changed image (BroughtBack at row)) at (cancel_delta phase.Mid)
-MapSteps image (Finished at left tokens after) =
-    MovesOf image (changed image (Finished at left tokens after)) at (λ s. step_delta goal.Finish) × StaysWithout image (changed image (Finished at left tokens after)) at
-MapSteps image (Ended at after) = MovesOf image (changed image (Ended at after)) at (λ s. cancel_delta s.phase)
+MapSteps image (Started at) = MovesAt image (changed image (Started at)) at (step_delta goal.Start)
+MapSteps image (Mid at) = MovesAt image (changed image (Mid at)) at (step_delta goal.Mid)
+MapSteps image (BroughtBack at) = MovesAt image (changed image (BroughtBack at)) at (cancel_delta phase.Mid)
+MapSteps image (Finished at left tokens) =
+    MovesOf image (changed image (Finished at left tokens)) at (λ s. step_delta goal.Finish) × StaysWithout image (changed image (Finished at left tokens)) at
+MapSteps image (Ended at) = MovesOf image (changed image (Ended at)) at (λ s. cancel_delta s.phase)
 MapSteps image _ = Unit {0}

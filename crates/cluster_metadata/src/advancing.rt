@@ -10,13 +10,14 @@ ghost use Rattle.cluster_metadata.specs.Nodes.{IsLeftRow, IsNew, with_node, with
 use crate::change::Change;
 use crate::changes::settled;
 use crate::leaving::LeftRow;
+use crate::movements::{bring_to, remove_at};
 use crate::new_node::NewNode;
 use crate::nodes::{add_row, remove_node};
 use crate::on_heap::OnHeap;
 use crate::preparing::row_prepared;
 use cluster_terms::{Memory, SmallList};
 use std::alloc::Global;
-use transformations::{Command, Image, SeqRow};
+use transformations::{Command, Image, Phase, SeqRow};
 
 /// The image before the first command: epoch 0, no node and no keyspace. Takes no memory.
 pub fn empty_image(alloc: Global) -> Image
@@ -59,7 +60,7 @@ fn leave(image: &mut Image, left: Option<OnHeap<LeftRow>>)
 }
 
 /// Makes a change in an image. Takes no memory.
-fn change_image(image: &mut Image, change: Change)
+fn change_image(alloc: Global, image: &mut Image, change: Change)
     requires epochs { image.old.epoch < 2 ^ 64 - 1 }
     requires nodes { FitsNodes image.old change }
     requires follows { Follows image.old.sequences change }
@@ -72,25 +73,20 @@ fn change_image(image: &mut Image, change: Change)
         Change::Unregistered { node } => remove_node(&mut image.nodes, node),
         Change::Tokens(tokens) => image.tokens = tokens,
         Change::Keyspaces(keyspaces) => image.keyspaces = keyspaces,
-        Change::Started { at, row } => image.sequences.replace(at, row),
-        Change::Mid { at, row } => image.sequences.replace(at, row),
-        Change::Finished {
-            at: _,
-            left,
-            tokens,
-            sequences,
-        } => {
+        Change::Started { at } => bring_to(alloc, &mut image.sequences, at, Phase::Started),
+        Change::Mid { at } => bring_to(alloc, &mut image.sequences, at, Phase::Mid),
+        Change::Finished { at, left, tokens } => {
             leave(image, left);
             image.tokens = tokens;
-            image.sequences = sequences;
+            remove_at(alloc, &mut image.sequences, at);
         }
         Change::Begun {
             at: _,
             plan: _,
             sequences,
         } => image.sequences = sequences,
-        Change::Ended { at: _, sequences } => image.sequences = sequences,
-        Change::BroughtBack { at, row } => image.sequences.replace(at, row),
+        Change::Ended { at } => remove_at(alloc, &mut image.sequences, at),
+        Change::BroughtBack { at } => bring_to(alloc, &mut image.sequences, at, Phase::Started),
     }
 }
 
@@ -120,6 +116,6 @@ pub fn advance(alloc: Global, image: &mut Image, cmd: &Command) -> Result<(), Me
         return begin(image, row);
     }
     let change = settled(alloc, image, cmd)?;
-    change_image(image, change);
+    change_image(alloc, image, change);
     Ok(())
 }

@@ -1,6 +1,6 @@
 //! The cancel of a movement.
 
-ghost use Rattle.std.specs.Prelude.{◌≡◌, None, IfOk};
+ghost use Rattle.std.specs.Prelude.{◌≡◌, None};
 ghost use Rattle.std.specs.List.Sorted.{IsStrictlySortedBy};
 ghost use Rattle.transformations.specs.Orders.{by_node};
 ghost use Rattle.transformations.specs.Refusals.{early_refusal_of};
@@ -9,8 +9,8 @@ ghost use Rattle.transformations.specs.declared.command.Command.TheVariants as c
 ghost use Rattle.cluster_metadata.specs.Change.{IsChange};
 
 use crate::change::Change;
-use crate::stepping::{at_phase, others, position_of};
-use cluster_terms::{Memory, NodeId};
+use crate::stepping::position_of;
+use cluster_terms::NodeId;
 use transformations::{Image, Phase};
 
 /// Whether a movement at a phase is half way.
@@ -21,19 +21,16 @@ pub fn is_mid(phase: Phase) -> bool
 }
 
 /// The change that cancels the movement of a node: from `Mid` it goes back to `Started`, from another phase it ends.
-/// Fails only if memory runs out.
-pub fn cancel(image: &Image, node: NodeId) -> Result<Change, Memory>
+pub fn cancel(image: &Image, node: NodeId) -> Change
     requires movements { IsStrictlySortedBy by_node image.now.sequences }
     requires accepted { early_refusal_of image.now (command.Cancel node) ≡ None }
-    ensures { IfOk result (IsChange image.now (command.Cancel node)) }
+    ensures { IsChange image.now (command.Cancel node) result }
 {
     let sequences = image.sequences.as_slice();
     let at = position_of(sequences, node);
     let row = &sequences[at];
     if is_mid(row.phase) {
-        let row = at_phase(row, Phase::Started)?;
-        return Ok(Change::BroughtBack { at, row });
+        return Change::BroughtBack { at };
     }
-    let sequences = others(image, node)?;
-    Ok(Change::Ended { at, sequences })
+    Change::Ended { at }
 }

@@ -3,10 +3,11 @@ use crate::new_node::NewNode;
 use crate::on_heap::OnHeap;
 use cluster_terms::{NodeId, PairList};
 use placement_deltas::Plan;
-use transformations::{KeyspaceRows, SeqRow, SeqRows};
+use transformations::{KeyspaceRows, SeqRows};
 
 /// The change that a command makes in an image, beside the epoch. It has the new version of each list that changes, or
-/// of the row of one node or one movement. `at` is the position of this movement among the movements.
+/// of the row of one node. `at` is the position of a movement among the movements: a movement that takes a step, goes
+/// back or ends is changed where it is.
 #[derive(Drop)]
 pub enum Change {
     /// All lists stay as they are.
@@ -27,32 +28,26 @@ pub enum Change {
         plan: OnHeap<Plan>,
         sequences: SeqRows,
     },
-    /// A movement starts: its row, at `Started`.
+    /// A movement starts.
     Started {
         at: usize,
-        row: SeqRow,
     },
-    /// A movement comes half way: its row, at `Mid`.
+    /// A movement comes half way.
     Mid {
         at: usize,
-        row: SeqRow,
     },
-    /// A movement is finished: the row of the node that has left by it, if any, the ring after it, and the other
-    /// movements.
+    /// A movement is finished: the row of the node that has left by it, if any, and the ring after it.
     Finished {
         at: usize,
         left: Option<OnHeap<LeftRow>>,
         tokens: PairList,
-        sequences: SeqRows,
     },
-    /// A movement that isn't half way is given up: the other movements.
+    /// A movement that isn't half way is given up.
     Ended {
         at: usize,
-        sequences: SeqRows,
     },
-    /// A movement that was half way goes back: its row, at `Started`.
+    /// A movement that was half way goes back to `Started`.
     BroughtBack {
         at: usize,
-        row: SeqRow,
     },
 }

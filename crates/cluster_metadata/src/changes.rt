@@ -130,7 +130,7 @@ pub fn settled(alloc: Global, image: &Image, cmd: &Command) -> Result<Change, Me
         Command::Keyspace { name, replication } => set_keyspace(image, name, replication),
         Command::DropKeyspace { name } => drop_keyspace(image, name),
         Command::Step { goal, kind, node } => step(alloc, image, *goal, *kind, *node),
-        Command::Cancel { node } => cancel(image, *node),
+        Command::Cancel { node } => Ok(cancel(image, *node)),
         Command::PrepareJoin { .. }
         | Command::PrepareMove { .. }
         | Command::PrepareLeave { .. }

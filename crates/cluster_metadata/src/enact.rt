@@ -1,21 +1,21 @@
 //! Makes a change in an image, in its directory, in the values of its movements in flight and in the table of their
 //! locks. Nothing here allocates memory.
 
-ghost use Rattle.std.specs.Prelude.{◌≡◌, ◌+◌, ◌<◌, ◌≤◌, ◌^◌, ◌-◌, length, map, slice_set, vec_capacity, vec_len, MatchOption};
+ghost use Rattle.std.specs.Prelude.{◌≡◌, ◌+◌, ◌<◌, ◌≤◌, ◌^◌, ◌-◌, length, map, vec_capacity, vec_len, MatchOption};
 ghost use Rattle.std.specs.List.{insert, remove};
 ghost use Rattle.std.specs.List.Sorted.{IsStrictlySortedBy};
 ghost use Rattle.transformations.specs.Orders.{by_node};
 ghost use Rattle.transformations.specs.declared.sequence.Phase.TheVariants as phase;
-ghost use Rattle.cluster_metadata.specs.Change.{FitsNodes, Follows, StandsAt, StandsBeforeMid, changed, directory_of, grown_to, plans_after, uncut};
+ghost use Rattle.cluster_metadata.specs.Change.{FitsNodes, Follows, StandsAt, StandsBeforeMid, changed, directory_of, grown_to, phased, plans_after, uncut};
 ghost use Rattle.cluster_metadata.specs.Locking.{HoldsLock, IsFree, MayLock, locks_after};
 ghost use Rattle.cluster_metadata.specs.Change.{plan_lock};
 ghost use Rattle.cluster_metadata.specs.MapChanges.{HoldMaps, maps_after};
 ghost use Rattle.cluster_metadata.specs.Running.{IsRunning, plan_of};
-ghost use Rattle.cluster_metadata.specs.declared.change.Change.TheVariants as change;
 
 use crate::change::Change;
 use crate::map_book::MapBook;
 use crate::map_change::MapChange;
+use crate::movements::{bring_to, remove_at};
 use crate::new_lock::NewLock;
 use crate::nodes::{mark_left, register, unregister};
 use crate::running::Running;
@@ -25,7 +25,7 @@ use node_directory::Directory;
 use placement_deltas::Plan;
 use std::alloc::Global;
 use std::mem::swap;
-use transformations::{Image, SeqRow, SeqRows};
+use transformations::{Image, Phase, SeqRow, SeqRows};
 
 /// Inserts the value of a movement. The vector has room for it.
 fn put(running: &mut Vec<Running>, at: usize, movement: Running)
@@ -99,70 +99,74 @@ fn begin(
 }
 
 /// Takes a movement from `Prepared` to `Started`.
-fn start(sequences: &mut SeqRows, running: &mut Vec<Running>, at: usize, row: SeqRow)
+fn start(sequences: &mut SeqRows, running: &mut Vec<Running>, at: usize)
     requires running { IsRunning sequences.old running.old.items }
-    requires follows { Follows sequences.old (change.Started at row) }
-    ensures rows { sequences.new ≡ slice_set sequences.old at row }
+    requires stands { StandsAt sequences.old at phase.Prepared }
+    ensures rows { sequences.new ≡ phased sequences.old at phase.Started }
     ensures running { IsRunning sequences.new running.new.items }
     ensures plans { map plan_of running.new.items ≡ map plan_of running.old.items }
 {
     let movement = running.remove(at);
     put(running, at, movement.start());
-    sequences.replace(at, row);
+    bring_to(*running.allocator(), sequences, at, Phase::Started);
 }
 
 /// Takes a movement from `Started` to `Mid`.
-fn mid(sequences: &mut SeqRows, running: &mut Vec<Running>, at: usize, row: SeqRow)
+fn mid(sequences: &mut SeqRows, running: &mut Vec<Running>, at: usize)
     requires running { IsRunning sequences.old running.old.items }
-    requires follows { Follows sequences.old (change.Mid at row) }
-    ensures rows { sequences.new ≡ slice_set sequences.old at row }
+    requires stands { StandsAt sequences.old at phase.Started }
+    ensures rows { sequences.new ≡ phased sequences.old at phase.Mid }
     ensures running { IsRunning sequences.new running.new.items }
     ensures plans { map plan_of running.new.items ≡ map plan_of running.old.items }
 {
     let movement = running.remove(at);
     put(running, at, movement.mid());
-    sequences.replace(at, row);
+    bring_to(*running.allocator(), sequences, at, Phase::Mid);
 }
 
-/// Removes the value of a movement that is finished, and unlocks its ranges. It is at `Mid`.
-fn finish(sequences: &[SeqRow], running: &mut Vec<Running>, locks: &mut LockTable, at: usize)
-    requires movements { IsStrictlySortedBy by_node sequences.now }
-    requires running { IsRunning sequences.now running.old.items }
-    requires names { map (λ row. row.node) locks.old ≡ map (λ s. s.node) sequences.now }
-    requires mid { StandsAt sequences.now at phase.Mid }
-    ensures running { IsRunning (remove sequences.now at) running.new.items }
+/// Removes a movement that is finished, and its value, and unlocks its ranges. It is at `Mid`.
+fn finish(sequences: &mut SeqRows, running: &mut Vec<Running>, locks: &mut LockTable, at: usize)
+    requires movements { IsStrictlySortedBy by_node sequences.old }
+    requires running { IsRunning sequences.old running.old.items }
+    requires names { map (λ row. row.node) locks.old ≡ map (λ s. s.node) sequences.old }
+    requires mid { StandsAt sequences.old at phase.Mid }
+    ensures rows { sequences.new ≡ remove sequences.old at }
+    ensures running { IsRunning sequences.new running.new.items }
     ensures plans { map plan_of running.new.items ≡ remove (map plan_of running.old.items) at }
     ensures locks { locks.new ≡ remove locks.old at }
 {
     let key = running.remove(at).finish();
     locks.unlock(key);
+    remove_at(*running.allocator(), sequences, at);
 }
 
-/// Removes the value of a movement that is given up, and unlocks its ranges. It isn't at `Mid`.
-fn end(sequences: &[SeqRow], running: &mut Vec<Running>, locks: &mut LockTable, at: usize)
-    requires movements { IsStrictlySortedBy by_node sequences.now }
-    requires running { IsRunning sequences.now running.old.items }
-    requires names { map (λ row. row.node) locks.old ≡ map (λ s. s.node) sequences.now }
-    requires early { StandsBeforeMid sequences.now at }
-    ensures running { IsRunning (remove sequences.now at) running.new.items }
+/// Removes a movement that is given up, and its value, and unlocks its ranges. It isn't at `Mid`.
+fn end(sequences: &mut SeqRows, running: &mut Vec<Running>, locks: &mut LockTable, at: usize)
+    requires movements { IsStrictlySortedBy by_node sequences.old }
+    requires running { IsRunning sequences.old running.old.items }
+    requires names { map (λ row. row.node) locks.old ≡ map (λ s. s.node) sequences.old }
+    requires early { StandsBeforeMid sequences.old at }
+    ensures rows { sequences.new ≡ remove sequences.old at }
+    ensures running { IsRunning sequences.new running.new.items }
     ensures plans { map plan_of running.new.items ≡ remove (map plan_of running.old.items) at }
     ensures locks { locks.new ≡ remove locks.old at }
 {
     let key = running.remove(at).give_up();
     locks.unlock(key);
+    remove_at(*running.allocator(), sequences, at);
 }
 
 /// Takes a movement from `Mid` back to `Started`.
-fn bring_back(sequences: &mut SeqRows, running: &mut Vec<Running>, at: usize, row: SeqRow)
+fn bring_back(sequences: &mut SeqRows, running: &mut Vec<Running>, at: usize)
     requires running { IsRunning sequences.old running.old.items }
-    requires follows { Follows sequences.old (change.BroughtBack at row) }
-    ensures rows { sequences.new ≡ slice_set sequences.old at row }
+    requires stands { StandsAt sequences.old at phase.Mid }
+    ensures rows { sequences.new ≡ phased sequences.old at phase.Started }
     ensures running { IsRunning sequences.new running.new.items }
     ensures plans { map plan_of running.new.items ≡ map plan_of running.old.items }
 {
     let movement = running.remove(at);
     put(running, at, movement.bring_back());
-    sequences.replace(at, row);
+    bring_to(*running.allocator(), sequences, at, Phase::Started);
 }
 
 /// Changes the placement maps.
@@ -223,24 +227,15 @@ pub fn make(
             begin(before, running, locks, &mut room, at, plan.take(), lock);
             image.sequences = sequences;
         }
-        Change::Started { at, row } => start(&mut image.sequences, running, at, row),
-        Change::Mid { at, row } => mid(&mut image.sequences, running, at, row),
-        Change::Finished {
-            at,
-            left,
-            tokens,
-            sequences,
-        } => {
-            finish(image.sequences.as_slice(), running, locks, at);
+        Change::Started { at } => start(&mut image.sequences, running, at),
+        Change::Mid { at } => mid(&mut image.sequences, running, at),
+        Change::Finished { at, left, tokens } => {
+            finish(&mut image.sequences, running, locks, at);
             mark_left(image, directory, left);
             image.tokens = tokens;
-            image.sequences = sequences;
         }
-        Change::Ended { at, sequences } => {
-            end(image.sequences.as_slice(), running, locks, at);
-            image.sequences = sequences;
-        }
-        Change::BroughtBack { at, row } => bring_back(&mut image.sequences, running, at, row),
+        Change::Ended { at } => end(&mut image.sequences, running, locks, at),
+        Change::BroughtBack { at } => bring_back(&mut image.sequences, running, at),
     }
     room.destroy_empty();
 }

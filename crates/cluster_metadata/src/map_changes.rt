@@ -1,7 +1,7 @@
 //! How a change of an image changes its placement maps.
 
 ghost use Rattle.std.specs.Prelude.{◌≡◌, ◌-◌, ◌<◌, ◌^◌, [], length, IfOk, OnOk};
-ghost use Rattle.std.specs.List.{AllByRecursion};
+ghost use Rattle.std.specs.List.{AllByRecursion, remove};
 ghost use Rattle.cluster_terms.specs.Arc.{IsToken};
 ghost use Rattle.cluster_terms.specs.Row.{rows_between};
 ghost use Rattle.sequence_plans.specs.Deltas.{HasDeltas};
@@ -23,6 +23,7 @@ use crate::change::Change;
 use crate::fitting::fits;
 use crate::map_book::MapBook;
 use crate::map_change::MapChange;
+use crate::movements::others;
 use crate::recutting::recut;
 use crate::running::Running;
 use crate::turn::Turn;
@@ -150,18 +151,20 @@ fn maps_begun(
     Ok(next)
 }
 
-/// The change of the placement maps by a movement that is finished, with the ring after it and the other movements. If
-/// it takes no pair out, the cuts stay, since the pairs that it brings go into the ring. Then only sets change.
+/// The change of the placement maps by the movement at this position, which is finished, with the ring after it. If it
+/// takes no pair out, the cuts stay, since the pairs that it brings go into the ring. Then only sets change.
 fn maps_finished(
     alloc: Global,
     image: &Image,
     maps: &MapBook,
     plan: &Plan,
+    at: usize,
     tokens: &PairList,
-    sequences: &SeqRows,
     change: &Change,
 ) -> Result<MapChange, Memory>
-    requires own { spec_rings.cuts (spec.changed image.now change.now) ≡ cuts_among tokens.now sequences.now }
+    requires place { at < length image.now.sequences }
+    requires own { spec_rings.cuts (spec.changed image.now change.now)
+        ≡ cuts_among tokens.now (remove image.now.sequences at) }
     requires stay { plan.now.row.out_pairs ≡ []
         → spec_rings.cuts (spec.changed image.now change.now) ≡ spec_rings.cuts image.now }
     requires moves { MovesBy image.now (spec.changed image.now change.now)
@@ -174,7 +177,8 @@ fn maps_finished(
     if plan.row.out_pairs.as_slice().is_empty() {
         return Ok(MapChange::Sets(turned_book(alloc, Turn::Writes, maps, lose)?));
     }
-    let next = recut_among(alloc, tokens, sequences, maps, Turn::Writes, lose)?;
+    let sequences = others(alloc, &image.sequences, at)?;
+    let next = recut_among(alloc, tokens, &sequences, maps, Turn::Writes, lose)?;
     Ok(next)
 }
 
@@ -221,19 +225,15 @@ pub fn maps_for(
             let swap = &running[*at].plan().swap;
             Ok(MapChange::Sets(turned_book(alloc, Turn::Reads, maps, swap)?))
         }
-        Change::Finished {
-            at,
-            tokens,
-            sequences,
-            ..
-        } => {
+        Change::Finished { at, tokens, .. } => {
             let plan = running[*at].plan();
-            maps_finished(alloc, image, maps, plan, tokens, sequences, change)
+            maps_finished(alloc, image, maps, plan, *at, tokens, change)
         }
-        Change::Ended { at, sequences } => {
+        Change::Ended { at } => {
             let movement = &running[*at];
             let (turn, gain) = (movement.undoing(), &movement.plan().gain);
-            let next = recut_among(alloc, &image.tokens, sequences, maps, turn, gain)?;
+            let sequences = others(alloc, &image.sequences, *at)?;
+            let next = recut_among(alloc, &image.tokens, &sequences, maps, turn, gain)?;
             Ok(next)
         }
         Change::BroughtBack { at, .. } => {

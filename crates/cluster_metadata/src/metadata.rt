@@ -1,4 +1,4 @@
-ghost use Rattle.std.specs.Prelude.{◌≡◌, ◌*◌, ◌-◌, ◌<◌, ◌≤◌, ◌^◌, ◌↔◌, ℤ, [], true, false, None, length, map, option_map, IfErr, IfOk, IfSome, IsNone, IsSome, IsTrue, MatchResult};
+ghost use Rattle.std.specs.Prelude.{◌≡◌, ◌*◌, ◌-◌, ◌<◌, ◌≤◌, ◌^◌, ◌↔◌, if◌then◌else◌, ℤ, [], true, false, None, length, map, option_map, IfErr, IfOk, IfSome, IsNone, IsSome, IsTrue, MatchResult, OnErr, OnOk};
 ghost use Rattle.std.specs.List.{All};
 ghost use Rattle.std.specs.Option.{option_copied};
 ghost use Rattle.std.specs.Ordering.{int_eq};
@@ -14,6 +14,7 @@ ghost use Rattle.transformations.specs.Rings.{cuts, writes_at};
 ghost use Rattle.transformations.specs.Valid.{IsValid};
 ghost use Rattle.cluster_metadata.specs.Change.{directory_of};
 ghost use Rattle.cluster_metadata.specs.CutDeltas.{ActsByDelta, CutsMove, DeltasSameAcross};
+ghost use Rattle.cluster_metadata.specs.Held.{DiffersInNumbers};
 ghost use Rattle.cluster_metadata.specs.ImageFaults.{IsCause};
 ghost use Rattle.sequence_plans.specs.Locks.{AreLocksOf};
 ghost use Rattle.cluster_metadata.specs.Maps.{placement_rows};
@@ -26,6 +27,7 @@ use crate::image_fault::ImageFault;
 use crate::keyspaces::keyspace_of;
 use crate::map_book::MapBook;
 use crate::maps::find_map;
+use crate::numbers::differs_in_numbers;
 use crate::parts::parts_of;
 use crate::permit::{Permit, permit_for};
 use crate::running::{Running, close_all};
@@ -36,6 +38,7 @@ use node_sets::NodeSet;
 use range_placements::PlacementMap;
 use std::alloc::Global;
 use std::marker::Model;
+use std::mem::replace;
 use std::sync::ledger::Ledger;
 use transformations::{Command, Image, KeyspaceRow};
 
@@ -172,16 +175,54 @@ impl Metadata {
         }))
     }
 
+    /// Becomes equal to other metadata that has no movement in flight, and returns whether it did: if a movement is in
+    /// flight there, leaves the metadata as they are, since the lock of a movement has one holder. Fails only if memory
+    /// runs out, and then changes nothing.
+    ///
+    /// Cost: a comparison of the tokens, the keyspaces and the nodes. If one of these differs, or a movement is in
+    /// flight here, the cost is that of `idle_copy`.
+    pub fn follow(&mut self, other: &Metadata) -> Result<bool, Memory>
+        ensures followed { IfOk result (λ followed. self.new ≡ (if followed then other.now else self.old)) }
+        ensures unchanged { OnErr result (self.new ≡ self.old) }
+        ensures idle { IfOk result (λ followed. IsTrue followed ↔ (other.now.sequences ≡ [])) }
+    {
+        if differs_in_numbers(&self.image, &self.directory, &other.image) {
+            self.renumber(other)?;
+            return Ok(true);
+        }
+        match other.idle_copy()? {
+            Some(copy) => {
+                replace(self, copy).close();
+                Ok(true)
+            }
+            None => Ok(false),
+        }
+    }
+
+    /// Takes over the epoch and the id of the next node from metadata that differ in nothing else. No movement is in
+    /// flight.
+    fn renumber(&mut self, other: &Metadata) -> Result<(), Memory>
+        requires { DiffersInNumbers self.old other.now }
+        ensures followed { OnOk result (self.new ≡ other.now) }
+        ensures unchanged { OnErr result (self.new ≡ self.old) }
+    {
+        self.directory.renumber(other.directory.next_id())?;
+        self.image.epoch = other.image.epoch;
+        self.image.next = other.image.next;
+        Ok(())
+    }
+
     /// Returns a permit if the image accepts the command. The permit holds all memory that the command needs.
     ///
     /// Errors: `Refused` with the first refusal of the command; `Memory` if memory runs out. Locked ranges are checked
     /// last. `Locked` shows the least node whose movement shares a token with the new movement, in the ranges of both
     /// under one keyspace, and the right end of the first row that they share.
     ///
-    /// Cost: a copy of each list that the command changes, or of the row of the movement that takes a step. The nodes
-    /// aren't copied: a register, an unregister and a finish change one row of the image and of the directory. A
-    /// register takes memory for the nodes once more, and for the directory at each 64th id alone; it stays unused if
-    /// they have memory to spare. A command that prepares no movement counts no walk.
+    /// Cost: a copy of each list that the command changes. The nodes aren't copied: a register, an unregister and a
+    /// finish change one row of the image and of the directory. A register takes memory for the nodes once more, and
+    /// for the directory at each 64th id alone; it stays unused if they have memory to spare. A step and a cancel copy
+    /// the movements only to find the cuts of the next image: the list is changed in place. A command that prepares no
+    /// movement counts no walk.
     ///
     /// If the command prepares a movement, its plan is made: the movements are copied, and the ranges of the new one are
     /// found. If it may change the ranges of the others, these are found anew: for m movements with the new one and r
@@ -250,8 +291,9 @@ impl Metadata {
     ///
     /// Cost: a register adds one row to the nodes and to the directory, and moves the others only if there is no memory
     /// to spare. An unregister moves the rows after the removed one. A finish changes one row in place. If a movement
-    /// ends, one pass over the locks unlocks its ranges. If a movement begins or ends, rows of the placement maps are
-    /// moved past those that come or go, or to new memory if the map has none to spare. If a command on keyspaces brings
+    /// ends, the rows of later movements move, and one pass over the locks unlocks its ranges; any other step, and a
+    /// cancel half way, sets the phase of one row. If a movement begins or ends, rows of the placement maps are moved
+    /// past those that come or go, or to new memory if the map has none to spare. If a command on keyspaces brings
     /// another list of replications, the maps that stay move to a new list, and their rows stay where they are.
     pub fn enact(&mut self, permit: Permit) -> u64
         requires { permit.image ≡ self.old }

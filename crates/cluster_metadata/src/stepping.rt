@@ -1,6 +1,6 @@
 //! The steps of a movement.
 
-ghost use Rattle.std.specs.Prelude.{◌≡◌, ◌<◌, ◌==◌, not, None, filter, find, length, position, IfOk, IsSome};
+ghost use Rattle.std.specs.Prelude.{◌≡◌, ◌<◌, ◌==◌, None, find, length, position, IfOk, IsSome};
 ghost use Rattle.std.specs.List.{slice_get};
 ghost use Rattle.transformations.specs.Refusals.{early_refusal_of};
 ghost use Rattle.transformations.specs.Steps as spec;
@@ -14,7 +14,7 @@ use crate::pairs::with_pairs;
 use cluster_terms::{Memory, NodeId, PairList, TryCopy};
 use std::alloc::Global;
 use std::slice::from_ref;
-use transformations::{Goal, Image, Kind, Phase, SeqRow, SeqRows, fixed_among};
+use transformations::{Goal, Image, Kind, Phase, SeqRow, fixed_among};
 
 /// A copy of a movement's row, at another phase.
 pub fn at_phase(row: &SeqRow, phase: Phase) -> Result<SeqRow, Memory>
@@ -33,22 +33,6 @@ fn ring_after(alloc: Global, image: &Image, row: &SeqRow) -> Result<PairList, Me
 {
     let ring = fixed_among(alloc, &image.tokens, from_ref(row))?;
     with_pairs(alloc, ring.as_slice(), row.in_pairs.as_slice())
-}
-
-/// The movements of the other nodes.
-pub fn others(image: &Image, node: NodeId) -> Result<SeqRows, Memory>
-    ensures { IfOk result (λ rows. rows ≡ spec.others image.now.sequences node) }
-{
-    let mut sequences = image.sequences.copy()?;
-    remove_movement(&mut sequences, node);
-    Ok(sequences)
-}
-
-/// Keeps the movements of the other nodes.
-fn remove_movement(rows: &mut SeqRows, node: NodeId)
-    ensures { rows.new ≡ spec.others rows.old node }
-{
-    rows.retain(|row| row.node != node);
 }
 
 /// The position of a node's movement. Returns `None` if and only if the node has no movement.
@@ -88,19 +72,12 @@ pub fn step(
     let at = position_of(sequences, node);
     let row = &sequences[at];
     match goal {
-        Goal::Start => Ok(Change::Started {
-            at,
-            row: at_phase(row, Phase::Started)?,
-        }),
-        Goal::Mid => Ok(Change::Mid {
-            at,
-            row: at_phase(row, Phase::Mid)?,
-        }),
+        Goal::Start => Ok(Change::Started { at }),
+        Goal::Mid => Ok(Change::Mid { at }),
         Goal::Finish => Ok(Change::Finished {
             at,
             left: left_row(alloc, image, leaver(row))?,
             tokens: ring_after(alloc, image, row)?,
-            sequences: others(image, node)?,
         }),
     }
 }

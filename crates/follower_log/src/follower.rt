@@ -1,4 +1,4 @@
-ghost use Rattle.std.specs.Prelude.{◌≡◌, ◌+◌, ◌<◌, ◌≤◌, ◌∷◌, true, List, [], Ok, Some, None, length, IfOk, IsTrue};
+ghost use Rattle.std.specs.Prelude.{◌≡◌, ◌+◌, ◌<◌, ◌≤◌, ◌∷◌, ◌↔◌, true, List, [], Ok, Some, None, length, IfOk, IsFalse, IsTrue, OnErr};
 ghost use Rattle.cluster_terms.specs.Ascending.{put};
 ghost use Rattle.transformations.specs.History.{is_command, most_epochs, state_after};
 ghost use Rattle.transformations.specs.Log.{IsLog, commands_of};
@@ -137,22 +137,28 @@ impl Follower {
             && self.waiting.at(epoch).is_none()
     }
 
-    /// Takes over the metadata of the last epoch of a log, and forgets the entries that wait. If the follower lacks one
-    /// entry of this log, it comes to the same as `deliver` with this entry, without applying it and those that wait.
+    /// Takes over the metadata of the last epoch of a log, if no movement is in flight in them, and forgets the entries
+    /// that wait. Returns whether it did. If the follower lacks one entry of this log, it comes to the same as `deliver`
+    /// with this entry, without applying it and those that wait. Fails only if memory runs out, and then changes
+    /// nothing.
     ///
-    /// Takes no memory. Cost: that of `Metadata::close`.
-    pub fn end_at(&mut self, last: Metadata) -> Took
-        ensures state { self.new ≡ record { image = last; waiting = [] } }
-        ensures took { result ≡ Took.At last.epoch }
-        ensures step { (log : List LogEntry) (taken : Taken) (entry : LogEntry) → IsLog log → IsEntryOf log entry
+    /// Cost: that of `Metadata::follow`.
+    pub fn end_at(&mut self, last: &Metadata) -> Result<bool, Memory>
+        ensures state { IfOk result (λ ended. IsTrue ended → self.new ≡ record { image = last.now; waiting = [] }) }
+        ensures stays { IfOk result (λ ended. IsFalse ended → self.new ≡ self.old) }
+        ensures unchanged { OnErr result (self.new ≡ self.old) }
+        ensures idle { IfOk result (λ ended. IsTrue ended ↔ (last.now.sequences ≡ [])) }
+        ensures step { IfOk result (λ ended. IsTrue ended → (log : List LogEntry) (taken : Taken) (entry : LogEntry)
+            → IsLog log → IsEntryOf log entry
             → StandsFor log taken self.old → lacks_only self.old entry.epoch (length log) ≡ true
-            → last ≡ state_after (commands_of log) (length log)
-            → Performs self.old (hand_entry self.old entry) (Ok result) self.new }
+            → last.now ≡ state_after (commands_of log) (length log)
+            → Performs self.old (hand_entry self.old entry) (Ok (Took.At last.now.epoch)) self.new) }
     {
-        let epoch = last.epoch();
+        if !self.metadata.follow(last)? {
+            return Ok(false);
+        }
         self.waiting = Waiting::empty(self.alloc);
-        replace(&mut self.metadata, last).close();
-        Took::At(epoch)
+        Ok(true)
     }
 
     /// Takes an entry above the follower's epoch, at whose epoch none waits, unless too many wait.

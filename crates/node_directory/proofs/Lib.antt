@@ -4,5 +4,6 @@ pub mod KeptLemmas
 pub mod MetLists
 pub mod NodeRows
 pub mod RoomLemmas
+pub mod SameRows
 pub mod SearchLemmas
 pub mod TallyLemmas

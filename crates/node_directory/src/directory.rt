@@ -1,8 +1,9 @@
 ghost use Rattle.std.specs.Prelude.{◌≡◌, [], ◌<◌, ◌↔◌, IsTrue, IsSome, IfSome, IfOk, OnOk, IfErr, OnErr, None, slice_get, length};
+ghost use Rattle.std.specs.List.{list_all, zip};
 ghost use Rattle.std.specs.Option.{option_copied, option_map};
 ghost use Rattle.cluster_terms.specs.NodeRow.{row_of};
 ghost use Rattle.cluster_terms.specs.Replication.{rack_within};
-ghost use Rattle.node_directory.specs.Directory.{is_directory, node_named, place_in, registered, other_rows, marked_left};
+ghost use Rattle.node_directory.specs.Directory.{is_directory, node_named, place_in, registered, same_node, other_rows, marked_left};
 ghost use Rattle.node_directory.specs.Kept.{IsPlace, IsPlaceOf};
 ghost use Rattle.node_directory.specs.Room.{IsRoomFor};
 
@@ -40,6 +41,17 @@ impl Model for Directory {
     ghost view = { λ d. record { rows = values_of d.nodes.entries; next = d.next } };
 
     ghost invariant = { λ d. IsKept d.nodes.entries d.next × (reserve_at d.next ≤ spare d.nodes) };
+}
+
+/// Whether two rows are equal.
+fn is_same(row: &NodeRow, other: &NodeRow) -> bool
+    ensures { result ≡ same_node row.now other.now }
+{
+    row.id == other.id
+        && row.left == other.left
+        && row.name.as_str() == other.name.as_str()
+        && row.dc.as_str() == other.dc.as_str()
+        && row.rack.as_str() == other.rack.as_str()
 }
 
 impl Directory {
@@ -175,6 +187,36 @@ impl Directory {
         } else {
             None
         }
+    }
+
+    /// Sets the id of the next node, without a node for the ids up to it, as after the removal of their nodes. All ids
+    /// are below it. If memory runs out, leaves the directory unchanged. Takes memory only if there is none to spare for
+    /// the nodes up to the next id that is a multiple of 64.
+    pub fn renumber(&mut self, next: u32) -> Result<(), Memory>
+        requires { IsTrue (is_directory 0 self.old.rows next) }
+        ensures renumbered { OnOk result (self.new ≡ record { rows = self.old.rows; next = next }) }
+        ensures unchanged { OnErr result (self.new ≡ self.old) }
+    {
+        self.nodes.reserve(reserve_at(next))?;
+        self.next = next;
+        Ok(())
+    }
+
+    /// Whether the directory has these rows. The cost is a comparison of each row.
+    pub fn has_rows(&self, rows: &[NodeRow]) -> bool
+        ensures { IsTrue result ↔ (self.now.rows ≡ rows.now) }
+    {
+        self.len() == rows.len() && self.has_beside(rows)
+    }
+
+    /// Whether the rows are equal at each position that both lists have.
+    fn has_beside(&self, rows: &[NodeRow]) -> bool
+        ensures { result ≡ list_all (λ beside. same_node beside.0 beside.1) (zip self.now.rows rows.now) }
+    {
+        self.nodes
+            .values()
+            .zip(rows)
+            .all(|(row, other)| is_same(row, other))
     }
 
     /// The id that the next node gets.

@@ -1,5 +1,6 @@
+pub mod ChangesLemmas
 mod DeltaExamples
 pub mod DeltaLemmas
-mod JoinedDeltas
+pub mod JoinedDeltas
 pub mod ShownChanges
 mod SideDeltas

@@ -1,2 +1,3 @@
+pub mod Changes
 pub mod Deltas
 pub mod Joining

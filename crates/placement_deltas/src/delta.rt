@@ -1,11 +1,14 @@
-ghost use Rattle.std.specs.Prelude.{◌≡◌, ◌≢◌, ℤ, ◌≤ℤ◌, int_lt, true, false, [], get_or, length, IfOk, IfSome, IsFalse, IsNone, IsTrue};
+ghost use Rattle.std.specs.Prelude.{◌≡◌, ◌≢◌, ℤ, ◌≤ℤ◌, int_lt, true, false, List, [], None, get_or, length, IfOk, IfSome, IsFalse, IsNone, IsTrue};
 ghost use Rattle.std.specs.List.Sorted.{IsPartitionPoint, IsStrictlySortedBy};
 ghost use Rattle.std.specs.Ordering.{int_cmp};
 ghost use Rattle.cluster_terms.specs.Arc.{IsToken};
 ghost use Rattle.cluster_terms.specs.Row.{last_token, rows_between};
+ghost use Rattle.placement_deltas.specs.Changes.{AreJoined, MakeDelta};
 ghost use Rattle.placement_deltas.specs.Deltas.{ChangesNothing, EndAtCuts, IsDelta, ShowsChanges, change_in, delta_at, exchanged, inverse_of, only};
+ghost use Rattle.placement_deltas.specs.Joining.{joined_from};
 ghost use Rattle.placement_deltas.specs.declared.delta_row.DeltaRow.{DeltaRow as AnyRow};
 
+use crate::changes::Changes;
 use crate::delta_row::{DeltaRow, DeltaRows};
 use crate::joining::{joined, joined_side};
 use crate::side::Side;
@@ -70,6 +73,17 @@ impl Delta {
     {
         let between = rows_between(alloc, cuts)?;
         let rows = joined(alloc, between.as_slice(), before, after)?;
+        Ok(Delta { alloc, rows })
+    }
+
+    /// The delta of changes that make one: those in rows that follow each other up to the end of the ring. Fails only
+    /// if memory runs out. Copies nothing.
+    pub fn of_changes(alloc: Global, changes: Changes) -> Result<Delta, Memory>
+        requires { MakeDelta changes }
+        ensures { IfOk result
+            (λ delta. (rows : List AnyRow) → AreJoined rows changes → delta ≡ joined_from None rows) }
+    {
+        let rows = changes.into_rows()?;
         Ok(Delta { alloc, rows })
     }
 

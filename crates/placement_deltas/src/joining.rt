@@ -8,7 +8,7 @@ use node_sets::NodeSet;
 use std::alloc::Global;
 
 /// The row up to a right end, with the nodes that are in only one of two sets.
-fn change_row(
+pub(crate) fn change_row(
     alloc: Global,
     right: RightEnd,
     before: &NodeSet,
@@ -55,7 +55,11 @@ fn same_change(row: &DeltaRow, other: &DeltaRow) -> bool
 }
 
 /// Adds the row that has begun, unless the next row has the same change.
-fn push_begun(rows: &mut DeltaRows, begun: Option<DeltaRow>, next: &DeltaRow) -> Result<(), Memory>
+pub(crate) fn push_begun(
+    rows: &mut DeltaRows,
+    begun: Option<DeltaRow>,
+    next: &DeltaRow,
+) -> Result<(), Memory>
     ensures { IfOk result (λ _. rows.new ≡ rows.old ++ spec.closed begun next.now) }
 {
     if let Some(row) = begun {
@@ -67,7 +71,7 @@ fn push_begun(rows: &mut DeltaRows, begun: Option<DeltaRow>, next: &DeltaRow) ->
 }
 
 /// Adds the row that has begun, up to the end of the ring.
-fn push_last(rows: &mut DeltaRows, begun: Option<DeltaRow>) -> Result<(), Memory>
+pub(crate) fn push_last(rows: &mut DeltaRows, begun: Option<DeltaRow>) -> Result<(), Memory>
     ensures { IfOk result (λ _. rows.new ≡ rows.old ++ spec.row_ended begun) }
 {
     if let Some(last) = begun {

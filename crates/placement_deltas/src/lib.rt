@@ -3,6 +3,7 @@
 #![tactic(auto)]
 
 pub mod book;
+pub mod changes;
 pub mod delta;
 pub mod delta_row;
 mod joining;
@@ -11,6 +12,7 @@ pub mod side;
 pub mod unchanged;
 
 pub use book::{DeltaBook, DeltaBookRow};
+pub use changes::Changes;
 pub use delta::Delta;
 pub use delta_row::{DeltaRow, DeltaRows};
 pub use plan::Plan;

@@ -10,7 +10,7 @@ ghost use Rattle.cluster_terms.specs.Pair.{tokens_of};
 use crate::change::Change;
 use crate::groups::windows_in_groups;
 use crate::rows::{cuts_of, reached_rows};
-use cluster_terms::{Memory, Pair, Replication};
+use cluster_terms::{Memory, Pair, Replication, rows_between};
 use node_directory::Directory;
 use std::alloc::Global;
 use token_ring::{RangeList, Ring};
@@ -54,6 +54,7 @@ pub fn reached(
     };
     let groups = windows_in_groups(alloc, &change, dir, replication)?;
     let cuts = cuts_of(alloc, &groups)?;
-    let rows = reached_rows(alloc, &groups, cuts.as_slice())?;
-    RangeList::from_rows(alloc, cuts.as_slice(), &rows)
+    let rows = rows_between(alloc, cuts.as_slice())?;
+    let chosen = reached_rows(alloc, &groups, rows.as_slice())?;
+    RangeList::of_rows(alloc, rows.as_slice(), &chosen)
 }

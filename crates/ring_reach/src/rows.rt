@@ -1,13 +1,12 @@
 ghost use Rattle.std.specs.Prelude.{◌≡◌, ◌++◌, map, IfOk, OnOk};
-ghost use Rattle.std.specs.List.{AllByRecursion, flat_map};
-ghost use Rattle.cluster_terms.specs.Arc.{IsToken};
+ghost use Rattle.std.specs.List.{flat_map};
 ghost use Rattle.cluster_terms.specs.Row as spec;
 ghost use Rattle.ring_reach.specs.Moved.{HaveSameTokens};
 ghost use Rattle.ring_reach.specs.Windows.{any_have, window_bounds};
 
 use crate::token_set::TokenSet;
 use crate::windows::{Window, Windows};
-use cluster_terms::{Memory, Token, rows_between};
+use cluster_terms::{Memory, Token, TokenRange};
 use std::alloc::Global;
 
 /// Adds the tokens at which windows begin and end.
@@ -39,15 +38,17 @@ fn is_reached(groups: &[Windows], t: Token) -> bool
     groups.iter().any(|windows| windows.has(t))
 }
 
-/// For each row between ascending cuts, whether the windows of any group have its last token.
-pub fn reached_rows(alloc: Global, groups: &[Windows], cuts: &[Token]) -> Result<Vec<bool>, Memory>
-    ensures tokens { OnOk result (AllByRecursion IsToken cuts.now) }
-    ensures rows { IfOk result (λ reached. reached.items ≡ map
-        (λ row. any_have groups.now (spec.last_token row.right)) (spec.rows_between cuts.now)) }
+/// For each row, whether the windows of any group have its last token.
+pub fn reached_rows(
+    alloc: Global,
+    groups: &[Windows],
+    rows: &[TokenRange],
+) -> Result<Vec<bool>, Memory>
+    ensures { IfOk result (λ reached. reached.items ≡ map
+        (λ row. any_have groups.now (spec.last_token row.right)) rows.now) }
 {
-    let rows = rows_between(alloc, cuts)?;
-    let mut reached = Vec::with_capacity(alloc, rows.as_slice().len())?;
-    for row in rows.as_slice() {
+    let mut reached = Vec::with_capacity(alloc, rows.len())?;
+    for row in rows {
         reached.push(is_reached(groups, row.last_token()))?;
     }
     Ok(reached)

@@ -1,6 +1,6 @@
 -- A new movement that takes no pair out leaves the ranges of the others as they are, if the shapes of the groups are
 -- settled.
-use Rattle.std.proofs.Common.{◌≡◌, ℕ, Bool, true, false, not, ◌&&◌, ◌||◌, ◌==◌, ℤ, List, [], ◌∷◌, ◌++◌, map, is_some, refl, sym, ap, ◌∙◌, subst, if◌then◌else◌, arith}
+use Rattle.std.proofs.Common.{◌≡◌, suc, ℕ, Bool, true, false, not, ◌&&◌, ◌||◌, ◌==◌, ℤ, List, [], ◌∷◌, ◌++◌, length, map, is_some, refl, sym, ap, ◌∙◌, subst, if◌then◌else◌, arith}
 use Rattle.std.proofs.lemmas.Bool.{false≢true}
 use Rattle.std.proofs.lemmas.Bool.Decides.{nat_tests}
 use Rattle.std.proofs.lemmas.List.Folds.{list_any-append}
@@ -68,6 +68,21 @@ module _ (fixed wide narrow : List Pair) (between : IsBetween fixed wide narrow)
       both : (p q : Bool) → (not p || q) ≡ false → (p ≡ true) × (q ≡ false)
       both true q h = (refl, h)
       both false q h = absurd (false≢true (sym h))
+
+-- ---- a new movement beside none
+
+-- without locks there is no other movement
+pub no_locks : (image : Image) (s : SeqRow) (locks : List LockRow) → IsNew image s → (length locks == 0) ≡ true → AreLocksOf image image.sequences locks
+    → AreLocks (with_movement image s) (others (with_movement image s).sequences s.node) []
+no_locks image s [] new none are = subst (λ rows. AreLocks (with_movement image s) rows []) (sym (others_put s image.sequences new)) (none_left image.sequences are)
+  where
+    none_left : (sequences : List SeqRow) → AreLocksOf image sequences [] → AreLocks (with_movement image s) sequences []
+    none_left [] are = tt
+    none_left (q ∷ sequences) are = absurd are
+no_locks image s (row ∷ locks) new none are = absurd (some_left (length locks) none)
+  where
+    some_left : (n : ℕ) → (suc n == 0) ≡ true → ⊥
+    some_left n h = grind (arith, nat_tests)
 
 -- ---- a new movement that takes no pair out
 

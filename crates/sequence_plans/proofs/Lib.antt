@@ -8,4 +8,5 @@ pub mod NearRows
 pub mod PersistLemmas
 pub mod PlacerLemmas
 pub mod ReplicationsLemmas
+pub mod RowChanges
 pub mod RowDeltas

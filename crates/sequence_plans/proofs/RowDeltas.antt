@@ -1,5 +1,6 @@
 -- What the deltas of a movement show under one replication.
-use Rattle.std.proofs.Common.{◌≡◌, ℕ, Bool, true, false, if◌then◌else◌, ℤ, List, [], map, refl, sym, ap, ◌∙◌}
+use Rattle.std.proofs.Common.{◌≡◌, ℕ, Bool, true, false, if◌then◌else◌, ℤ, List, [], ◌∷◌, None, map, refl, sym, ap, ◌∙◌, subst}
+use Rattle.std.proofs.lemmas.List.{length-map}
 use Rattle.std.proofs.lemmas.List.Elements.{All-contains, All-from_recursion}
 use Rattle.std.specs.List.{AllByRecursion, Contains}
 use Rattle.std.specs.List.Sorted.{IsStrictlySortedBy}
@@ -10,8 +11,10 @@ use Rattle.cluster_terms.specs.Row.{is_within, last_token, rows_between}
 use Rattle.cluster_terms.specs.declared.replication.Replication.{Replication}
 use Rattle.cluster_terms.specs.declared.row.TokenRange.{TokenRange}
 use Rattle.node_sets.specs.NodeSets.{without}
-use Rattle.placement_deltas.proofs.ShownChanges.{StandInRows, shown_at}
-use Rattle.placement_deltas.specs.Deltas.{ShowsChanges}
+use Rattle.placement_deltas.proofs.JoinedDeltas.{between_is, between_shows}
+use Rattle.placement_deltas.proofs.ShownChanges.{StandInRows, at_ends, shown_at}
+use Rattle.placement_deltas.specs.Deltas.{IsDelta, ShowsChanges}
+use Rattle.placement_deltas.specs.Joining.{change_rows, joined_from}
 use Rattle.placement_deltas.specs.declared.delta_row.DeltaRow.{DeltaRow}
 use Rattle.token_ring.specs.Ranges.{AreCutOut, HaveTokens, IsRangeList, have_token}
 use Rattle.transformations.proofs.deltas.DeltaRows.{IsWithPart, before-between, with-between, with_parts}
@@ -32,9 +35,8 @@ use Rattle.sequence_plans.specs.LowNodes.{nodes_by}
 use Rattle.sequence_plans.specs.MovementPlacers.{PlacesMovement}
 use Rattle.sequence_plans.specs.NearCuts.{near_cuts}
 use Rattle.sequence_plans.specs.Placers.{placed_by}
-use Rattle.sequence_plans.specs.RowSets.{AreRowSets}
+use Rattle.sequence_plans.specs.RowChanges.{change_at}
 use Rattle.sequence_plans.specs.declared.movement_rings.MovementPlacers.{MovementPlacers}
-use Rattle.sequence_plans.specs.declared.row_sets.RowSets.{RowSets}
 
 -- nodes at the tokens of ranges, and none elsewhere
 abbrev inside : List TokenRange → (ℤ → List ℕ) → ℤ → List ℕ
@@ -99,9 +101,27 @@ module _ (image : Image) (s : SeqRow) (r : Replication) (h : IsSound image) (the
 
   -- ---- so the delta is exact
 
-  module _ (rows : List TokenRange) (rows_is : rows ≡ rows_between near) (sets : RowSets) (are : AreRowSets ranges (nodes_by placers.before) (placed_by placers.after) rows sets) (delta : List DeltaRow) where
-    pub swap_found : ShowsChanges (rows_between near) sets.before.items sets.after.items delta → IsExact (gained_by image s r) (lost_by image s r) delta
-    swap_found shows x token =
-        shown_at near sets.before.items sets.after.items delta before after up tokens shows
-        (are.before ∙ ap (map (λ row. before (last_token row.right))) rows_is) (are.after ∙ ap (map (λ row. after (last_token row.right))) rows_is) before_stands after_stands x token
+  abbrev change : TokenRange → DeltaRow
+  change = change_at ranges (nodes_by placers.before) (placed_by placers.after)
+
+  changes_are : (rows : List TokenRange) → map change rows ≡ change_rows rows (at_ends before rows) (at_ends after rows)
+  changes_are [] = refl
+  changes_are (row ∷ rows) = ap (λ more. change row ∷ more) (changes_are rows)
+
+  module _ (rows : List TokenRange) (rows_is : rows ≡ rows_between near) where
+    joined_is : joined_from None (map change rows) ≡ joined_from None (change_rows (rows_between near) (at_ends before (rows_between near)) (at_ends after (rows_between near)))
+    joined_is = ap (joined_from None) (ap (map change) rows_is ∙ changes_are (rows_between near))
+
+    pub swap_is : IsDelta (joined_from None (map change rows))
+    swap_is =
+        subst IsDelta (sym joined_is)
+        (between_is near (at_ends before (rows_between near)) (at_ends after (rows_between near)) up tokens (length-map (rows_between near) _) (length-map (rows_between near) _))
+
+    pub swap_found : (delta : List DeltaRow) → delta ≡ joined_from None (map change rows) → IsExact (gained_by image s r) (lost_by image s r) delta
+    swap_found delta delta_is x token =
+        let one = at_ends before (rows_between near) in
+        let other = at_ends after (rows_between near) in
+        let shows : ShowsChanges (rows_between near) one other delta =
+        subst (ShowsChanges (rows_between near) one other) (sym (delta_is ∙ joined_is)) (between_shows near one other up tokens (length-map (rows_between near) _) (length-map (rows_between near) _)) in
+        shown_at near one other delta before after up tokens shows refl refl before_stands after_stands x token
         ∙ (λ i. (gained_is x token i, lost_is x token i))

@@ -10,4 +10,4 @@ pub mod NearCuts
 pub mod Placers
 pub mod Plan
 pub mod Replications
-pub mod RowSets
+pub mod RowChanges

@@ -6,6 +6,7 @@ ghost use Rattle.transformations.specs.Refusals.{with_movement};
 ghost use Rattle.transformations.specs.Rings as spec;
 ghost use Rattle.transformations.specs.Steps.{others};
 ghost use Rattle.transformations.specs.Valid.{IsSound};
+ghost use Rattle.transformations.specs.declared.sequence.SeqRow.{SeqRow as AnyRow};
 ghost use Rattle.sequence_plans.specs.Basis.{IsBasis, MovesWithin};
 ghost use Rattle.sequence_plans.specs.Deltas.{AreStepDeltas};
 ghost use Rattle.sequence_plans.specs.KeptLocks.{IsNew, IsSettled};
@@ -18,7 +19,7 @@ use crate::deltas::DeltaBooks;
 use crate::kept_locks::{copied, rows_cut_out};
 use crate::replications::{Replications, replications_of};
 use crate::wide_image::WideImage;
-use cluster_terms::{Memory, NodeId, PairList, Replication, Steps, Token, TryCopy};
+use cluster_terms::{Memory, NodeId, Pair, PairList, Replication, Steps, Token, TryCopy};
 use node_directory::Directory;
 use range_placements::MapRow;
 use ring_reach::{any_shape_differs, reached};
@@ -77,23 +78,38 @@ impl<'a> Basis<'a> {
         })
     }
 
-    /// The ranges of a movement under a replication.
-    fn ranges_of(&self, row: &SeqRow, replication: &Replication) -> Result<RangeList, Memory>
+    /// The ranges of the movement of these pairs under a replication.
+    fn ranges_of(&self, moved: &[Pair], replication: &Replication) -> Result<RangeList, Memory>
         requires basis { IsBasis self.now }
-        requires within { MovesWithin self.now.image.now row.now }
-        ensures ranges { IfOk result
-            (HaveTokens (in_ranges self.now.image.now replication.now row.now)) }
-        ensures bounds { IfOk result (λ ranges. AreCutOut (spec.cuts self.now.image.now) ranges) }
+        ensures ranges { IfOk result (λ ranges. (s : AnyRow) → moved.now ≡ moved_by s
+            → HaveTokens (in_ranges self.now.image.now replication.now s) ranges) }
+        ensures bounds { IfOk result (λ ranges. (s : AnyRow) → moved.now ≡ moved_by s
+            → MovesWithin self.now.image.now s → AreCutOut (spec.cuts self.now.image.now) ranges) }
     {
-        let moved = moved_by(row)?;
         reached(
             self.alloc,
             &self.fixed,
             self.widest.as_slice(),
             self.directory,
-            moved.as_slice(),
+            moved,
             replication,
         )
+    }
+
+    /// The ranges of the movement of these pairs under each replication of the keyspaces.
+    fn book_of_pairs(&self, moved: &[Pair]) -> Result<RangeBook, Memory>
+        requires basis { IsBasis self.now }
+        ensures { IfOk result (λ book. (s : AnyRow) → moved.now ≡ moved_by s
+            → MovesWithin self.now.image.now s → IsBook self.now.image.now s book) }
+    {
+        let mut book = RangeBook::with_room(self.alloc, self.replications.as_slice().len())?;
+        for replication in self.replications.as_slice() {
+            book.push(RangeRow {
+                replication: replication.copy()?,
+                ranges: self.ranges_of(moved, replication)?,
+            })?;
+        }
+        Ok(book)
     }
 
     /// The ranges of a movement under each replication of the keyspaces. Fails only if memory runs out.
@@ -102,14 +118,11 @@ impl<'a> Basis<'a> {
         requires within { MovesWithin self.now.image.now row.now }
         ensures { IfOk result (IsBook self.now.image.now row.now) }
     {
-        let mut book = RangeBook::with_room(self.alloc, self.replications.as_slice().len())?;
-        for replication in self.replications.as_slice() {
-            book.push(RangeRow {
-                replication: replication.copy()?,
-                ranges: self.ranges_of(row, replication)?,
-            })?;
+        if takes_none_out(row) {
+            return self.book_of_pairs(row.in_pairs.as_slice());
         }
-        Ok(book)
+        let moved = moved_by(row)?;
+        self.book_of_pairs(moved.as_slice())
     }
 
     /// Whether no group's shape differs between the fixed ring and the widest set of pairs, under any replication.
@@ -133,7 +146,8 @@ impl<'a> Basis<'a> {
     /// `None` if the new movement may change them: if it takes pairs out of the ring, or if the shape of a group isn't
     /// settled. Fails only if memory runs out.
     ///
-    /// Costs a comparison of the shapes, two binary searches in the cuts for each range, and the copy.
+    /// Costs a comparison of the shapes, two binary searches in the cuts for each range, and the copy. Without other
+    /// movements it costs nothing.
     pub fn locks_kept(
         &self,
         image: &Image,
@@ -149,6 +163,9 @@ impl<'a> Basis<'a> {
         ensures { IfOk result (λ kept. IfSome kept
             (AreLocks self.now.image.now (others self.now.image.now.sequences row.now.node))) }
     {
+        if locks.is_empty() {
+            return Ok(Some(LockRows::empty(self.alloc)));
+        }
         if takes_none_out(row) && self.is_settled() && rows_cut_out(cuts, locks) {
             return Ok(Some(copied(self.alloc, locks)?));
         }

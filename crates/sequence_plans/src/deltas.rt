@@ -16,7 +16,7 @@ ghost use Rattle.sequence_plans.specs.Replications.{replications_of};
 
 use crate::movement_rings::{MovementPlacers, MovementRings};
 use crate::near_cuts::near_cuts;
-use crate::row_sets::RowSets;
+use crate::row_changes::changes_of;
 use crate::wide_image::WideImage;
 use cluster_terms::{Memory, Replication, Steps, Token, TryCopy, rows_between};
 use node_directory::Directory;
@@ -67,8 +67,8 @@ fn deltas_under<L: Ledger>(
     ensures { IfOk result (AreExact image.now row.now replication.now) }
 {
     let rows = rows_between(alloc, near)?;
-    let sets = RowSets::of_rows(alloc, placers, ranges, rows.as_slice(), walks)?;
-    let swap = Delta::between(alloc, near, &sets.before, &sets.after)?;
+    let changes = changes_of(alloc, placers, ranges, rows.as_slice(), walks)?;
+    let swap = Delta::of_changes(alloc, changes)?;
     Ok(Deltas {
         gain: swap.only(Side::Gained)?,
         lose: swap.only(Side::Lost)?,

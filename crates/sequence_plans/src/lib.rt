@@ -10,7 +10,7 @@ mod near_cuts;
 pub mod placer;
 mod planning;
 mod replications;
-mod row_sets;
+mod row_changes;
 mod wide_image;
 
 pub use placer::Placer;

@@ -3,6 +3,7 @@
 mod draw;
 mod generation;
 mod kinds;
+mod line_texts;
 mod opening;
 mod rounds;
 mod summary;

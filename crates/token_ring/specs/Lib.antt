@@ -2,3 +2,4 @@ pub mod Bounds
 pub mod Joining
 pub mod Ranges
 pub mod Ring
+pub mod Rows

@@ -7,6 +7,7 @@ ghost use Rattle.cluster_terms.specs.Row as spec;
 ghost use Rattle.cluster_terms.specs.declared.row.TokenRange.{TokenRange as AnyRange};
 ghost use Rattle.token_ring.specs.Bounds.{bounds_of};
 ghost use Rattle.token_ring.specs.Ranges.{have_token, either_has, HaveTokens, ends_before, IsRange, IsRangeList, AreCutOut, have_chosen};
+ghost use Rattle.token_ring.specs.Rows.{AreBetweenCuts};
 
 use crate::bounds::bounds_of_both;
 use crate::joining::joined;
@@ -104,6 +105,19 @@ impl RangeList {
     {
         let rows = rows_between(alloc, cuts)?;
         let ranges = joined(alloc, rows.as_slice(), chosen)?;
+        Ok(RangeList { ranges })
+    }
+
+    /// The ranges that `from_rows` makes, for a caller that has the rows between the cuts. The cost is one pass over the
+    /// rows.
+    pub fn of_rows(alloc: Global, rows: &[TokenRange], chosen: &[bool]) -> Result<RangeList, Memory>
+        requires rows { AreBetweenCuts rows.now }
+        requires one { length chosen.now ≡ length rows.now }
+        ensures ranges { IfOk result (HaveTokens (have_chosen rows.now chosen.now)) }
+        ensures bounds { IfOk result
+            (λ ranges. (cuts : List ℤ) → rows.now ≡ spec.rows_between cuts → AreCutOut cuts ranges) }
+    {
+        let ranges = joined(alloc, rows, chosen)?;
         Ok(RangeList { ranges })
     }
 

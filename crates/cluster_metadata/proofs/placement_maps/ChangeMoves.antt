@@ -1,5 +1,5 @@
 -- How the change of an accepted command moves the placements and the cuts.
-use Rattle.std.proofs.Common.{◌≡◌, ℕ, ℤ, true, not, List, [], ◌∷◌, None, Some, Option, refl, sym, ap, ◌∙◌, subst}
+use Rattle.std.proofs.Common.{◌≡◌, ℕ, ℤ, true, not, if◌then◌else◌, List, [], ◌∷◌, None, Some, Option, refl, sym, ap, ◌∙◌, subst}
 use Rattle.std.specs.List.{AllByRecursion, slice_get}
 use Rattle.std.specs.Ordering.{int_cmp}
 use Rattle.cluster_terms.specs.Arc.{IsToken}
@@ -19,7 +19,7 @@ use Rattle.transformations.specs.History.{is_command, next_image}
 use Rattle.transformations.specs.Meeting.{makes_movement_epoch}
 use Rattle.transformations.specs.Refusals.{prepared_by, refusal_of}
 use Rattle.transformations.specs.Rings.{cuts}
-use Rattle.transformations.specs.Steps.{movement_of}
+use Rattle.transformations.specs.Steps.{movement_of, same_phase}
 use Rattle.transformations.specs.Valid.{IsValid}
 use Rattle.transformations.specs.declared.command.Command.{Command}
 use Rattle.transformations.specs.declared.command.Command.TheVariants.{Register, Unregister, PrepareJoin, PrepareMove, PrepareLeave, PrepareReplace, Step, Cancel}
@@ -30,8 +30,9 @@ use Rattle.transformations.specs.declared.sequence.Goal.TheVariants as goal
 use Rattle.transformations.specs.declared.sequence.Kind.{Kind}
 use Rattle.transformations.specs.declared.sequence.Phase.TheVariants as phase
 use Rattle.transformations.specs.declared.sequence.SeqRow.{SeqRow}
+use Rattle.cluster_metadata.proofs.MovementPlaces.{known_of, some_there}
 use Rattle.cluster_metadata.proofs.placement_maps.KeptCuts.{finish_keeps}
-use Rattle.cluster_metadata.specs.Change.{Follows, IsChange, Suits, changed, in_phase}
+use Rattle.cluster_metadata.specs.Change.{Follows, IsChange, Suits, changed}
 use Rattle.cluster_metadata.specs.MapSteps.{MapSteps, MovesBy, deltas_of, no_deltas}
 use Rattle.cluster_metadata.specs.declared.change.Change.{Change}
 use Rattle.cluster_metadata.specs.declared.change.Change.TheVariants.{Unchanged, Registered, Unregistered, Tokens, Keyspaces, Begun, Started, Mid, Finished, Ended, BroughtBack}
@@ -79,37 +80,39 @@ map_steps image c change valid formed accepted makes = by c change makes.suits f
     by (Unregister n) (Unregistered m) suits formed accepted made follows =
         let after : Image = changed image (Unregistered m) in
         (moves_by image after (Unregister n) valid formed accepted made refl no_deltas (λ r x. refl) refl, cuts_by image after (Unregister n) valid formed accepted made refl)
-    by (Step goal.Start kind n) (Started at row) suits formed accepted made follows =
-        let after : Image = changed image (Started at row) in
+    by (Step goal.Start kind n) (Started at) suits formed accepted made follows =
+        let after : Image = changed image (Started at) in
         let c : Command = Step goal.Start kind n in
         record {
           moves = λ s here. moves_by image after c valid formed accepted made refl (deltas_of (step_delta goal.Start) image s) (step_moves image n at suits goal.Start kind s here) refl;
           cuts = cuts_by image after c valid formed accepted made refl;
         }
-    by (Step goal.Mid kind n) (Mid at row) suits formed accepted made follows =
-        let after : Image = changed image (Mid at row) in
+    by (Step goal.Mid kind n) (Mid at) suits formed accepted made follows =
+        let after : Image = changed image (Mid at) in
         let c : Command = Step goal.Mid kind n in
         record {
           moves = λ s here. moves_by image after c valid formed accepted made refl (deltas_of (step_delta goal.Mid) image s) (step_moves image n at suits goal.Mid kind s here) refl;
           cuts = cuts_by image after c valid formed accepted made refl;
         }
-    by (Cancel n) (BroughtBack at row) suits formed accepted made follows =
-        let after : Image = changed image (BroughtBack at row) in
-        let found : movement_of image n ≡ Some (in_phase phase.Mid row) = sym suits ∙ follows.0 in
-        let half : (s : SeqRow) → slice_get image.sequences at ≡ Some s → s.phase ≡ phase.Mid = λ s here. (let same : s ≡ in_phase phase.Mid row = cc (here, follows.0) in ap (λ (q : SeqRow). q.phase) same) in
+    by (Cancel n) (BroughtBack at) suits formed accepted made follows =
+        let after : Image = changed image (BroughtBack at) in
+        let half : (s : SeqRow) → slice_get image.sequences at ≡ Some s → s.phase ≡ phase.Mid = λ s. known_of (λ s. s.phase) phase.Mid (slice_get image.sequences at) s follows in
         record {
           moves = λ s here.
               moves_by image after (Cancel n) valid formed accepted made refl (deltas_of (cancel_delta phase.Mid) image s)
               (λ r x. cancel_moves image n at suits s here r x ∙ ap (λ p. deltas_of (cancel_delta p) image s r x) (half s here)) refl;
-          cuts = subst (λ (o : Option SeqRow). CutsChange image after None (unless_mid o)) found (cuts_by image after (Cancel n) valid formed accepted made refl);
+          cuts = some_there (λ s. s.phase) phase.Mid (slice_get image.sequences at) follows (cuts after ≡ cuts image)
+              (λ s here.
+              subst (λ p. CutsChange image after None (if same_phase p phase.Mid then None else Some s)) (half s here)
+              (subst (λ (o : Option SeqRow). CutsChange image after None (unless_mid o)) (sym suits ∙ here) (cuts_by image after (Cancel n) valid formed accepted made refl)));
         }
-    by (Step goal.Finish kind n) (Finished at left tokens rows) suits formed accepted made follows =
-        let after : Image = changed image (Finished at left tokens rows) in (
+    by (Step goal.Finish kind n) (Finished at left tokens) suits formed accepted made follows =
+        let after : Image = changed image (Finished at left tokens) in (
           λ s here. moves_by image after (Step goal.Finish kind n) valid formed accepted made refl (deltas_of (step_delta goal.Finish) image s) (step_moves image n at suits goal.Finish kind s here) refl,
           λ s here none. finish_keeps image after kind n s valid.sound made (sym suits ∙ here) none,
         )
-    by (Cancel n) (Ended at rows) suits formed accepted made follows =
-        λ s here. moves_by image (changed image (Ended at rows)) (Cancel n) valid formed accepted made refl (deltas_of (cancel_delta s.phase) image s) (cancel_moves image n at suits s here) refl
+    by (Cancel n) (Ended at) suits formed accepted made follows =
+        λ s here. moves_by image (changed image (Ended at)) (Cancel n) valid formed accepted made refl (deltas_of (cancel_delta s.phase) image s) (cancel_moves image n at suits s here) refl
     by c (Begun at plan rows) suits formed accepted made follows = begun c suits formed accepted made
       where
         after : Image

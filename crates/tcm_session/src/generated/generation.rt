@@ -5,6 +5,7 @@ ghost use Rattle.tcm_session.specs.Generated as spec;
 ghost use Rattle.tcm_session.specs.GeneratedLines as lines;
 
 use super::kinds::{AnswerKind, kind_of};
+use super::line_texts::{LineTexts, clear};
 use super::texts::{node_line, register_line, token_line};
 use crate::session::Session;
 use cluster_terms::{ByteText, Memory, SmallList, Token};
@@ -12,20 +13,10 @@ use script_lang::labelled;
 use std::alloc::Global;
 use tcm_edges::SureStore;
 
-/// The bytes for which the text of a line or of an answer has room at once. Most have fewer.
-const TEXT_ROOM: usize = 64;
-
 /// The session after some lines, and the kinds of the answers to them. The value must be consumed, by `close`.
 pub struct Generation {
     pub session: Session,
     pub kinds: SmallList<AnswerKind>,
-}
-
-/// The empty text, with room for a line or an answer. Fails only if memory runs out.
-fn text_in_room(alloc: Global) -> Result<ByteText, Memory>
-    ensures { IfOk result (λ text. text ≡ []) }
-{
-    ByteText::with_room(alloc, TEXT_ROOM)
 }
 
 impl Generation {
@@ -56,22 +47,30 @@ impl Generation {
         }
     }
 
-    /// Answers a line. Without the name of a file a step fails only if memory runs out, and uses no store.
-    pub fn answer(&mut self, alloc: Global, line: &[u8]) -> Result<(), Memory>
+    /// Answers a line. Without the name of a file a step fails only if memory runs out, and uses no store. The text of
+    /// the answer is put into `text`.
+    pub fn answer(&mut self, alloc: Global, line: &[u8], text: &mut ByteText) -> Result<(), Memory>
         ensures { OnOk result (self.new ≡ spec.after_line self.old line.now) }
     {
         let mut store = SureStore::new(alloc);
-        let mut text = text_in_room(alloc)?;
-        match self.session.step(line, None, &mut store, &mut text) {
+        clear(alloc, text);
+        match self.session.step(line, None, &mut store, text) {
             Ok(()) => self.note(kind_of(text.as_slice())),
             Err(_fault) => Err(Memory),
         }
     }
 
+    /// Answers the line of these texts.
+    fn answer_text(&mut self, texts: &mut LineTexts) -> Result<(), Memory>
+        ensures { OnOk result (self.new ≡ spec.after_line self.old texts.old.line) }
+    {
+        self.answer(texts.alloc, texts.line.as_slice(), &mut texts.answer)
+    }
+
     /// Commits the register of a node, named by a letter and a number.
     pub fn register(
         &mut self,
-        alloc: Global,
+        texts: &mut LineTexts,
         id: u64,
         letter: &[u8],
         number: u64,
@@ -81,15 +80,15 @@ impl Generation {
         ensures { OnOk result (self.new ≡ spec.after_line self.old
             (lines.commit_line id (lines.register_words letter.now number dc rack))) }
     {
-        let mut line = text_in_room(alloc)?;
-        register_line(id, letter, number, dc, rack, &mut line)?;
-        self.answer(alloc, line.as_slice())
+        texts.begin_line();
+        register_line(id, letter, number, dc, rack, &mut texts.line)?;
+        self.answer_text(texts)
     }
 
     /// Commits a word on a node and a token.
     pub fn commit_token(
         &mut self,
-        alloc: Global,
+        texts: &mut LineTexts,
         id: u64,
         word: &[u8],
         node: u64,
@@ -98,15 +97,15 @@ impl Generation {
         ensures { OnOk result (self.new ≡ spec.after_line self.old
             (lines.commit_line id (lines.with_token word.now node token))) }
     {
-        let mut line = text_in_room(alloc)?;
-        token_line(id, word, node, token, &mut line)?;
-        self.answer(alloc, line.as_slice())
+        texts.begin_line();
+        token_line(id, word, node, token, &mut texts.line)?;
+        self.answer_text(texts)
     }
 
     /// Commits a word on a node.
     pub fn commit_node(
         &mut self,
-        alloc: Global,
+        texts: &mut LineTexts,
         id: u64,
         word: &[u8],
         node: u64,
@@ -114,27 +113,32 @@ impl Generation {
         ensures { OnOk result (self.new ≡ spec.after_line self.old
             (lines.commit_line id (lines.on_node word.now node))) }
     {
-        let mut line = text_in_room(alloc)?;
-        node_line(id, word, node, &mut line)?;
-        self.answer(alloc, line.as_slice())
+        texts.begin_line();
+        node_line(id, word, node, &mut texts.line)?;
+        self.answer_text(texts)
     }
 
     /// Hands the entry of an epoch to follower f.
-    fn deliver(&mut self, alloc: Global, epoch: u64) -> Result<(), Memory>
+    fn deliver(&mut self, texts: &mut LineTexts, epoch: u64) -> Result<(), Memory>
         ensures { OnOk result (self.new ≡ spec.after_line self.old (lines.deliver_line epoch)) }
     {
-        let mut line = text_in_room(alloc)?;
-        labelled(b"deliver f ", &epoch, &mut line)?;
-        self.answer(alloc, line.as_slice())
+        texts.begin_line();
+        labelled(b"deliver f ", &epoch, &mut texts.line)?;
+        self.answer_text(texts)
     }
 
     /// Hands the entries of the epochs after `after` to follower f, from that of epoch `last` down.
-    pub fn deliver_down(&mut self, alloc: Global, after: u64, last: u64) -> Result<(), Memory>
+    pub fn deliver_down(
+        &mut self,
+        texts: &mut LineTexts,
+        after: u64,
+        last: u64,
+    ) -> Result<(), Memory>
         ensures { OnOk result (self.new ≡ spec.after_lines self.old (lines.delivers after (last - after))) }
     {
         let mut epoch = last;
         while epoch > after {
-            self.deliver(alloc, epoch)?;
+            self.deliver(texts, epoch)?;
             epoch -= 1;
         }
         Ok(())

@@ -7,6 +7,7 @@ ghost use Rattle.tcm_session.specs.Generated as spec;
 use super::draw::DRAW_LIMIT;
 use super::generation::Generation;
 use super::kinds::{AnswerKind, accepted_count, refused_count};
+use super::line_texts::LineTexts;
 use super::opening::open;
 use super::rounds::run_rounds;
 use cluster_terms::{ByteText, Memory};
@@ -81,7 +82,7 @@ fn head_text(start: u64, rounds: u64, out: &mut ByteText) -> Result<(), Memory>
 /// Answers the lines of the generated script.
 fn run_script(
     generation: &mut Generation,
-    alloc: Global,
+    texts: &mut LineTexts,
     start: u64,
     rounds: u64,
 ) -> Result<(), Memory>
@@ -89,8 +90,8 @@ fn run_script(
     requires rounds { rounds ≤ 3000 }
     ensures { OnOk result (generation.new ≡ spec.generation_of start rounds) }
 {
-    open(generation, alloc)?;
-    run_rounds(generation, alloc, start % DRAW_LIMIT, rounds)
+    open(generation, texts)?;
+    run_rounds(generation, texts, start % DRAW_LIMIT, rounds)
 }
 
 /// Answers the lines of the generated script, and returns the summary.
@@ -105,7 +106,8 @@ fn summary_of(
     requires rounds { rounds ≤ 3000 }
     ensures { IfOk result (λ text. text ≡ spec.summary start rounds) }
 {
-    run_script(generation, alloc, start, rounds)?;
+    let mut texts = LineTexts::with_room(alloc)?;
+    run_script(generation, &mut texts, start, rounds)?;
     let mut text = ByteText::empty(alloc);
     head_text(start, rounds, &mut text)?;
     counts_text(generation, &mut text)?;

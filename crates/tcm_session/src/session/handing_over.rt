@@ -1,8 +1,9 @@
 //! An entry of the log is handed to a follower of the log.
 
-ghost use Rattle.std.specs.Prelude.{◌≡◌, ◌≤◌, IsTrue};
+ghost use Rattle.std.specs.Prelude.{◌≡◌, ◌≤◌, true, length, Ok, IsFalse, IsTrue};
 ghost use Rattle.std.specs.List.{Contains};
-ghost use Rattle.follower_log.specs.Follower.{Performs, hand_entry};
+ghost use Rattle.follower_log.specs.Follower.{Performs, hand_entry, lacks_only};
+ghost use Rattle.follower_log.specs.declared.took.Took.TheVariants as Took;
 ghost use Rattle.follower_log.specs.Prefix.{StandsAfter, StandsFor, Taken, with_entry};
 ghost use Rattle.transformations.specs.History.{empty_image, image_after, is_command, most_epochs};
 ghost use Rattle.transformations.specs.Log.{IsLog, commands_of};
@@ -26,6 +27,35 @@ fn copies_sooner(image: &Image, entries: usize) -> bool {
     rows / ROWS_PER_ENTRY <= entries
 }
 
+/// Whether a follower lacks an entry of a log alone, and it is less work to copy the metadata after the last entry than
+/// to apply this entry and those that wait.
+fn may_end(log: &Log, metadata: &Metadata, follower: &Follower, entry: &Entry) -> bool
+    ensures { IsTrue result → lacks_only follower.now entry.now.epoch (length log.now) ≡ true }
+{
+    follower.lacks_only(entry.epoch, log.last_epoch())
+        && copies_sooner(metadata.as_image(), follower.waiting())
+}
+
+/// Brings a follower that lacks an entry of a log alone to the last epoch, where it takes over the metadata, if that is
+/// less work than to apply the entries, no movement is in flight, and there is memory for it. Returns whether it did;
+/// otherwise the follower stays as it is.
+fn ends_with(log: &Log, metadata: &Metadata, follower: &mut Follower, entry: &Entry) -> bool
+    requires log { IsLog log.now }
+    requires last { metadata.now ≡ image_after empty_image (commands_of log.now) }
+    requires among { Contains log.now entry.now }
+    ensures unchanged { IsFalse result → follower.new ≡ follower.old }
+    ensures step { IsTrue result → (taken : Taken) → StandsFor log.now taken follower.old
+        → Performs follower.old (hand_entry follower.old entry.now) (Ok (Took.At metadata.now.epoch)) follower.new }
+{
+    if !may_end(log, metadata, follower, entry) {
+        return false;
+    }
+    match follower.end_at(metadata) {
+        Ok(ended) => ended,
+        Err(_) => false,
+    }
+}
+
 /// Hands an entry of a log to a follower of this log; `metadata` is the metadata after all entries. A follower that
 /// lacks this entry alone comes to the last epoch: it takes over a copy of the metadata, if that is less work than to
 /// apply the entries, no movement is in flight, and there is memory for the copy.
@@ -45,12 +75,8 @@ pub fn hand_over(
     ensures shows { (taken : Taken) → StandsFor log.now taken follower.old
         → StandsAfter log.now taken (with_entry taken entry.now.epoch) result follower.new }
 {
-    if follower.lacks_only(entry.epoch, log.last_epoch())
-        && copies_sooner(metadata.as_image(), follower.waiting())
-    {
-        if let Ok(Some(copy)) = metadata.idle_copy() {
-            return Ok(follower.end_at(copy));
-        }
+    if ends_with(log, metadata, follower, entry) {
+        return Ok(Took::At(metadata.epoch()));
     }
     follower.deliver(entry)
 }

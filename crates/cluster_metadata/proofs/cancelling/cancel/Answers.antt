@@ -9,10 +9,10 @@ pub returns-then-is_mid : goal.returns-then-is_mid
 returns-then-is_mid c =
     let own = rw c.as_slice-sequences.ensures at c.position_of-at.ensures in
     let row = rw c.as_slice-sequences.ensures at c.index-sequences-at.is in
-    brought_back _ _ _ _ c.requires.movements own.bound row own.place _ (sym c.is_mid.ensures ∙ c.if-is_mid.true) c.in_ok-row.ensures
+    brought_back _ _ _ c.index-sequences-at.result c.requires.movements own.bound row own.place (sym c.is_mid.ensures ∙ c.if-is_mid.true)
 
 pub returns : goal.returns
 returns c =
     let own = rw c.as_slice-sequences.ensures at c.position_of-at.ensures in
     let row = rw c.as_slice-sequences.ensures at c.index-sequences-at.is in
-    ended _ _ _ _ c.requires.movements own.bound row own.place _ (sym c.is_mid.ensures ∙ c.if-is_mid.false) c.in_ok-sequences.ensures
+    ended _ _ _ c.index-sequences-at.result c.requires.movements own.bound row own.place (sym c.is_mid.ensures ∙ c.if-is_mid.false)

@@ -1,9 +1,9 @@
-use Rattle.std.proofs.Common.{◌≡◌, ℤ, List, [], length, sym, ◌∙◌, subst, rules}
+use Rattle.std.proofs.Common.{◌≡◌, ℤ, List, [], length, ap, sym, ◌∙◌, subst, rules}
 use Rattle.std.proofs.lemmas.List.{nil_from_length}
 use Rattle.std.specs.List.{AllByRecursion}
 use Rattle.cluster_terms.specs.Arc.{IsToken}
 use Rattle.cluster_terms.specs.Row.{rows_between}
-use Rattle.transformations.specs.Rings.{cuts}
+use Rattle.transformations.specs.Rings.{cuts, cuts_among}
 use Rattle.cluster_metadata.proofs.placement_maps.EditedMaps.{RecutsAll}
 use Rattle.cluster_metadata.proofs.placement_maps.ExchangedMaps.{made_from}
 use Rattle.cluster_metadata.proofs.placement_maps.TurnedMaps.{finish_maps, finish_sets}
@@ -31,7 +31,7 @@ returns c =
     let plan = c.args.plan.now in
     let maps = c.args.maps.now in
     let next = c.in_ok-next.next in
-    let own = c.requires.own in
+    let own = c.requires.own ∙ ap (cuts_among c.args.tokens.now) (sym c.in_ok-sequences.ensures) in
     let sets : RecutsAll turn.Writes (rows_between (cuts (changed image change))) maps plan.lose next =
     subst (λ (ts : List ℤ). RecutsAll turn.Writes (rows_between ts) maps plan.lose next) (sym own) c.in_ok-next.ensures.maps in
     made_from image change next maps c.requires.maps

@@ -74,11 +74,12 @@ returns-in_ok-turned_book-in-Started c =
     let change = c.args.change.now in
     let maps = c.args.maps.now in
     let s = c.in-Started in
+    let found = started_at image change s.at s.is c.requires.follows in
     let made = c.in_ok-turned_book-in-Started.field-0 in
     let movement = c.index-running-at in
     turned_to image change (Sets made) maps c.requires.maps turn.Writes made.items (λ (p : Plan). p.gain) _ _ c.plan.ensures c.in_ok-turned_book-in-Started.ensures
-    (λ turned. start_maps image maps c.args.running.now s.at movement.result _ c.requires.maps c.requires.running c.requires.deltas (started_at image change s.at s.row s.is c.requires.follows) movement.is (changed image change) made.items
-    turned (started_moves image change s.at s.row s.is c.requires.steps))
+    (λ turned. start_maps image maps c.args.running.now s.at movement.result found.row c.requires.maps c.requires.running c.requires.deltas found.here movement.is (changed image change) made.items turned
+    (started_moves image change s.at s.is c.requires.steps))
 
 pub returns-in_ok-turned_book-in-Mid : goal.returns-in_ok-turned_book-in-Mid
 returns-in_ok-turned_book-in-Mid c =
@@ -86,11 +87,12 @@ returns-in_ok-turned_book-in-Mid c =
     let change = c.args.change.now in
     let maps = c.args.maps.now in
     let s = c.in-Mid in
+    let found = mid_at image change s.at s.is c.requires.follows in
     let made = c.in_ok-turned_book-in-Mid.field-0 in
     let movement = c.index-running-at-in-Mid in
     turned_to image change (Sets made) maps c.requires.maps turn.Reads made.items (λ (p : Plan). p.swap) _ _ c.plan-in-Mid.ensures c.in_ok-turned_book-in-Mid.ensures
-    (λ turned. mid_maps image maps c.args.running.now s.at movement.result _ c.requires.maps c.requires.running c.requires.deltas (mid_at image change s.at s.row s.is c.requires.follows) movement.is (changed image change) made.items
-    turned (mid_moves image change s.at s.row s.is c.requires.steps))
+    (λ turned. mid_maps image maps c.args.running.now s.at movement.result found.row c.requires.maps c.requires.running c.requires.deltas found.here movement.is (changed image change) made.items turned
+    (mid_moves image change s.at s.is c.requires.steps))
 
 pub returns-in_ok-turned_book-in-BroughtBack : goal.returns-in_ok-turned_book-in-BroughtBack
 returns-in_ok-turned_book-in-BroughtBack c =
@@ -98,38 +100,39 @@ returns-in_ok-turned_book-in-BroughtBack c =
     let change = c.args.change.now in
     let maps = c.args.maps.now in
     let s = c.in-BroughtBack in
+    let found = back_at image change s.at s.is c.requires.follows in
     let made = c.in_ok-turned_book-in-BroughtBack.field-0 in
     let movement = c.index-running-at-in-BroughtBack in
     turned_to image change (Sets made) maps c.requires.maps turn.ReadsBack made.items (λ (p : Plan). p.swap) _ _ c.plan-in-BroughtBack.ensures c.in_ok-turned_book-in-BroughtBack.ensures
-    (λ turned. back_maps image maps c.args.running.now s.at movement.result _ c.requires.maps c.requires.running c.requires.deltas (back_at image change s.at s.row s.is c.requires.follows) movement.is (changed image change) made.items
-    turned (back_moves image change s.at s.row s.is c.requires.steps))
+    (λ turned. back_maps image maps c.args.running.now s.at movement.result found.row c.requires.maps c.requires.running c.requires.deltas found.here movement.is (changed image change) made.items turned
+    (back_moves image change s.at s.is c.requires.steps))
 
 pub maps_finished-requires-clause-stay : goal.maps_finished-requires-clause-stay
 maps_finished-requires-clause-stay c none =
     let image = c.args.image.now in
     let change = c.args.change.now in
     let s = c.in-Finished in
-    let found = finished_at image change s.at s.sequences s.left s.tokens s.is c.requires.follows in
+    let found = finished_at image change s.at s.left s.tokens s.is c.requires.follows in
     let movement = c.index-running-at-in-Finished in
     stays image c.args.maps.now c.args.running.now s.at movement.result found.row c.requires.maps c.requires.running c.requires.deltas found.here movement.is (changed image change)
-    (finished_stays image change s.at s.sequences s.left s.tokens s.is c.requires.steps) (ap (λ (p : Plan). p.row.out_pairs) (sym c.plan-plan.ensures) ∙ none)
+    (finished_stays image change s.at s.left s.tokens s.is c.requires.steps) (ap (λ (p : Plan). p.row.out_pairs) (sym c.plan-plan.ensures) ∙ none)
 
 pub maps_finished-requires-clause-moves : goal.maps_finished-requires-clause-moves
 maps_finished-requires-clause-moves c =
     let image = c.args.image.now in
     let change = c.args.change.now in
     let s = c.in-Finished in
-    let found = finished_at image change s.at s.sequences s.left s.tokens s.is c.requires.follows in
+    let found = finished_at image change s.at s.left s.tokens s.is c.requires.follows in
     let movement = c.index-running-at-in-Finished in
     subst (λ (p : Plan). MovesBy image (changed image change) (deltas_of (step_delta step.Finish) image p.row)) (sym c.plan-plan.ensures)
     (moved image c.args.maps.now c.args.running.now s.at movement.result found.row c.requires.maps c.requires.running c.requires.deltas found.here movement.is (changed image change) (λ s. step_delta step.Finish)
-    (finished_moves image change s.at s.sequences s.left s.tokens s.is c.requires.steps))
+    (finished_moves image change s.at s.left s.tokens s.is c.requires.steps))
 
 pub maps_finished-requires-clause-deltas : goal.maps_finished-requires-clause-deltas
 maps_finished-requires-clause-deltas c =
     let image = c.args.image.now in
     let s = c.in-Finished in
-    let found = finished_at image c.args.change.now s.at s.sequences s.left s.tokens s.is c.requires.follows in
+    let found = finished_at image c.args.change.now s.at s.left s.tokens s.is c.requires.follows in
     let movement = c.index-running-at-in-Finished in
     subst (HasDeltas image) (sym c.plan-plan.ensures)
     (held image c.args.maps.now c.args.running.now s.at movement.result found.row c.requires.maps c.requires.running c.requires.deltas found.here movement.is)
@@ -139,8 +142,9 @@ returns-in_ok-next-in-Ended c =
     let image = c.args.image.now in
     let change = c.args.change.now in
     let s = c.in-Ended in
-    let found = ended_at image change s.at s.sequences s.is c.requires.follows in
-    let cut : cuts (changed image change) ≡ cuts_among image.tokens s.sequences = ap (λ (ch : Change). cuts (changed image ch)) s.is in
+    let found = ended_at image change s.at s.is c.requires.follows in
+    let cut : cuts (changed image change) ≡ cuts_among image.tokens c.in_ok-sequences-in-Ended.sequences =
+    ap (λ (ch : Change). cuts (changed image ch)) s.is ∙ ap (cuts_among image.tokens) (sym c.in_ok-sequences-in-Ended.ensures) in
     let ranges = rows_between (cuts (changed image change)) in
     let maps = c.args.maps.now in
     let next = c.in_ok-next-in-Ended.next in
@@ -150,7 +154,7 @@ returns-in_ok-next-in-Ended c =
     (subst (λ (ts : List ℤ). RecutsAll c.undoing-turn.result (rows_between ts) maps c.plan-in-Ended.result.now.gain next) (sym cut) c.in_ok-next-in-Ended.ensures.maps)) in
     made_from image change next maps c.requires.maps
     (end_maps image maps c.args.running.now s.at c.index-running-at-in-Ended.result found.row c.requires.maps c.requires.running c.requires.deltas found.here c.index-running-at-in-Ended.is (changed image change) next sets found.holds
-    (subst (AllByRecursion IsToken) (sym cut) c.in_ok-next-in-Ended.ensures.tokens) (ended_moves image change s.at s.sequences s.is c.requires.steps))
+    (subst (AllByRecursion IsToken) (sym cut) c.in_ok-next-in-Ended.ensures.tokens) (ended_moves image change s.at s.is c.requires.steps))
 
 pub returns-in-Unchanged : goal.returns-in-Unchanged
 returns-in-Unchanged c = unchanged_maps c.args.image.now c.args.change.now c.in-Unchanged.is

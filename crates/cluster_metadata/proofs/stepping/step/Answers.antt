@@ -1,21 +1,21 @@
 use Rattle.cluster_metadata.proofs.StepLemmas.{done, half_way, started}
 use Rattle.cluster_metadata.proofs.stepping.step.Goals as goal
 
-pub returns-in_ok-at_phase-in-Start : goal.returns-in_ok-at_phase-in-Start
-returns-in_ok-at_phase-in-Start c =
+pub returns-in-Start : goal.returns-in-Start
+returns-in-Start c =
     let own = rw c.as_slice-sequences.ensures at c.position_of-at.ensures in
     let row = rw c.as_slice-sequences.ensures at c.index-sequences-at.is in
-    started _ _ _ _ c.requires.sound.movements own.bound row own.place _ _ _ c.in-Start.is c.requires.accepted c.in_ok-at_phase-in-Start.ensures
+    started _ _ _ _ c.requires.sound.movements own.bound row own.place _ _ c.in-Start.is c.requires.accepted
 
-pub returns-in_ok-at_phase-in-Mid : goal.returns-in_ok-at_phase-in-Mid
-returns-in_ok-at_phase-in-Mid c =
+pub returns-in-Mid : goal.returns-in-Mid
+returns-in-Mid c =
     let own = rw c.as_slice-sequences.ensures at c.position_of-at.ensures in
     let row = rw c.as_slice-sequences.ensures at c.index-sequences-at.is in
-    half_way _ _ _ _ c.requires.sound.movements own.bound row own.place _ _ _ c.in-Mid.is c.requires.accepted c.in_ok-at_phase-in-Mid.ensures
+    half_way _ _ _ _ c.requires.sound.movements own.bound row own.place _ _ c.in-Mid.is c.requires.accepted
 
-pub returns-in_ok-others-in-Finish : goal.returns-in_ok-others-in-Finish
-returns-in_ok-others-in-Finish c =
+pub returns-in_ok-ring_after-in-Finish : goal.returns-in_ok-ring_after-in-Finish
+returns-in_ok-ring_after-in-Finish c =
     let own = rw c.as_slice-sequences.ensures at c.position_of-at.ensures in
     let row = rw c.as_slice-sequences.ensures at c.index-sequences-at.is in
     let left = rw c.leaver.ensures at c.in_ok-left_row-in-Finish.ensures in
-    done _ _ _ _ c.requires.sound.movements own.bound row own.place _ _ _ _ _ c.in-Finish.is c.requires.accepted left.nodes left.row c.in_ok-ring_after-in-Finish.ensures c.in_ok-others-in-Finish.ensures
+    done _ _ _ _ c.requires.sound.movements own.bound row own.place _ _ _ _ c.in-Finish.is c.requires.accepted left.nodes left.row c.in_ok-ring_after-in-Finish.ensures

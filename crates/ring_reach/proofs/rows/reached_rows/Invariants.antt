@@ -5,4 +5,4 @@ use Rattle.ring_reach.proofs.rows.reached_rows.Given as goal
 
 -- the rows so far
 abbrev pub invariant-loop-row : goal.invariant-loop-row
-invariant-loop-row l = l.reached.items ≡ map (λ row. any_have l.groups (last_token row.right)) (take l.row-index l.row-items)
+invariant-loop-row l = l.reached.items ≡ map (λ row. any_have l.groups (last_token row.right)) (take l.row-index l.rows)

@@ -7,11 +7,19 @@ use Rattle.transformations.specs.Steps.{others}
 use Rattle.transformations.specs.declared.image.Image.{Image}
 use Rattle.sequence_plans.specs.KeptLocks.{AreCutOutRows}
 use Rattle.sequence_plans.specs.Plan.{AreLocks}
-use Rattle.sequence_plans.proofs.KeptLocks.{basis_settled, locks_kept}
+use Rattle.sequence_plans.proofs.KeptLocks.{basis_settled, locks_kept, no_locks}
 use Rattle.sequence_plans.proofs.basis.Basis.locks_kept.Goals as goal
 
 pub rows_cut_out-requires : goal.rows_cut_out-requires
 rows_cut_out-requires c = rw c.requires.cuts (cuts_ascend c.args.self.now.image.now)
+
+-- without a lock there is no other movement
+pub returns-then-is_empty : goal.returns-then-is_empty
+returns-then-is_empty c =
+    let s = c.args.row.now in
+    let is : c.args.self.now.image.now ≡ with_movement c.args.image.now s = c.requires.image in
+    subst (λ rows. AreLocks c.args.self.now.image.now (others c.args.self.now.image.now.sequences s.node) rows) (sym c.empty.ensures)
+    (subst (λ (j : Image). AreLocks j (others j.sequences s.node) []) (sym is) (no_locks c.args.image.now s c.args.locks.now c.requires.new (sym c.if-is_empty.ensures) c.requires.locks))
 
 pub returns-then-rows_cut_out : goal.returns-then-rows_cut_out
 returns-then-rows_cut_out c =

@@ -1,0 +1,31 @@
+-- What a movement changes in a row, and in one row after another.
+use Rattle.std.proofs.Common.{◌≡◌, ℕ, ◌+◌, ◌<◌, Bool, true, false, if◌then◌else◌, ℤ, List, [], ◌∷◌, ◌++◌, get_or, length, map, take, sym, ap, ◌∙◌}
+use Rattle.std.proofs.lemmas.List.{map-append, take_more}
+use Rattle.cluster_terms.specs.Row.{last_token}
+use Rattle.cluster_terms.specs.declared.row.TokenRange.{TokenRange}
+use Rattle.placement_deltas.specs.Joining.{change_row}
+use Rattle.placement_deltas.specs.declared.delta_row.DeltaRow.{DeltaRow}
+use Rattle.token_ring.specs.Ranges.{have_token}
+use Rattle.sequence_plans.specs.RowChanges.{change_at, nodes_in_ranges}
+
+module _ (ranges : List TokenRange) (one other : ℤ → List ℕ) (row : TokenRange) (last : ℤ) (is : last ≡ last_token row.right) where
+  token_is : (b : Bool) → have_token ranges last ≡ b → b ≡ have_token ranges (last_token row.right)
+  token_is b there = sym there ∙ ap (have_token ranges) is
+
+  -- a row in the ranges, and one outside
+  pub within_ranges : (b a : List ℕ) → have_token ranges last ≡ true → b ≡ one last → a ≡ other last → change_row row.right b a ≡ change_at ranges one other row
+  within_ranges b a there b_is a_is = λ i. change_row row.right (nodes one b b_is i) (nodes other a a_is i)
+    where
+      nodes : (f : ℤ → List ℕ) (ns : List ℕ) → ns ≡ f last → ns ≡ nodes_in_ranges ranges f row
+      nodes f ns e = e ∙ ap f is ∙ ap (λ (b : Bool). if b then f (last_token row.right) else []) (token_is true there)
+
+  pub outside_ranges : (none : List ℕ) → have_token ranges last ≡ false → none ≡ [] → change_row row.right none none ≡ change_at ranges one other row
+  outside_ranges none beside is_none = λ i. change_row row.right (nodes one i) (nodes other i)
+    where
+      nodes : (f : ℤ → List ℕ) → none ≡ nodes_in_ranges ranges f row
+      nodes f = is_none ∙ ap (λ (b : Bool). if b then f (last_token row.right) else []) (token_is false beside)
+
+-- one row more
+pub changes_more : (f : TokenRange → DeltaRow) (rows : List TokenRange) (i : ℕ) (row : TokenRange) → i < length rows → row ≡ get_or rows i row → map f (take (i + 1) rows) ≡ map f (take i rows) ++ f row ∷ []
+changes_more f rows i row within is =
+    ap (map f) (take_more rows i row within ∙ ap (λ (r : TokenRange). take i rows ++ r ∷ []) (sym is)) ∙ map-append f (take i rows) (row ∷ [])

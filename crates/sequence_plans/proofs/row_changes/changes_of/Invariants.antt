@@ -1,0 +1,10 @@
+use Rattle.std.proofs.Common.{map, take}
+use Rattle.placement_deltas.specs.Changes.{AreJoined}
+use Rattle.sequence_plans.specs.LowNodes.{nodes_by}
+use Rattle.sequence_plans.specs.Placers.{placed_by}
+use Rattle.sequence_plans.specs.RowChanges.{change_at}
+use Rattle.sequence_plans.proofs.row_changes.changes_of.Given as goal
+
+-- what changes in the rows so far
+abbrev pub invariant-loop-row : goal.invariant-loop-row
+invariant-loop-row g l = AreJoined (map (change_at l.ranges (nodes_by l.placers.before) (placed_by l.placers.after)) (take l.row-index l.rows)) l.changes

@@ -1,0 +1,61 @@
+//! What changes in each row between cuts with a movement, under one replication.
+
+ghost use Rattle.std.specs.Prelude.{map, IfOk, OnOk};
+ghost use Rattle.placement_deltas.specs.Changes.{AreJoined, AreWithRow};
+ghost use Rattle.sequence_plans.specs.LowNodes.{nodes_by};
+ghost use Rattle.sequence_plans.specs.Placers.{placed_by};
+ghost use Rattle.sequence_plans.specs.RowChanges.{change_at};
+
+use crate::movement_rings::MovementPlacers;
+use cluster_terms::{Memory, Steps, TokenRange};
+use node_sets::NodeSet;
+use placement_deltas::Changes;
+use std::alloc::Global;
+use std::sync::ledger::Ledger;
+use token_ring::RangeList;
+
+/// Adds what changes in a row: between the nodes that the placers give at its last token, if the ranges contain it, and
+/// nothing otherwise. `near` is where a map was looked at last.
+fn push_row<L: Ledger>(
+    changes: &mut Changes,
+    alloc: Global,
+    placers: &MovementPlacers,
+    ranges: &RangeList,
+    row: &TokenRange,
+    near: &mut usize,
+    walks: &mut Steps<L>,
+) -> Result<(), Memory>
+    ensures { OnOk result (AreWithRow changes.old
+        (change_at ranges.now (nodes_by placers.now.before) (placed_by placers.now.after) row.now)
+        changes.new) }
+{
+    let last = row.last_token();
+    if ranges.contains(last) {
+        let before = placers.before.place(alloc, last, near, walks)?;
+        let after = placers.after.place(alloc, last, walks)?;
+        changes.push(row.right, &before, &after)
+    } else {
+        let none = NodeSet::empty(alloc);
+        changes.push(row.right, &none, &none)
+    }
+}
+
+/// What changes in these rows. For each row in the ranges a placer makes one walk, and a map is looked at; elsewhere
+/// no node is looked for. Fails only if memory runs out.
+pub fn changes_of<L: Ledger>(
+    alloc: Global,
+    placers: &MovementPlacers,
+    ranges: &RangeList,
+    rows: &[TokenRange],
+    walks: &mut Steps<L>,
+) -> Result<Changes, Memory>
+    ensures { IfOk result (AreJoined (map
+        (change_at ranges.now (nodes_by placers.now.before) (placed_by placers.now.after)) rows.now)) }
+{
+    let mut changes = Changes::with_room(alloc, rows.len())?;
+    let mut near = 0;
+    for row in rows {
+        push_row(&mut changes, alloc, placers, ranges, row, &mut near, walks)?;
+    }
+    Ok(changes)
+}
