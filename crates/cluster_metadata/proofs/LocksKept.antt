@@ -28,7 +28,7 @@ use Rattle.transformations.specs.declared.image.Image.{Image}
 use Rattle.transformations.specs.declared.keyspace.KeyspaceRow.{KeyspaceRow}
 use Rattle.transformations.specs.declared.sequence.SeqRow.{SeqRow}
 use Rattle.cluster_metadata.proofs.MovementPlaces.{at_place}
-use Rattle.cluster_metadata.specs.Change.{BringsPlan, Follows, changed, plan_lock, plans_after, uncut}
+use Rattle.cluster_metadata.specs.Change.{BringsPlan, Follows, changed, plan_lock, plans_after, kept_plan}
 use Rattle.cluster_metadata.specs.Locking.{locks_after}
 use Rattle.sequence_plans.specs.Locks.{AreLocksOf, IsLockOf}
 use Rattle.cluster_metadata.specs.Permission.{IsPermitted}
@@ -138,7 +138,7 @@ new_locks image (Begun at plan sequences) plans table brings follows up are =
     let after : Image = changed image (Begun at plan sequences) in
     let there : slice_get sequences at ≡ Some plan.row = ap (λ (l : List SeqRow). slice_get l at) follows.2 ∙ inserted_there image.sequences at plan.row follows.1 in
     let own : movement_of after plan.row.node ≡ Some plan.row = at_place (λ s. movement_of after s.node ≡ Some s) sequences at plan.row (each_found sequences up) there in
-    at_insert after plans table at (uncut plan) (plan_lock plan) (λ q found. let same : plan.row ≡ q = cc in subst (λ s. IsLockOf after s (plan_lock plan)) same brings.1) are
+    at_insert after plans table at (kept_plan plan) (plan_lock plan) (λ q found. let same : plan.row ≡ q = cc in subst (λ s. IsLockOf after s (plan_lock plan)) same brings.1) are
 new_locks image (Finished at left tokens) plans table brings follows up are = at_remove (changed image (Finished at left tokens)) plans table at are
 new_locks image (Ended at) plans table brings follows up are = at_remove (changed image (Ended at)) plans table at are
 new_locks image _ plans table brings follows up are = are

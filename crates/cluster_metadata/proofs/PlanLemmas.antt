@@ -23,7 +23,7 @@ use Rattle.transformations.specs.declared.image.Image.{Image}
 use Rattle.transformations.specs.declared.keyspace.KeyspaceRow.{KeyspaceRow}
 use Rattle.transformations.specs.declared.sequence.Phase.{Phase}
 use Rattle.transformations.specs.declared.sequence.SeqRow.{SeqRow}
-use Rattle.cluster_metadata.specs.Change.{BringsPlan, changed, in_phase, plans_after, uncut}
+use Rattle.cluster_metadata.specs.Change.{BringsPlan, changed, in_phase, plans_after, kept_plan}
 use Rattle.cluster_metadata.specs.Permission.{IsPermitted}
 use Rattle.cluster_metadata.specs.Running.{HaveDeltas, IsRunning, movement_row, phase_of, plan_of}
 use Rattle.cluster_metadata.specs.declared.change.Change.{Change}
@@ -118,7 +118,7 @@ all_remove P (y ∷ ys) zero all = all.1
 all_remove P (y ∷ ys) (suc i) all = (all.0, all_remove P ys i all.1)
 
 new_plans : (image : Image) (change : Change) (plans : List Plan) → BringsPlan image change → AllByRecursion (HasInFlight (changed image change)) plans → AllByRecursion (HasInFlight (changed image change)) (plans_after plans change)
-new_plans image (Begun at plan sequences) plans brings all = all_insert (HasInFlight (changed image (Begun at plan sequences))) plans at (uncut plan) (λ p there. brings.0) all
+new_plans image (Begun at plan sequences) plans brings all = all_insert (HasInFlight (changed image (Begun at plan sequences))) plans at (kept_plan plan) (λ p there. brings.0) all
 new_plans image (Finished at left tokens) plans brings all = all_remove (HasInFlight (changed image (Finished at left tokens))) plans at all
 new_plans image (Ended at) plans brings all = all_remove (HasInFlight (changed image (Ended at))) plans at all
 new_plans image _ plans brings all = all

@@ -134,13 +134,14 @@ pub record Begins (image : Image) (row : SeqRow) (change : Change) : Type 0 wher
   pub plan : BringsPlan image change
   pub begins : BeginsWith row change
 
--- a plan without its cuts, which nothing needs once its movement has begun
-abbrev pub uncut : Plan → Plan
-uncut plan = record plan { cuts = [] }
+-- a plan as its movement keeps it: without its ranges, which the lock takes, and without its cuts, which nothing needs
+-- once the movement has begun
+abbrev pub kept_plan : Plan → Plan
+kept_plan plan = record plan { cuts = []; ranges = [] }
 
 -- the plans of the movements in flight after a change, from those before it
 abbrev pub plans_after : List Plan → Change → List Plan
-plans_after plans (Begun at plan sequences) = insert plans at (uncut plan)
+plans_after plans (Begun at plan sequences) = insert plans at (kept_plan plan)
 plans_after plans (Finished at left tokens) = remove plans at
 plans_after plans (Ended at) = remove plans at
 plans_after plans _ = plans

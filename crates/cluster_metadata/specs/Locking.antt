@@ -14,7 +14,6 @@ use Rattle.cluster_metadata.specs.Change.{plan_lock}
 use Rattle.cluster_metadata.specs.Running.{movement_row, moving_node, plan_of}
 use Rattle.cluster_metadata.specs.declared.change.Change.{Change}
 use Rattle.cluster_metadata.specs.declared.change.Change.TheVariants.{Begun, Finished, Ended}
-use Rattle.cluster_metadata.specs.declared.new_lock.NewLock.{NewLock}
 use Rattle.cluster_metadata.specs.declared.running.Running.{Running}
 
 -- the lock of a movement in flight
@@ -27,11 +26,6 @@ locks_after table (Begun at plan sequences) = insert table at (plan_lock plan)
 locks_after table (Finished at left tokens) = remove table at
 locks_after table (Ended at) = remove table at
 locks_after table _ = table
-
--- the ranges of the movement that begins, and room for its lock
-abbrev pub HoldsLock : Change → NewLock → Type 0
-HoldsLock (Begun at plan sequences) lock = (lock.ranges ≡ plan.ranges) × (length sequences ≤ lock.room)
-HoldsLock _ lock = Unit {0}
 
 -- the movement of a plan has no lock, and no lock shares a token with it
 pub record IsFree (plan : Plan) (table : List LockRow) : Type 0 where

@@ -1,5 +1,5 @@
 -- Placement maps that are changed by the deltas of a movement. Of the code: no promise rests on these.
-use Rattle.std.specs.Prelude.{◌≡◌, ℕ, ℤ, ◌≤ℤ◌, List, [], ◌∷◌, ◌++◌, length, map, take, Option, IfSome}
+use Rattle.std.specs.Prelude.{◌≡◌, ℕ, ℤ, ◌≤ℤ◌, List, [], ◌∷◌, ◌++◌, length, map, take, Option, Some, None, IfSome}
 use Rattle.cluster_terms.specs.Row.{last_token}
 use Rattle.cluster_terms.specs.declared.row.TokenRange.{TokenRange}
 use Rattle.cluster_terms.specs.declared.token.RightEnd.{RightEnd}
@@ -9,9 +9,10 @@ use Rattle.placement_deltas.specs.declared.delta_row.DeltaRow.{DeltaRow}
 use Rattle.placement_deltas.specs.declared.unchanged.Unchanged.{Unchanged}
 use Rattle.range_placements.specs.Changing.{row_changed, rows_changed}
 use Rattle.range_placements.specs.Editing.{Edits, edited}
-use Rattle.range_placements.specs.Exchanging.{with_changes}
+use Rattle.range_placements.specs.Exchanging.{with_changes, with_nodes}
 use Rattle.range_placements.specs.Placements.{IsPlacementMap, map_at, reads_changed, right_ends, writes_changed}
 use Rattle.range_placements.specs.declared.placement_row.PlacementRow.{PlacementRow}
+use Rattle.range_placements.specs.declared.row_changes.NewNodes.{NewNodes}
 use Rattle.range_placements.specs.declared.row_changes.RowChange.{RowChange}
 use Rattle.transformations.specs.declared.sequence.Phase.{Phase}
 use Rattle.transformations.specs.declared.sequence.Phase.TheVariants.{Prepared, Started, Mid}
@@ -37,6 +38,11 @@ undoing Mid = ReadsBack
 abbrev pub row_to : RightEnd → List ℕ × List ℕ → PlacementRow
 row_to right placement = record { right = right; reads = placement.0; writes = placement.1 }
 
+-- a row with its new nodes, if it has any
+abbrev pub with_turned : Option NewNodes → PlacementRow → PlacementRow
+with_turned None row = row
+with_turned (Some nodes) row = with_nodes nodes row
+
 -- the row of a range, with the reads and the writes of its last token
 abbrev pub row_with : (ℤ → List ℕ × List ℕ) → TokenRange → PlacementRow
 row_with placement range = row_to range.right (placement (last_token range.right))
@@ -49,7 +55,7 @@ turned_rows turn rows delta = rows_changed (turned turn) delta rows
 abbrev pub IsKnown : List DeltaRow → Option Unchanged → Type 0
 IsKnown delta known = IfSome known (λ tokens. ChangesNothing delta tokens.first tokens.last)
 
--- the first n rows of a map have their new sets, whatever rows come after them
+-- the first n rows of a map have their new nodes, whatever rows come after them
 abbrev pub AreTurned : Turn → List DeltaRow → List PlacementRow → ℕ → List RowChange → Type 0
 AreTurned turn delta rows n changes = (rest : List PlacementRow) → with_changes changes (take n rows ++ rest) ≡ turned_rows turn (take n rows) delta ++ rest
 
@@ -57,7 +63,7 @@ AreTurned turn delta rows n changes = (rest : List PlacementRow) → with_change
 abbrev pub IsWithin : ℤ → ℤ → PlacementRow → Type 0
 IsWithin first last row = (first ≤ℤ last_token row.right) × (last_token row.right ≤ℤ last)
 
--- new sets are added for the row at a position, where the delta changes it: whatever rows stand beside it
+-- new nodes are added for the row at a position, where the delta changes it: whatever rows stand beside it
 abbrev pub AddsTurned : Turn → List DeltaRow → ℕ → PlacementRow → List RowChange → List RowChange → Type 0
 AddsTurned turn delta at row before after =
     (done rest : List PlacementRow) → length done ≡ at → with_changes after (done ++ row ∷ rest) ≡ with_changes before (done ++ row_changed (turned turn) delta row ∷ rest)

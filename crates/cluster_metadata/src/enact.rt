@@ -6,8 +6,8 @@ ghost use Rattle.std.specs.List.{insert, remove};
 ghost use Rattle.std.specs.List.Sorted.{IsStrictlySortedBy};
 ghost use Rattle.transformations.specs.Orders.{by_node};
 ghost use Rattle.transformations.specs.declared.sequence.Phase.TheVariants as phase;
-ghost use Rattle.cluster_metadata.specs.Change.{FitsNodes, Follows, StandsAt, StandsBeforeMid, changed, directory_of, grown_to, phased, plans_after, uncut};
-ghost use Rattle.cluster_metadata.specs.Locking.{HoldsLock, IsFree, MayLock, locks_after};
+ghost use Rattle.cluster_metadata.specs.Change.{FitsNodes, Follows, StandsAt, StandsBeforeMid, changed, directory_of, grown_to, kept_plan, phased, plans_after};
+ghost use Rattle.cluster_metadata.specs.Locking.{IsFree, MayLock, locks_after};
 ghost use Rattle.cluster_metadata.specs.Change.{plan_lock};
 ghost use Rattle.cluster_metadata.specs.MapChanges.{HoldMaps, maps_after};
 ghost use Rattle.cluster_metadata.specs.Running.{IsRunning, plan_of};
@@ -16,15 +16,15 @@ use crate::change::Change;
 use crate::map_book::MapBook;
 use crate::map_change::MapChange;
 use crate::movements::{bring_to, remove_at};
-use crate::new_lock::NewLock;
 use crate::nodes::{mark_left, register, unregister};
 use crate::running::Running;
-use cluster_terms::TokenList;
+use cluster_terms::{Room, TokenList};
 use locked_ranges::LockTable;
 use node_directory::Directory;
 use placement_deltas::Plan;
 use std::alloc::Global;
-use std::mem::swap;
+use std::mem::{replace, swap};
+use token_ring::{LockRow, RangeBook};
 use transformations::{Image, Phase, SeqRow, SeqRows};
 
 /// Inserts the value of a movement. The vector has room for it.
@@ -54,13 +54,16 @@ fn move_over(running: &mut Vec<Running>, room: &mut Vec<Running>)
     swap(running, room);
 }
 
-/// A plan without its cuts, which nothing needs once its movement has begun.
-fn without_cuts(alloc: Global, plan: Plan) -> Plan
-    ensures { result ≡ uncut plan }
+/// The ranges of a plan, for the lock, and the plan without them. Its cuts are dropped too, since nothing needs them
+/// once its movement has begun.
+fn parted(alloc: Global, plan: Plan) -> (RangeBook, Plan)
+    ensures ranges { result.0 ≡ plan.ranges }
+    ensures plan { result.1 ≡ kept_plan plan }
 {
     let mut plan = plan;
     plan.cuts = TokenList::empty(alloc);
-    plan
+    let ranges = replace(&mut plan.ranges, RangeBook::empty(alloc));
+    (ranges, plan)
 }
 
 /// Locks the ranges of a movement that begins, and inserts its value. The lock takes the same place in the table.
@@ -71,7 +74,7 @@ fn begin(
     room: &mut Vec<Running>,
     at: usize,
     plan: Plan,
-    lock: NewLock,
+    lock: Room<LockRow>,
 )
     requires running { IsRunning sequences.now running.old.items }
     requires names { map (λ row. row.node) locks.old ≡ map (λ s. s.node) sequences.now }
@@ -79,22 +82,17 @@ fn begin(
     requires phase { plan.row.phase ≡ phase.Prepared }
     requires empty { vec_len room.old ≡ 0 }
     requires room { length sequences.now + 1 ≤ vec_capacity room.old }
-    requires ranges { lock.ranges ≡ plan.ranges }
-    requires spare { length sequences.now < lock.room }
+    requires spare { length sequences.now < lock }
     requires free { IsFree plan locks.old }
     ensures running { IsRunning (insert sequences.now at plan.row) running.new.items }
-    ensures plans { map plan_of running.new.items ≡ insert (map plan_of running.old.items) at (uncut plan) }
+    ensures plans { map plan_of running.new.items ≡ insert (map plan_of running.old.items) at (kept_plan plan) }
     ensures locks { locks.new ≡ insert locks.old at (plan_lock plan) }
     ensures empty { vec_len room.new ≡ 0 }
 {
-    let NewLock {
-        ranges,
-        room: lock_room,
-    } = lock;
+    let (ranges, plan) = parted(*running.allocator(), plan);
     let row = &plan.row;
-    let key = locks.lock_in(at, row.node, ranges, lock_room);
+    let key = locks.lock_in(at, row.node, ranges, lock);
     move_over(running, room);
-    let plan = without_cuts(*running.allocator(), plan);
     put(running, at, Running::begin(plan, key));
 }
 
@@ -184,7 +182,7 @@ pub fn exchange(maps: &mut MapBook, change: MapChange)
 }
 
 /// Makes a change in an image, in its directory, in the values of its movements and in the table of their locks. If a
-/// movement begins, `room` is memory for the values, and `lock` has its ranges and memory for the table.
+/// movement begins, `room` is memory for the values, and `lock` is memory for the table of locks.
 pub fn make(
     image: &mut Image,
     directory: &mut Directory,
@@ -192,7 +190,7 @@ pub fn make(
     locks: &mut LockTable,
     change: Change,
     mut room: Vec<Running>,
-    lock: NewLock,
+    lock: Room<LockRow>,
 )
     requires epochs { image.old.epoch < 2 ^ 64 - 1 }
     requires directory { directory.old ≡ directory_of image.old }
@@ -203,7 +201,7 @@ pub fn make(
     requires room { grown_to change ≤ vec_capacity room }
     requires movements { IsStrictlySortedBy by_node image.old.sequences }
     requires names { map (λ row. row.node) locks.old ≡ map (λ s. s.node) image.old.sequences }
-    requires lock { HoldsLock change lock }
+    requires lock { grown_to change ≤ lock }
     requires free { MayLock locks.old change }
     ensures made { image.new ≡ changed image.old change }
     ensures directory { directory.new ≡ directory_of image.new }

@@ -22,7 +22,6 @@ mod map_changes;
 mod maps;
 mod metadata;
 mod movements;
-mod new_lock;
 mod new_node;
 mod nodes;
 mod numbers;

@@ -14,25 +14,31 @@ use crate::changes::change_of;
 use crate::map_book::MapBook;
 use crate::map_change::MapChange;
 use crate::map_changes::maps_for;
-use crate::new_lock::NewLock;
 use crate::running::Running;
-use cluster_terms::{Memory, Steps};
+use cluster_terms::{Memory, Room, Steps};
 use locked_ranges::LockTable;
 use node_directory::Directory;
 use std::alloc::Global;
 use std::marker::Model;
 use std::snapshot::Snapshot;
 use std::sync::ledger::Ledger;
+use token_ring::LockRow;
 use transformations::{Command, Image, Refusal, early_refusal, register_refusal};
 
-/// An empty vector. If the change begins a movement, it has room for the values of all movements.
-fn room_for(alloc: Global, change: &Change) -> Result<Vec<Running>, Memory>
-    ensures { IfOk result (λ room. (vec_len room ≡ 0) × (grown_to change.now ≤ vec_capacity room)) }
+/// How many movements there are after a change that begins one, and 0 for any other change.
+fn grown_to(change: &Change) -> usize
+    ensures { result ≡ grown_to change.now }
 {
-    let count = match change {
+    match change {
         Change::Begun { sequences, .. } => sequences.as_slice().len(),
         _ => 0,
-    };
+    }
+}
+
+/// An empty vector with room for the values of this many movements.
+fn room_for(alloc: Global, count: usize) -> Result<Vec<Running>, Memory>
+    ensures { IfOk result (λ room. (vec_len room ≡ 0) × (count ≤ vec_capacity room)) }
+{
     Ok(Vec::with_capacity(alloc, count)?)
 }
 
@@ -62,7 +68,7 @@ fn first_refusal(
 pub struct Permit {
     pub(crate) change: Change,
     pub(crate) room: Vec<Running>,
-    pub(crate) lock: NewLock,
+    pub(crate) lock: Room<LockRow>,
     pub(crate) maps: MapChange,
     pub(crate) image: Snapshot<Image>,
     pub(crate) command: Snapshot<Command>,
@@ -71,7 +77,6 @@ pub struct Permit {
 impl Model for Permit {
     ghost use Rattle.std.specs.Prelude.{◌≡◌, ◌≤◌, vec_capacity, vec_len};
     ghost use Rattle.cluster_metadata.specs.Change.{grown_to};
-    ghost use Rattle.cluster_metadata.specs.Locking.{HoldsLock};
     ghost use Rattle.cluster_metadata.specs.MapChanges.{BringsMaps};
     ghost use Rattle.cluster_metadata.specs.Permission.{Permission, IsPermitted};
 
@@ -82,7 +87,7 @@ impl Model for Permit {
     ghost invariant = { λ p. IsPermitted p.image.value p.command.value p.change × (vec_len p.room ≡ 0)
         × (grown_to p.change ≤ vec_capacity p.room)
         × BringsMaps p.image.value p.change p.maps
-        × HoldsLock p.change p.lock };
+        × (grown_to p.change ≤ p.lock) };
 }
 
 impl Permit {
@@ -129,8 +134,9 @@ pub(crate) fn permit_for<L: Ledger>(
     }
     let change = change_of(alloc, image, directory, maps.as_slice(), locks, cmd, walks)?;
     let maps = maps_for(alloc, image, directory, maps, running, &change)?;
-    let lock = NewLock::of_change(alloc, &change)?;
-    let room = room_for(alloc, &change)?;
+    let count = grown_to(&change);
+    let lock = Room::for_items(alloc, count)?;
+    let room = room_for(alloc, count)?;
     Ok(Permit {
         change,
         room,

@@ -15,7 +15,9 @@ use crate::turn::Turn;
 use cluster_terms::{Memory, RightEnd, Token, TokenRange, TryCopy};
 use node_sets::NodeSet;
 use placement_deltas::{Delta, DeltaBook, Unchanged};
-use range_placements::{PlacementMap, PlacementRow, RowChange, RowChanges, RowEdits, with_change};
+use range_placements::{
+    NewNodes, PlacementMap, PlacementRow, RowChange, RowChanges, RowEdits, with_change,
+};
 use std::alloc::Global;
 
 /// A row with this right end and these reads and writes, changed by the nodes gained and the nodes lost.
@@ -75,7 +77,27 @@ fn turned_row(
     turned_sets(turn, *right, &row.reads, &row.writes, gained, lost)
 }
 
-/// Adds the new sets of a row.
+/// The new nodes of a row, by the nodes gained and the nodes lost. Returns `None` if the turn keeps the sets.
+fn turned_nodes(
+    turn: Turn,
+    row: &PlacementRow,
+    gained: &NodeSet,
+    lost: &NodeSet,
+) -> Result<Option<NewNodes>, Memory>
+    ensures { IfOk result (λ nodes. spec.with_turned nodes row.now
+        ≡ spec.row_to row.now.right (spec.turned turn (row.now.reads, row.now.writes) (gained.now, lost.now))) }
+{
+    let nodes = match turn {
+        Turn::Keep => return Ok(None),
+        Turn::Reads => NewNodes::Reads(with_change(&row.reads, gained, lost)?),
+        Turn::Writes => NewNodes::Writes(with_change(&row.writes, gained, lost)?),
+        Turn::ReadsBack => NewNodes::Reads(with_change(&row.reads, lost, gained)?),
+        Turn::WritesBack => NewNodes::Writes(with_change(&row.writes, lost, gained)?),
+    };
+    Ok(Some(nodes))
+}
+
+/// Adds the new nodes of a row.
 fn push_turned(
     changes: &mut RowChanges,
     turn: Turn,
@@ -86,15 +108,14 @@ fn push_turned(
 ) -> Result<(), Memory>
     ensures { OnOk result (spec.AddsTurned turn delta.now at row.now changes.old changes.new) }
 {
-    let PlacementRow {
-        right: _,
-        reads,
-        writes,
-    } = turned_row(turn, &row.right, row, delta, near)?;
-    changes.push(RowChange { at, reads, writes })
+    let (gained, lost) = delta.at_near(row.last_token(), near);
+    match turned_nodes(turn, row, gained, lost)? {
+        Some(nodes) => changes.push(RowChange { at, nodes }),
+        None => Ok(()),
+    }
 }
 
-/// Adds the new sets of the row at a position, if the delta changes it, and passes it. Otherwise passes the rows that
+/// Adds the new nodes of the row at a position, if the delta changes it, and passes it. Otherwise passes the rows that
 /// end where the delta changes nothing. Returns the position of the row after these.
 fn turn_from(
     changes: &mut RowChanges,
@@ -120,8 +141,8 @@ fn turn_from(
     Ok(at + 1)
 }
 
-/// The new sets of the rows of a map that a delta changes. The cost is a few binary searches for each row of the delta,
-/// and new sets for each row of the map that it changes.
+/// The new nodes of the rows of a map that a delta changes. The cost is a few binary searches for each row of the delta,
+/// and a new set for each row of the map that it changes.
 fn turned_rows(
     alloc: Global,
     turn: Turn,
@@ -297,9 +318,9 @@ fn recut_map(
     Ok(edits)
 }
 
-/// The new sets of the rows of a book's maps that the deltas of a movement change. The deltas are under the same
+/// The new nodes of the rows of a book's maps that the deltas of a movement change. The deltas are under the same
 /// replications in the same order. Fails only if memory runs out. Cost: under each replication a few binary searches for
-/// each row of the delta, and a pass over the sets for each row of the map that changes.
+/// each row of the delta, and a pass over a set for each row of the map that changes.
 pub fn turned_book(
     alloc: Global,
     turn: Turn,

@@ -22,7 +22,7 @@ use Rattle.token_ring.specs.Ranges.{is_cut_right}
 
 -- ---- the test of two changes
 
-same_yes : (row next : DeltaRow) → same_change row next ≡ true → change_in row ≡ change_in next
+pub same_yes : (row next : DeltaRow) → same_change row next ≡ true → change_in row ≡ change_in next
 same_yes row next same =
     let parts = and_parts (pointwise nat_eq row.gained next.gained) (pointwise nat_eq row.lost next.lost) same in
     let gained = (slice_eq-Decides Decides-eqb row.gained next.gained (pointwise nat_eq row.gained next.gained) refl).0 parts.0 in

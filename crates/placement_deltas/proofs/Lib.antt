@@ -4,3 +4,4 @@ pub mod DeltaLemmas
 pub mod JoinedDeltas
 pub mod ShownChanges
 mod SideDeltas
+pub mod SoFar

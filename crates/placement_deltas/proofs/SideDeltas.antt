@@ -1,9 +1,11 @@
 -- The delta of one side of a delta.
-use Rattle.std.proofs.Common.{◌≡◌, ℕ, ◌+◌, ◌<◌, Bool, true, false, if◌then◌else◌, ℤ, int_le, List, [], ◌∷◌, ◌++◌, length, map, drop, get_or, not, Some, None, refl, sym, ap, ◌∙◌, append_assoc, arith}
+use Rattle.std.proofs.Common.{◌≡◌, ℕ, suc, ◌+◌, ◌<◌, Bool, true, false, if◌then◌else◌, ℤ, int_le, List, [], ◌∷◌, ◌++◌, length, map, take, get_or, not, nat_eq, ◌==◌, None, refl, sym, ap, ◌∙◌, arith}
+use Rattle.std.proofs.lemmas.Bool.Decides.{nat_tests}
 use Rattle.std.proofs.lemmas.Cmp.{nat_eq_equiv}
 use Rattle.std.proofs.lemmas.Int.{ints}
-use Rattle.std.proofs.lemmas.List.{drop_all, drop_more}
+use Rattle.std.proofs.lemmas.List.{map-append, take_more}
 use Rattle.std.proofs.lemmas.Map.Made.{All-is_member}
+use Rattle.std.specs.Cmp.Lexicographic.{pointwise}
 use Rattle.std.specs.List.{AllByRecursion}
 use Rattle.cluster_terms.specs.Arc.{IsToken, greatest_token}
 use Rattle.cluster_terms.specs.Row.{CoverRing, last_token}
@@ -13,7 +15,7 @@ use Rattle.node_sets.specs.NodeSets.{has_node, without}
 use Rattle.placement_deltas.proofs.DeltaLemmas.{covers_ring}
 use Rattle.placement_deltas.proofs.JoinedDeltas.{joined_at, joined_is}
 use Rattle.placement_deltas.specs.Deltas.{IsDelta, change_in, delta_at, only}
-use Rattle.placement_deltas.specs.Joining.{change_row, closed, joined_from, row_ended, row_of_side}
+use Rattle.placement_deltas.specs.Joining.{change_row, joined_from, row_of_side}
 use Rattle.placement_deltas.specs.declared.delta_row.DeltaRow.{DeltaRow}
 use Rattle.placement_deltas.specs.declared.side.Side.{Side}
 use Rattle.placement_deltas.specs.declared.side.Side.TheVariants.{Gained, Lost}
@@ -50,31 +52,16 @@ module _ (side : Side) where
       top : int_le x greatest_token ≡ true
       top = let most = token.1 in grind (arith, ints)
 
-  -- ---- the rows joined one after the other
+  -- ---- one row more
 
-  -- the rows so far, and those that are left
-  abbrev pub IsSoFar : List DeltaRow → ℕ → List DeltaRow → Type 0
-  IsSoFar rows i joined = joined ++ joined_from None (map (row_of_side side) (drop i rows)) ≡ joined_from None (map (row_of_side side) rows)
+  pub sides_more : (rows : List DeltaRow) (i : ℕ) (row : DeltaRow) → i < length rows → row ≡ get_or rows i row → map (row_of_side side) (take (i + 1) rows) ≡ map (row_of_side side) (take i rows) ++ row_of_side side row ∷ []
+  sides_more rows i row within is =
+      ap (map (row_of_side side)) (take_more rows i row within ∙ ap (λ (r : DeltaRow). take i rows ++ r ∷ []) (sym is)) ∙ map-append (row_of_side side) (take i rows) (row ∷ [])
 
-  split_at : (rows : List DeltaRow) (i : ℕ) (row : DeltaRow) → i < length rows → row ≡ get_or rows i row → drop i rows ≡ row ∷ drop (i + 1) rows
-  split_at rows i row within is = drop_more rows i row within ∙ ap (λ r. r ∷ drop (i + 1) rows) (sym is)
-
-  pub side_more : (rows : List DeltaRow) (i : ℕ) (row next : DeltaRow) (joined more : List DeltaRow) → i + 1 < length rows → row ≡ get_or rows i row → next ≡ get_or rows (i + 1) next
-      → more ≡ joined ++ closed (Some (row_of_side side row)) (row_of_side side next) → IsSoFar rows i joined → IsSoFar rows (i + 1) more
-  side_more rows i row next joined more within is next_is more_is so_far =
-      let left : List DeltaRow → List DeltaRow = λ l. joined_from None (map (row_of_side side) l) in
-      let ends : List DeltaRow = closed (Some (row_of_side side row)) (row_of_side side next) in
-      let after : drop (i + 1) rows ≡ next ∷ drop (i + 1 + 1) rows = split_at rows (i + 1) next within next_is in
-      let all : drop i rows ≡ row ∷ next ∷ drop (i + 1 + 1) rows = split_at rows i row (omega arith) is ∙ ap (λ l. row ∷ l) after in
-      ap (λ l. l ++ left (drop (i + 1) rows)) more_is ∙ append_assoc joined ends (left (drop (i + 1) rows))
-      ∙ ap (λ l. joined ++ (ends ++ left l)) after
-      ∙ ap (λ l. joined ++ left l) (sym all) ∙ so_far
-
-  pub side_all : (rows : List DeltaRow) (i : ℕ) (last : DeltaRow) (joined all : List DeltaRow) → i + 1 ≡ length rows → last ≡ get_or rows i last
-      → all ≡ joined ++ row_ended (Some (row_of_side side last)) → IsSoFar rows i joined → all ≡ joined_from None (map (row_of_side side) rows)
-  side_all rows i last joined all ends is all_is so_far =
-      let left : drop i rows ≡ last ∷ [] = split_at rows i last (omega arith) is ∙ ap (λ l. last ∷ l) (drop_all (i + 1) rows (omega arith)) in
-      all_is ∙ ap (λ l. joined ++ joined_from None (map (row_of_side side) l)) (sym left) ∙ so_far
+-- a list is that of no node if it is empty
+pub none_in : (xs : List ℕ) → pointwise nat_eq xs [] ≡ (length xs == 0)
+none_in [] = refl
+none_in (x ∷ xs) = let some : (suc (length xs) == 0) ≡ false = grind (arith, nat_tests) in sym some
 
 -- nothing changes between equal sets
 without_members : (all xs : List ℕ) → AllByRecursion (λ x. has_node all x ≡ true) xs → without xs all ≡ []

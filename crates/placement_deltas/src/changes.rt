@@ -1,19 +1,29 @@
-ghost use Rattle.std.specs.Prelude.{◌≡◌, ◌++◌, [], IfOk, OnOk};
+ghost use Rattle.std.specs.Prelude.{◌≡◌, [], ◌++◌, IfOk, OnOk};
 ghost use Rattle.placement_deltas.specs.Changes.{AreJoined, AreWithRow};
 ghost use Rattle.placement_deltas.specs.Joining as spec;
 
 use crate::delta_row::{DeltaRow, DeltaRows};
-use crate::joining::{change_row, push_begun, push_last};
+use crate::joining::{change_row, end_with_ring, push_joined, unchanged_row};
 use cluster_terms::{Memory, RightEnd};
 use node_sets::NodeSet;
 use std::alloc::Global;
+use std::marker::Model;
 
 /// What changes in the rows so far, from the least token on. Adjacent rows are joined if their changes are equal.
+///
+/// Contracts see the rows that have ended, and the last one, which the next row may continue.
 #[derive(Drop)]
 pub struct Changes {
     alloc: Global,
-    joined: DeltaRows,
-    begun: Option<DeltaRow>,
+    rows: Vec<DeltaRow>,
+}
+
+impl Model for Changes {
+    ghost use Rattle.placement_deltas.specs.Changes.{RowsSoFar, so_far};
+
+    ghost Value = { RowsSoFar };
+
+    ghost view = { λ changes. so_far changes.rows.items };
 }
 
 impl Changes {
@@ -23,8 +33,7 @@ impl Changes {
     {
         Ok(Changes {
             alloc,
-            joined: DeltaRows::with_room(alloc, count)?,
-            begun: None,
+            rows: Vec::with_capacity(alloc, count)?,
         })
     }
 
@@ -33,18 +42,25 @@ impl Changes {
     pub fn push(&mut self, right: RightEnd, before: &NodeSet, after: &NodeSet) -> Result<(), Memory>
         ensures { OnOk result (AreWithRow self.old (spec.change_row right before.now after.now) self.new) }
     {
-        let next = change_row(self.alloc, right, before, after)?;
-        push_begun(&mut self.joined, self.begun.take(), &next)?;
-        self.begun = Some(next);
-        Ok(())
+        let row = change_row(self.alloc, right, before, after)?;
+        push_joined(&mut self.rows, row)
+    }
+
+    /// Adds a row up to a right end, in which nothing changes. Fails only if memory runs out; then the changes may lack
+    /// rows.
+    pub fn push_unchanged(&mut self, right: RightEnd) -> Result<(), Memory>
+        ensures { OnOk result (AreWithRow self.old (spec.change_row right [] []) self.new) }
+    {
+        let row = unchanged_row(self.alloc, right);
+        push_joined(&mut self.rows, row)
     }
 
     /// The rows, with the last one up to the end of the ring.
-    pub(crate) fn into_rows(self) -> Result<DeltaRows, Memory>
-        ensures { IfOk result (λ rows. rows ≡ self.joined ++ spec.row_ended self.begun) }
+    pub(crate) fn into_rows(self) -> DeltaRows
+        ensures { result ≡ self.joined ++ spec.row_ended self.begun }
     {
-        let mut rows = self.joined;
-        push_last(&mut rows, self.begun)?;
-        Ok(rows)
+        let mut rows = self.rows;
+        end_with_ring(&mut rows);
+        DeltaRows::from_vec(rows)
     }
 }

@@ -83,7 +83,7 @@ impl Delta {
         ensures { IfOk result
             (λ delta. (rows : List AnyRow) → AreJoined rows changes → delta ≡ joined_from None rows) }
     {
-        let rows = changes.into_rows()?;
+        let rows = changes.into_rows();
         Ok(Delta { alloc, rows })
     }
 
@@ -109,6 +109,7 @@ impl Delta {
     /// `near` may be any position, and becomes that of the token's row. If it was this position or the one before, only
     /// these rows are looked at, so for ascending tokens that miss no row a look-up costs a few comparisons. Otherwise
     /// the cost is a binary search.
+    #[inline(always)]
     pub fn at_near(&self, t: Token, near: &mut usize) -> (&NodeSet, &NodeSet)
         ensures delta { (result.0.now, result.1.now) ≡ delta_at self.now t }
         ensures first { IsPartitionPoint (λ r. int_lt (last_token r.right) t ≡ true)

@@ -13,5 +13,5 @@ pub mod validity;
 pub use map_row::MapRow;
 pub use placement_map::PlacementMap;
 pub use placement_row::{PlacementRow, PlacementRows, rows_with_room, with_change};
-pub use row_changes::{RowChange, RowChanges};
+pub use row_changes::{NewNodes, RowChange, RowChanges};
 pub use row_edits::{RowEdit, RowEdits};

@@ -231,8 +231,8 @@ impl PlacementMap {
         edits.make(&mut self.rows);
     }
 
-    /// Exchanges the sets of some rows for new ones. Their ranges stay. A position past the last row changes nothing.
-    /// Takes no memory. The cost is a move of each new set.
+    /// Exchanges the reads or the writes of some rows for new ones. Their ranges and the other sets stay. A position past
+    /// the last row changes nothing. Takes no memory. The cost is a move of each new set.
     pub fn exchange(&mut self, changes: RowChanges)
         ensures { self.new ≡ with_changes changes self.old }
     {

@@ -44,6 +44,7 @@ pub(crate) fn put_row(rows: &mut PlacementRows, row: PlacementRow)
 }
 
 /// A set of nodes without the nodes that it loses, and with those that it gains. Fails only if memory runs out.
+#[inline(always)]
 pub fn with_change(set: &NodeSet, gained: &NodeSet, lost: &NodeSet) -> Result<NodeSet, Memory>
     ensures { IfOk result (λ other. other ≡ with_change set.now gained.now lost.now) }
 {

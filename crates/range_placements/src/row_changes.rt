@@ -1,22 +1,28 @@
 ghost use Rattle.std.specs.Prelude.{◌≡◌, [], ◌∷◌, ◌++◌, IfOk, MatchResult};
 ghost use Rattle.range_placements.specs.Exchanging as spec;
 
-use crate::placement_row::{PlacementRow, PlacementRows};
+use crate::placement_row::PlacementRows;
 use cluster_terms::Memory;
 use node_sets::NodeSet;
 use std::alloc::Global;
 use std::marker::Model;
 
-/// New sets for one row of a placement map.
+/// New nodes of a row: those that are read, or those that are written. The other set stays.
+#[derive(Debug, Drop)]
+pub enum NewNodes {
+    Reads(NodeSet),
+    Writes(NodeSet),
+}
+
+/// The new nodes of one row of a placement map.
 #[derive(Debug, Drop)]
 pub struct RowChange {
     /// The position of the row.
     pub at: usize,
-    pub reads: NodeSet,
-    pub writes: NodeSet,
+    pub nodes: NewNodes,
 }
 
-/// New sets for some rows of a placement map.
+/// The new nodes of some rows of a placement map.
 #[derive(Debug, Drop)]
 pub struct RowChanges {
     changes: Vec<RowChange>,
@@ -31,17 +37,16 @@ impl Model for RowChanges {
     ghost view = { λ changes. changes.changes.items };
 }
 
-/// Exchanges the sets of one row. A position past the last row changes nothing.
+/// Exchanges a set of one row. A position past the last row changes nothing.
 fn exchange(rows: &mut PlacementRows, change: RowChange)
-    ensures { rows.new.items ≡ spec.with_sets change.at (change.reads, change.writes) rows.old.items }
+    ensures { rows.new.items ≡ spec.with_nodes_at change.at change.nodes rows.old.items }
 {
-    if change.at < rows.len() {
-        let right = rows[change.at].right;
-        rows[change.at] = PlacementRow {
-            right,
-            reads: change.reads,
-            writes: change.writes,
-        };
+    let RowChange { at, nodes } = change;
+    if at < rows.len() {
+        match nodes {
+            NewNodes::Reads(reads) => rows[at].reads = reads,
+            NewNodes::Writes(writes) => rows[at].writes = writes,
+        }
     }
 }
 

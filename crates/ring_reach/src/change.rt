@@ -25,9 +25,12 @@ pub struct Change<'a> {
 fn tokens_of(alloc: Global, members: &Members, pairs: &[Pair]) -> Result<TokenSet, Memory>
     ensures { IfOk result (λ set. HaveSameTokens set (tokens_in (group_of members.now) pairs.now)) }
 {
-    let mut tokens = Vec::with_capacity(alloc, pairs.len())?;
+    let mut tokens = Vec::new(alloc);
     for pair in pairs {
         if members.rack_of(pair.node).is_some() {
+            if tokens.is_empty() {
+                tokens.reserve(pairs.len())?;
+            }
             tokens.push(pair.token)?;
         }
     }

@@ -1,15 +1,18 @@
 ghost use Rattle.std.specs.Prelude.{◌≡◌, ℤ, IfOk};
 ghost use Rattle.std.specs.List.{flat_map};
 ghost use Rattle.cluster_terms.specs.Replication.{groups_of};
+ghost use Rattle.token_ring.specs.Ranges.{AreCutOut, HaveTokens};
 ghost use Rattle.ring_reach.specs.Change.{reaches_any, tokens_of_both};
 ghost use Rattle.ring_reach.specs.Moved.{AreTokensAmong};
 ghost use Rattle.ring_reach.specs.Windows.{any_have, window_bounds};
 
 use crate::change::Change;
+use crate::rows::ranges_of;
 use crate::windows::Windows;
 use cluster_terms::{Memory, Name, Replication, Rf};
 use node_directory::{Directory, Members};
 use std::alloc::Global;
+use token_ring::RangeList;
 
 /// The windows of the tokens that a change reaches in each of these datacenters.
 fn windows_in_datacenters<'a>(
@@ -31,27 +34,26 @@ fn windows_in_datacenters<'a>(
     Ok(groups)
 }
 
-/// The windows of the tokens that a change reaches in each group of a replication. The cost is that of
-/// `Change::windows` for each group.
-pub fn windows_in_groups<'a>(
+/// The ranges of the tokens that a change reaches in the groups of a replication. The cost is that of
+/// `Change::windows` for each group, and of `ranges_of`.
+pub fn ranges_in_groups<'a>(
     alloc: Global,
     change: &Change<'a>,
     dir: &'a Directory,
     replication: &'a Replication,
-) -> Result<Vec<Windows>, Memory>
-    ensures reach { IfOk result (λ groups. (x : ℤ) → any_have groups.items x
-        ≡ reaches_any change.now (groups_of dir.now.rows replication.now) x) }
-    ensures bounds { IfOk result (λ groups.
-        AreTokensAmong (flat_map window_bounds groups.items) (tokens_of_both change.now)) }
+) -> Result<RangeList, Memory>
+    ensures reach { IfOk result (HaveTokens
+        (reaches_any change.now (groups_of dir.now.rows replication.now))) }
+    ensures bounds { IfOk result (AreCutOut (tokens_of_both change.now)) }
 {
     match replication {
         Replication::Simple(rf) => {
-            let mut groups = Vec::with_capacity(alloc, 1)?;
-            groups.push(change.windows(alloc, &Members::All(*rf))?)?;
-            Ok(groups)
+            let windows = change.windows(alloc, &Members::All(*rf))?;
+            ranges_of(alloc, &[windows])
         }
         Replication::Topology(factors) => {
-            windows_in_datacenters(alloc, change, dir, factors.rows())
+            let groups = windows_in_datacenters(alloc, change, dir, factors.rows())?;
+            ranges_of(alloc, &groups)
         }
     }
 }

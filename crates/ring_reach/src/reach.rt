@@ -8,9 +8,8 @@ ghost use Rattle.token_ring.specs.Ranges.{AreCutOut, HaveTokens, have_token};
 ghost use Rattle.cluster_terms.specs.Pair.{tokens_of};
 
 use crate::change::Change;
-use crate::groups::windows_in_groups;
-use crate::rows::{cuts_of, reached_rows};
-use cluster_terms::{Memory, Pair, Replication, rows_between};
+use crate::groups::ranges_in_groups;
+use cluster_terms::{Memory, Pair, Replication};
 use node_directory::Directory;
 use std::alloc::Global;
 use token_ring::{RangeList, Ring};
@@ -52,9 +51,5 @@ pub fn reached(
         widest,
         moved,
     };
-    let groups = windows_in_groups(alloc, &change, dir, replication)?;
-    let cuts = cuts_of(alloc, &groups)?;
-    let rows = rows_between(alloc, cuts.as_slice())?;
-    let chosen = reached_rows(alloc, &groups, rows.as_slice())?;
-    RangeList::of_rows(alloc, rows.as_slice(), &chosen)
+    ranges_in_groups(alloc, &change, dir, replication)
 }

@@ -1,13 +1,14 @@
-ghost use Rattle.std.specs.Prelude.{◌≡◌, ◌++◌, map, IfOk, OnOk};
+ghost use Rattle.std.specs.Prelude.{◌≡◌, ◌++◌, IfOk, OnOk};
 ghost use Rattle.std.specs.List.{flat_map};
-ghost use Rattle.cluster_terms.specs.Row as spec;
+ghost use Rattle.token_ring.specs.Ranges.{AreCutOut, HaveTokens};
 ghost use Rattle.ring_reach.specs.Moved.{HaveSameTokens};
 ghost use Rattle.ring_reach.specs.Windows.{any_have, window_bounds};
 
 use crate::token_set::TokenSet;
 use crate::windows::{Window, Windows};
-use cluster_terms::{Memory, Token, TokenRange};
+use cluster_terms::{Memory, Token};
 use std::alloc::Global;
+use token_ring::RangeList;
 
 /// Adds the tokens at which windows begin and end.
 fn push_bounds(bounds: &mut Vec<Token>, windows: &[Window]) -> Result<(), Memory>
@@ -38,18 +39,11 @@ fn is_reached(groups: &[Windows], t: Token) -> bool
     groups.iter().any(|windows| windows.has(t))
 }
 
-/// For each row, whether the windows of any group have its last token.
-pub fn reached_rows(
-    alloc: Global,
-    groups: &[Windows],
-    rows: &[TokenRange],
-) -> Result<Vec<bool>, Memory>
-    ensures { IfOk result (λ reached. reached.items ≡ map
-        (λ row. any_have groups.now (spec.last_token row.right)) rows.now) }
+/// The ranges of the tokens that the windows of any group have. Their bounds are bounds of the windows.
+pub fn ranges_of(alloc: Global, groups: &[Windows]) -> Result<RangeList, Memory>
+    ensures reach { IfOk result (HaveTokens (any_have groups.now)) }
+    ensures bounds { IfOk result (AreCutOut (flat_map window_bounds groups.now)) }
 {
-    let mut reached = Vec::with_capacity(alloc, rows.len())?;
-    for row in rows {
-        reached.push(is_reached(groups, row.last_token()))?;
-    }
-    Ok(reached)
+    let cuts = cuts_of(alloc, groups)?;
+    RangeList::of_rows(alloc, cuts.as_slice(), |t| is_reached(groups, t))
 }

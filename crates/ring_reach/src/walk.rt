@@ -28,6 +28,7 @@ impl<'a> Walk<'a> {
     /// Walks back over the pairs from the last to the first, and meets their nodes. Returns where the walk ends: at the
     /// token at which the tally lacks nothing more, or at the left end of the span if a pair is past it. Returns `None`
     /// if the walk goes on.
+    #[inline(always)]
     fn back(&self, span: &Window, pairs: &[Pair], tally: &mut Tally<'a>) -> Option<Token>
         ensures left { result ≡ spec.back (spec.course_of self.now) span.now pairs.now tally.old }
         ensures tally { result ≡ None

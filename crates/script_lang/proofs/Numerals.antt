@@ -1,15 +1,14 @@
--- Numbers in decimal digits: what `number_below` says of a text, and when `parse` gives it.
-use Rattle.std.proofs.Common.{◌↔◌, refl, ◌≡◌, ◌≢◌, ℕ, ◌^◌, ◌<◌, ◌≤◌, ◌&&◌, ◌||◌, ◌==◌, true, false, if◌then◌else◌, List, [], ◌∷◌, length, Option, Some, None, Result, Ok, Err, nat_lt, nat_le, arith, sym, ◌∙◌, ◌⊎◌, inl, inr, ap, subst, get_or}
+-- Numbers in decimal digits: what `number_below` says of a text, and how its digits are read.
+use Rattle.std.proofs.Common.{◌↔◌, refl, ◌≡◌, ◌≢◌, ℕ, ◌^◌, ◌+◌, ◌*◌, ◌<◌, ◌≤◌, ◌&&◌, ◌||◌, ◌==◌, true, false, if◌then◌else◌, List, [], ◌∷◌, length, Option, Some, None, nat_lt, nat_le, arith, sym, ◌∙◌, ◌⊎◌, inl, inr, ap, subst, get_or}
 use Rattle.std.specs.Fmt.{decimal}
-use Rattle.std.specs.Result.{OkIff, result_ok}
-use Rattle.std.specs.Str.{IsUtf8}
-use Rattle.std.specs.Str.Parse.{digits_value, AllDigits, ParsesUnsigned}
+use Rattle.std.specs.Char.{digit_value}
+use Rattle.std.specs.Option.{SomeIff}
+use Rattle.std.specs.Str.Parse.{digits_value, digits_value_after, AllDigits}
 use Rattle.std.proofs.lemmas.Bool.{cases_lt}
 use Rattle.std.proofs.lemmas.Bool.Decides.{nat_tests}
-use Rattle.std.proofs.lemmas.Fmt.{decimal_is_IsNumeral, decimal_digit, decimal-digits_value, decimal_nonempty, decimal_injective, first_decimal, IsAscii-decimal}
+use Rattle.std.proofs.lemmas.Fmt.{decimal_is_IsNumeral, decimal_digit, decimal-digits_value, decimal_nonempty, decimal_injective, first_decimal}
 use Rattle.std.proofs.lemmas.Slice.Eq.{bytes_eq-Decides}
-use Rattle.std.proofs.lemmas.Str.{IsUtf8-from_ascii}
-use Rattle.std.proofs.lemmas.Str.Parse.{IsNumeralModel, numerals_by_value, tells_digits, digit_at, parse_plain}
+use Rattle.std.proofs.lemmas.Str.Parse.{IsNumeralModel, numerals_by_value, tells_digits, digit_at}
 use Rattle.script_lang.specs.Grammar.{number_below}
 
 own : IsNumeralModel (AllDigits 10) (digits_value 10)
@@ -43,32 +42,69 @@ start n fits =
     by_size (inl some) zero = (let first = first_decimal n some fits in absurd (omega arith))
     by_size (inr none) zero = ap length (decimal_digit n (omega arith))
 
--- a text that begins with a plus sign or a leading zero is no number
-pub refused_at_start : (text : List ℕ) → ((get_or text 0 0 == 43) || ((get_or text 0 0 == 48) && nat_le 2 (length text))) ≡ true → number_below (2 ^ 64) text ≡ None
-refused_at_start text odd = refused (2 ^ 64) text (λ n below e. let at = start n below in let same = ap (λ (t : List ℕ). get_or t 0 0) e in let long = ap length e in grind (arith, nat_tests, at.1, at.2))
+-- an empty text and one that begins with a leading zero are no number
+pub refused_at_start : (text : List ℕ) → ((length text == 0) || ((get_or text 0 0 == 48) && nat_le 2 (length text))) ≡ true → number_below (2 ^ 64) text ≡ None
+refused_at_start text odd = refused (2 ^ 64) text (λ n below e. let at = start n below in let some = decimal_nonempty n below in let same = ap (λ (t : List ℕ). get_or t 0 0) e in let long = ap length e in grind (arith, nat_tests, at.1))
 
--- nor is one that is no UTF-8
-pub refused_at_utf8 : (text : List ℕ) → (IsUtf8 text → ⊥) → number_below (2 ^ 64) text ≡ None
-refused_at_utf8 text bad = refused (2 ^ 64) text (λ n below e. bad (subst IsUtf8 (sym e) (IsUtf8-from_ascii (decimal n) (IsAscii-decimal n below))))
+-- ---- the digits of a number, from the left
 
--- of any other text `parse` gives the number
-parsed_at : {E : Type 0} (text : List ℕ) (r : Result ℕ E) → (get_or text 0 0 ≡ 48 → length text ≡ 1) → OkIff r (AllDigits 10 text × (0 < length text) × (digits_value 10 text < 2 ^ 64)) (digits_value 10 text) → result_ok r ≡ number_below (2 ^ 64) text
-parsed_at text (Ok x) plain h =
-    let fits : x < 2 ^ 64 = omega arith in
-    let same : decimal (digits_value 10 text) ≡ text = decimal-digits_value own text h.0.0 h.0.1 plain h.0.2 in
-    sym (written (2 ^ 64) x text fits fits (sym same ∙ ap decimal (sym h.1)))
-parsed_at text (Err e) plain h =
-    sym (refused (2 ^ 64) text (λ n below e. h (subst (λ (t : List ℕ). AllDigits 10 t × (0 < length t) × (digits_value 10 t < 2 ^ 64)) (sym e) (numeral n below))))
+-- the number so far and the digits that are left write what all the digits write
+pub record ReadsDigits (ds : List ℕ) (n : ℕ) (left : List ℕ) : Type 0 where
+  pub value : digits_value_after 10 n left ≡ digits_value 10 ds
+  pub fits : n < 2 ^ 64
+  pub to : AllDigits 10 ds → AllDigits 10 left
+  pub from : AllDigits 10 left → AllDigits 10 ds
+
+pub reads_start : (ds : List ℕ) → ReadsDigits ds 0 ds
+reads_start ds = record { value = refl; fits = omega arith; to = λ d. d; from = λ d. d }
+
+-- the next digit
+pub reads_more : (ds : List ℕ) (n c : ℕ) (cs left : List ℕ) → left ≡ c ∷ cs → ReadsDigits ds n left → (digit_value c < 10) × (n * 10 + digit_value c < 2 ^ 64) → ReadsDigits ds (n * 10 + digit_value c) cs
+reads_more ds n c cs left e h next = at (subst (ReadsDigits ds n) e h)
   where
-    numeral : (n : ℕ) → n < 2 ^ 64 → AllDigits 10 (decimal n) × (0 < length (decimal n)) × (digits_value 10 (decimal n) < 2 ^ 64)
-    numeral n below = let is = decimal_is_IsNumeral n below in (is.0.1, is.0.0, omega arith)
+    at : ReadsDigits ds n (c ∷ cs) → ReadsDigits ds (n * 10 + digit_value c) cs
+    at h = record { value = h.value; fits = next.1; to = λ d. (h.to d).1; from = λ d. h.from (next.0, d) }
 
-pub parsed : {E : Type 0} (text : List ℕ) (r : Result ℕ E) → ParsesUnsigned 64 10 text r → ((get_or text 0 0 == 43) || ((get_or text 0 0 == 48) && nat_le 2 (length text))) ≡ false → result_ok r ≡ number_below (2 ^ 64) text
-parsed text r h plain = parsed_at text r (single text plain) (parse_plain own 64 text r h (grind (arith, nat_tests)))
+-- further digits make a number no smaller
+after-ge : (n : ℕ) (ds : List ℕ) → n ≤ digits_value_after 10 n ds
+after-ge n [] = omega arith
+after-ge n (c ∷ cs) = omega (arith, after-ge (n * 10 + digit_value c) cs)
+
+-- what is read of a text: its number, where all bytes are digits and the number fits
+abbrev pub IsRead : List ℕ → Option ℕ → Type 0
+IsRead ds r = SomeIff r (AllDigits 10 ds × (digits_value 10 ds < 2 ^ 64)) (digits_value 10 ds)
+
+pub reads_end : (ds : List ℕ) (n : ℕ) (left : List ℕ) → left ≡ [] → ReadsDigits ds n left → IsRead ds (Some n)
+reads_end ds n left e h = at (subst (ReadsDigits ds n) e h)
   where
-    single : (text : List ℕ) → ((get_or text 0 0 == 43) || ((get_or text 0 0 == 48) && nat_le 2 (length text))) ≡ false → get_or text 0 0 ≡ 48 → length text ≡ 1
-    single [] plain zero = absurd (omega arith)
-    single (c ∷ cs) plain zero = grind (arith, nat_tests, length)
+    at : ReadsDigits ds n [] → IsRead ds (Some n)
+    at h = ((h.from tt, omega (arith, h.value, h.fits)), h.value)
+
+pub reads_none : (ds : List ℕ) (n c : ℕ) (cs left : List ℕ) → left ≡ c ∷ cs → ReadsDigits ds n left → ((digit_value c < 10) × (n * 10 + digit_value c < 2 ^ 64) → ⊥) → IsRead ds None
+reads_none ds n c cs left e h odd = at (subst (ReadsDigits ds n) e h)
+  where
+    at : ReadsDigits ds n (c ∷ cs) → IsRead ds None
+    at h is = odd ((h.to is.0).0, omega (arith, is.1, h.value, after-ge (n * 10 + digit_value c) cs))
+
+-- what is read of a text that is not empty and has no leading zero is its number
+pub read_is : (text : List ℕ) (r : Option ℕ) → ((length text == 0) || ((get_or text 0 0 == 48) && nat_le 2 (length text))) ≡ false → IsRead text r → r ≡ number_below (2 ^ 64) text
+read_is text r plain h = read_at r h
+  where
+    some : 0 < length text
+    some = grind (arith, nat_tests)
+
+    single : get_or text 0 0 ≡ 48 → length text ≡ 1
+    single zero = grind (arith, nat_tests)
+
+    numeral : (n : ℕ) → n < 2 ^ 64 → AllDigits 10 (decimal n) × (digits_value 10 (decimal n) < 2 ^ 64)
+    numeral n below = let is = decimal_is_IsNumeral n below in (is.0.1, omega arith)
+
+    read_at : (r : Option ℕ) → IsRead text r → r ≡ number_below (2 ^ 64) text
+    read_at (Some x) h =
+        let fits : x < 2 ^ 64 = omega arith in
+        let same : decimal (digits_value 10 text) ≡ text = decimal-digits_value own text h.0.0 some single h.0.1 in
+        sym (written (2 ^ 64) x text fits fits (sym same ∙ ap decimal (sym h.1)))
+    read_at None h = sym (refused (2 ^ 64) text (λ n below e. h (subst (λ (t : List ℕ). AllDigits 10 t × (digits_value 10 t < 2 ^ 64)) (sym e) (numeral n below))))
 
 -- a number, where it is below a further limit
 abbrev pub kept_below : ℕ → Option ℕ → Option ℕ

@@ -20,6 +20,7 @@ const LINE_LIMIT: usize = 16_384;
 /// Fails only if memory runs out. A line that is too long takes no memory. The cost is a few passes over the bytes, and
 /// a sort of the tokens of a command.
 #[tactic(auto, unfolding(crate::specs::Grammar::line_of))]
+#[inline(always)]
 pub fn parse_line(alloc: Global, bytes: &[u8]) -> Result<Option<ScriptLine>, Memory>
     ensures meaning { IfOk result (λ found. found ≡ spec.line_of bytes.now) }
     ensures tokens { IfOk result (λ found. IfSome found spec.HasTokens) }
@@ -38,6 +39,7 @@ pub fn parse_line(alloc: Global, bytes: &[u8]) -> Result<Option<ScriptLine>, Mem
 
 /// The line of these words, whose first word tells its kind. Returns `None` if and only if the words are in no form.
 #[tactic(auto, unfolding(crate::specs::Grammar::line_of_words))]
+#[inline(always)]
 fn line_of_words(alloc: Global, words: &[&[u8]]) -> Result<Option<ScriptLine>, Memory>
     ensures { IfOk result (λ found. found ≡ spec.line_of_words (map (λ word. word.now) words.now)) }
 {

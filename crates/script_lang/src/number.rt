@@ -1,7 +1,9 @@
 //! Numbers as script lines write them.
 
-ghost use Rattle.std.specs.Prelude.{◌≡◌, ◌↔◌, ◌<◌, ◌≤◌, ◌==◌, ◌&&◌, ◌||◌, ◌^◌, ℕ, ℤ, List, length, slice_index, Some, nat_le, decimal};
+ghost use Rattle.std.specs.Prelude.{◌≡◌, ◌↔◌, ◌<◌, ◌≤◌, ◌==◌, ◌&&◌, ◌||◌, ◌^◌, ◌+◌, ◌*◌, ℕ, ℤ, List, length, slice_index, Some, SomeIff, nat_le, decimal};
+ghost use Rattle.std.specs.Char.{digit_value};
 ghost use Rattle.std.specs.Fmt.{signed_decimal};
+ghost use Rattle.std.specs.Str.Parse.{AllDigits, digits_value};
 ghost use Rattle.cluster_terms.specs.Arc.{IsToken};
 ghost use Rattle.script_lang.specs.Grammar as spec;
 
@@ -12,21 +14,41 @@ use cluster_terms::NodeId;
 pub fn number_of(text: &[u8]) -> Option<u64>
     ensures { result ≡ spec.number_below (2 ^ 64) text.now }
 {
-    if has_plus_or_leading_zero(text) {
+    if is_empty_or_has_leading_zero(text) {
         return None;
     }
-    let Ok(digits) = std::str::from_utf8(text) else {
-        return None;
-    };
-    digits.parse().ok()
+    value_of(text)
 }
 
-/// Whether a text begins with a plus sign or a leading zero, which `parse` would accept.
-fn has_plus_or_leading_zero(text: &[u8]) -> bool
-    ensures { result ≡ (slice_index text.now 0 == 43)
+/// Whether a text is empty, or has a zero before its other bytes.
+fn is_empty_or_has_leading_zero(text: &[u8]) -> bool
+    ensures { result ≡ (length text.now == 0)
         || ((slice_index text.now 0 == 48) && nat_le 2 (length text.now)) }
 {
-    matches!(text, [b'+', ..] | [b'0', _, ..])
+    matches!(text, [] | [b'0', _, ..])
+}
+
+/// The number that decimal digits write. Returns `None` if and only if a byte is not a digit or the number is not below
+/// 2^64.
+fn value_of(digits: &[u8]) -> Option<u64>
+    ensures { SomeIff result (AllDigits 10 digits.now × (digits_value 10 digits.now < 2 ^ 64)) (digits_value 10 digits.now) }
+{
+    let mut value = 0;
+    for byte in digits {
+        value = with_digit(value, *byte)?;
+    }
+    Some(value)
+}
+
+/// The number with one more digit at its end. Returns `None` if and only if the byte is not a digit or the number is not
+/// below 2^64.
+fn with_digit(number: u64, byte: u8) -> Option<u64>
+    ensures { SomeIff result ((digit_value byte < 10) × (number * 10 + digit_value byte < 2 ^ 64)) (number * 10 + digit_value byte) }
+{
+    if !byte.is_ascii_digit() {
+        return None;
+    }
+    number.checked_mul(10)?.checked_add(u64::from(byte - b'0'))
 }
 
 /// The node whose id a text writes: a number below 2^32.

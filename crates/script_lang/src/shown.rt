@@ -19,6 +19,7 @@ pub trait Shown {
 }
 
 /// Adds a label and the text of a value. If memory runs out, `out` still begins with its old content.
+#[inline(always)]
 pub fn labelled<T: Shown>(label: &[u8], item: &T, out: &mut ByteText) -> Result<(), Memory>
     ensures added { OnOk result (out.new ≡ out.old ++ (label.now ++ T.text item.now)) }
     ensures kept { take (length out.old) out.new ≡ out.old }
@@ -38,6 +39,7 @@ impl Shown for u32 {
 impl Shown for u64 {
     ghost text = { decimal };
 
+    #[inline(always)]
     fn show(&self, out: &mut ByteText) -> Result<(), Memory> {
         out.extend(Buffer::new().format(*self).as_bytes())
     }
@@ -46,6 +48,7 @@ impl Shown for u64 {
 impl Shown for NodeId {
     ghost text = { decimal };
 
+    #[inline(always)]
     fn show(&self, out: &mut ByteText) -> Result<(), Memory> {
         out.extend(Buffer::new().format(self.0).as_bytes())
     }
@@ -54,6 +57,7 @@ impl Shown for NodeId {
 impl Shown for Token {
     ghost text = { signed_decimal };
 
+    #[inline(always)]
     fn show(&self, out: &mut ByteText) -> Result<(), Memory> {
         out.extend(Buffer::new().format(self.value()).as_bytes())
     }

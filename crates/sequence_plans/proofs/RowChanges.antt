@@ -19,11 +19,11 @@ module _ (ranges : List TokenRange) (one other : ℤ → List ℕ) (row : TokenR
       nodes : (f : ℤ → List ℕ) (ns : List ℕ) → ns ≡ f last → ns ≡ nodes_in_ranges ranges f row
       nodes f ns e = e ∙ ap f is ∙ ap (λ (b : Bool). if b then f (last_token row.right) else []) (token_is true there)
 
-  pub outside_ranges : (none : List ℕ) → have_token ranges last ≡ false → none ≡ [] → change_row row.right none none ≡ change_at ranges one other row
-  outside_ranges none beside is_none = λ i. change_row row.right (nodes one i) (nodes other i)
+  pub outside_ranges : have_token ranges last ≡ false → change_row row.right [] [] ≡ change_at ranges one other row
+  outside_ranges beside = λ i. change_row row.right (nodes one i) (nodes other i)
     where
-      nodes : (f : ℤ → List ℕ) → none ≡ nodes_in_ranges ranges f row
-      nodes f = is_none ∙ ap (λ (b : Bool). if b then f (last_token row.right) else []) (token_is false beside)
+      nodes : (f : ℤ → List ℕ) → [] ≡ nodes_in_ranges ranges f row
+      nodes f = ap (λ (b : Bool). if b then f (last_token row.right) else []) (token_is false beside)
 
 -- one row more
 pub changes_more : (f : TokenRange → DeltaRow) (rows : List TokenRange) (i : ℕ) (row : TokenRange) → i < length rows → row ≡ get_or rows i row → map f (take (i + 1) rows) ≡ map f (take i rows) ++ f row ∷ []

@@ -144,6 +144,7 @@ impl DeltaBooks {
                 ranges,
             } = range_row;
             let near = near_cuts(alloc, cuts, ranges.as_slice())?;
+            let near = near.as_slice();
             let count = near.len();
             let placers = rings.placers(alloc, image, row, dir, at, replication, count)?;
             let deltas = deltas_under(
@@ -153,7 +154,7 @@ impl DeltaBooks {
                 replication,
                 &placers,
                 ranges,
-                &near,
+                near,
                 walks,
             )?;
             books.push(replication, deltas)?;

@@ -8,7 +8,6 @@ ghost use Rattle.sequence_plans.specs.RowChanges.{change_at};
 
 use crate::movement_rings::MovementPlacers;
 use cluster_terms::{Memory, Steps, TokenRange};
-use node_sets::NodeSet;
 use placement_deltas::Changes;
 use std::alloc::Global;
 use std::sync::ledger::Ledger;
@@ -35,8 +34,7 @@ fn push_row<L: Ledger>(
         let after = placers.after.place(alloc, last, walks)?;
         changes.push(row.right, &before, &after)
     } else {
-        let none = NodeSet::empty(alloc);
-        changes.push(row.right, &none, &none)
+        changes.push_unchanged(row.right)
     }
 }
 

@@ -25,6 +25,7 @@ pub struct NamedFollower {
 }
 
 /// The position of the first follower with this name. Returns `None` if and only if there is none.
+#[inline(always)]
 pub fn place_of(followers: &[NamedFollower], name: &Name) -> Option<usize>
     ensures { result ≡ position (λ f. bytes_eq f.name name.now) followers.now }
 {
@@ -86,6 +87,7 @@ fn took_text(took: Took, out: &mut ByteText) -> Result<(), Memory>
 
 /// Answers a line that handed something to a follower, with what became of it. A session hands over what its log says,
 /// so a fork, a refusal and a bad image don't come.
+#[inline(always)]
 pub fn answer_handed(
     handed: Result<Took, FollowerFault>,
     out: &mut ByteText,

@@ -2,4 +2,3 @@ pub mod Bounds
 pub mod Joining
 pub mod Ranges
 pub mod Ring
-pub mod Rows

@@ -1,5 +1,5 @@
 -- Ranges of tokens, which exclude the left end and include the right end.
-use Rattle.std.specs.Prelude.{◌≡◌, Bool, true, false, ◌&&◌, ◌||◌, ℤ, int_le, int_lt, List, option_map, find, Option, Some, None}
+use Rattle.std.specs.Prelude.{◌≡◌, Bool, true, false, ◌&&◌, ◌||◌, ℤ, int_le, int_lt, List, map, option_map, find, Option, Some, None}
 use Rattle.std.specs.List.{list_any, AllByRecursion, AllPairs, zip}
 use Rattle.std.specs.Ordering.{int_eq}
 use Rattle.std.specs.Set.{is_member}
@@ -67,6 +67,14 @@ is_chosen_row t row = is_within t row.0 && row.1
 
 abbrev pub have_chosen : List TokenRange → List Bool → ℤ → Bool
 have_chosen rows chosen t = list_any (is_chosen_row t) (zip rows chosen)
+
+-- whether the last token of each row passes a test
+abbrev pub chosen_by : (ℤ → Bool) → List TokenRange → List Bool
+chosen_by test rows = map (λ row. test (last_token row.right)) rows
+
+-- at each token, the one answer of these is that of a test
+abbrev pub AnswersAs : (ℤ → Bool → Type 0) → (ℤ → Bool) → Type 0
+AnswersAs answers test = (t : ℤ) (b : Bool) → IsToken t → answers t b → b ≡ test t
 
 -- the right end of the first row between cuts that is in both lists of ranges
 abbrev pub is_common : List TokenRange → List TokenRange → TokenRange → Bool

@@ -1,4 +1,4 @@
-ghost use Rattle.std.specs.Prelude.{◌≡◌, ℤ, List, int_lt, true, false, ◌||◌, [], ◌∷◌, ◌++◌, ◌≤◌, length, map, IfOk, MatchResult};
+ghost use Rattle.std.specs.Prelude.{◌≡◌, Bool, ℤ, List, int_lt, true, false, ◌||◌, [], ◌∷◌, ◌++◌, ◌≤◌, length, map, IfOk, OnOk, MatchResult};
 ghost use Rattle.std.specs.List.{AllByRecursion};
 ghost use Rattle.std.specs.List.Sorted.{IsPartitionPoint, IsStrictlySortedBy};
 ghost use Rattle.std.specs.Ordering.{int_cmp};
@@ -6,11 +6,10 @@ ghost use Rattle.cluster_terms.specs.Arc.{IsToken};
 ghost use Rattle.cluster_terms.specs.Row as spec;
 ghost use Rattle.cluster_terms.specs.declared.row.TokenRange.{TokenRange as AnyRange};
 ghost use Rattle.token_ring.specs.Bounds.{bounds_of};
-ghost use Rattle.token_ring.specs.Ranges.{have_token, either_has, HaveTokens, ends_before, IsRange, IsRangeList, AreCutOut, have_chosen};
-ghost use Rattle.token_ring.specs.Rows.{AreBetweenCuts};
+ghost use Rattle.token_ring.specs.Ranges.{have_token, either_has, HaveTokens, ends_before, IsRange, IsRangeList, AreCutOut, have_chosen, chosen_by, AnswersAs};
 
 use crate::bounds::bounds_of_both;
-use crate::joining::joined;
+use crate::joining::{joined, joined_where};
 use cluster_terms::{Memory, Token, TokenRange, TryCopy, rows_between};
 use std::alloc::Global;
 use std::marker::Model;
@@ -108,16 +107,22 @@ impl RangeList {
         Ok(RangeList { ranges })
     }
 
-    /// The ranges that `from_rows` makes, for a caller that has the rows between the cuts. The cost is one pass over the
-    /// rows.
-    pub fn of_rows(alloc: Global, rows: &[TokenRange], chosen: &[bool]) -> Result<RangeList, Memory>
-        requires rows { AreBetweenCuts rows.now }
-        requires one { length chosen.now ≡ length rows.now }
-        ensures ranges { IfOk result (HaveTokens (have_chosen rows.now chosen.now)) }
-        ensures bounds { IfOk result
-            (λ ranges. (cuts : List ℤ) → rows.now ≡ spec.rows_between cuts → AreCutOut cuts ranges) }
+    /// The ranges of those rows between ascending cuts whose last token passes a test, with adjacent rows joined. The
+    /// cost is one pass over the cuts, and one test for each row.
+    pub fn of_rows<F: Fn(Token) -> bool>(
+        alloc: Global,
+        cuts: &[Token],
+        test: F,
+    ) -> Result<RangeList, Memory>
+        requires ascending { IsStrictlySortedBy int_cmp cuts.now }
+        requires calls { F.IsAlwaysCallable test }
+        ensures ranges { IfOk result (λ ranges. (has : ℤ → Bool) → AnswersAs (F.post test) has
+            → HaveTokens (have_chosen (spec.rows_between cuts.now)
+            (chosen_by has (spec.rows_between cuts.now))) ranges) }
+        ensures bounds { IfOk result (λ ranges. AreCutOut cuts.now ranges) }
+        ensures tokens { OnOk result (AllByRecursion IsToken cuts.now) }
     {
-        let ranges = joined(alloc, rows, chosen)?;
+        let ranges = joined_where(alloc, cuts, test)?;
         Ok(RangeList { ranges })
     }
 

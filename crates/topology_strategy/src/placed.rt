@@ -7,6 +7,7 @@ use cluster_terms::{Memory, NodeId};
 use node_sets::NodeSet;
 
 /// Adds nodes to a set. Takes memory only for more than 7 nodes. If memory runs out, the set is unchanged.
+#[inline(always)]
 pub fn add_nodes(placed: &mut NodeSet, nodes: &[NodeId]) -> Result<(), Memory>
     ensures ascend { OnOk result (IsNodeSet placed.new) }
     ensures nodes { OnOk result ((v : ℕ) → has_node placed.new v

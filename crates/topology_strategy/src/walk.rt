@@ -93,10 +93,14 @@ impl<'a> Walk<'a> {
     /// Continues the walk along these pairs, until `wanted` nodes are taken, which are at most 16. A node that comes
     /// several times in a row is looked at once.
     #[tactic(auto, using(crate::proofs::GroupWalks::found_full))]
+    #[inline(always)]
     pub fn go_along(&mut self, members: &Members<'a>, wanted: usize, pairs: &[Pair])
         requires { wanted ≤ 16 }
         ensures { self.new ≡ found_after (group_of members.now) wanted (nodes_of pairs.now) self.old }
     {
+        if self.taken.len() >= wanted {
+            return;
+        }
         let mut last = None;
         for pair in pairs {
             if self.taken.len() >= wanted {

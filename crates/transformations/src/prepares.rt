@@ -1,6 +1,6 @@
 //! Refusals of commands that prepare movements.
 
-ghost use Rattle.std.specs.Prelude.{◌≡◌, ◌==◌, filter, find, is_some, length, IfOk};
+ghost use Rattle.std.specs.Prelude.{◌≡◌, ◌==◌, filter, find, is_some, length, nat_lt, IfOk};
 ghost use Rattle.std.specs.List.{list_any};
 ghost use Rattle.std.specs.Option.{option_copied};
 ghost use Rattle.cluster_terms.specs.Group.{nodes_of};
@@ -96,18 +96,27 @@ fn is_in(nodes: &[NodeRow], dc: &Name, n: NodeId) -> bool
     row_of(nodes, n).is_some_and(|row| row.dc.as_str() == dc.as_str())
 }
 
-/// The number of these nodes that are registered in a datacenter.
-fn count_in(nodes: &[NodeRow], dc: &Name, ids: &[NodeId]) -> usize
-    ensures { result ≡ length (within nodes.now dc.now ids.now) }
+/// Whether more than `most` of these nodes are registered in a datacenter. Looks no further than needed.
+fn has_more_in(nodes: &[NodeRow], dc: &Name, ids: &[NodeId], most: usize) -> bool
+    ensures { result ≡ nat_lt most (length (within nodes.now dc.now ids.now)) }
 {
-    ids.iter().filter(|n| is_in(nodes, dc, **n)).count()
+    let mut count = 0;
+    for n in ids {
+        if is_in(nodes, dc, *n) {
+            if count == most {
+                return true;
+            }
+            count += 1;
+        }
+    }
+    false
 }
 
 /// Whether a datacenter is that of node `n`, and has no more nodes of `ids` than it is to have replicas.
 fn is_short_in(nodes: &[NodeRow], ids: &[NodeId], n: NodeId, row: &(Name, Rf)) -> bool
     ensures { result ≡ is_short_of ids.now n (datacenter_group nodes.now row.now) }
 {
-    is_in(nodes, &row.0, n) && count_in(nodes, &row.0, ids) <= usize::from(row.1.value())
+    is_in(nodes, &row.0, n) && !has_more_in(nodes, &row.0, ids, usize::from(row.1.value()))
 }
 
 /// Whether `is_short_in` holds for any of these datacenters.

@@ -1,12 +1,13 @@
-use Rattle.std.proofs.Common.{◌≡◌, ◌++◌, ◌∷◌, [], refl, ap, sym, subst}
+use Rattle.std.proofs.Common.{◌≡◌, ◌++◌, ◌∷◌, ◌∙◌, ℕ, ℤ, List, [], ap, sym, subst}
 use Rattle.std.proofs.lemmas.Result.{on_ok_weaker}
-use Rattle.std.specs.Prelude.{MatchResult, OnOk, Result, Ok, Err}
-use Rattle.cluster_terms.specs.Row.{last_token}
+use Rattle.std.specs.Prelude.{MatchResult, OnOk, Option, Result, Ok, Err}
 use Rattle.placement_deltas.specs.Deltas.{delta_at}
-use Rattle.range_placements.specs.declared.placement_row.PlacementRow.{PlacementRow}
+use Rattle.range_placements.specs.Changing.{row_changed}
+use Rattle.range_placements.specs.Exchanging.{with_nodes}
+use Rattle.range_placements.specs.declared.row_changes.NewNodes.{NewNodes}
 use Rattle.range_placements.specs.declared.row_changes.RowChange.{RowChange}
 use Rattle.cluster_metadata.proofs.placement_maps.TurnedSets.{turned_added}
-use Rattle.cluster_metadata.specs.Turns.{AddsTurned, turned}
+use Rattle.cluster_metadata.specs.Turns.{AddsTurned, row_to, turned, with_turned}
 use Rattle.cluster_metadata.proofs.turning.push_turned.Goals as goal
 
 -- what holds in both cases holds if there is a value
@@ -14,12 +15,19 @@ at_ok : {T E : Type 0} (r : Result T E) (P Q : Type 0) → MatchResult r (λ _. 
 at_ok (Ok x) P Q holds = holds
 at_ok (Err y) P Q holds = tt
 
-pub returns : goal.returns
-returns c =
+pub returns-in-Some : goal.returns-in-Some
+returns-in-Some c =
     let row = c.args.row.now in
-    let sets : (c.in_ok-reads.field-0.reads, c.in_ok-reads.field-0.writes) ≡ turned c.args.turn (row.reads, row.writes) (delta_at c.args.delta.now (last_token row.right)) =
-    ap (λ (r : PlacementRow). (r.reads, r.writes)) c.in_ok-reads.ensures in
-    let change : RowChange = record { at = c.args.at; reads = c.in_ok-reads.field-0.reads; writes = c.in_ok-reads.field-0.writes } in
+    let delta = c.args.delta.now in
+    let before = c.args.changes.now in
+    let nodes = c.in-Some.nodes in
+    let change : RowChange = record { at = c.args.at; nodes = nodes } in
+    let new : with_nodes nodes row ≡ row_changed (turned c.args.turn) delta row =
+    ap (λ (found : Option NewNodes). with_turned found row) (sym c.in-Some.is)
+    ∙ c.in_ok-nodes.ensures
+    ∙ ap (λ (change : List ℕ × List ℕ). row_to row.right (turned c.args.turn (row.reads, row.writes) change))
+    (c.at_near.ensures.delta ∙ ap (λ (x : ℤ). delta_at delta x) c.last_token.ensures) in
     on_ok_weaker c.push.result
-    (λ made. subst (AddsTurned c.args.turn c.args.delta.now c.args.at row c.args.changes.now) (sym made)
-    (turned_added c.args.turn c.args.delta.now c.args.at row c.args.changes.now change refl sets)) (at_ok c.push.result (c.push.new.self ≡ c.args.changes.now ++ change ∷ []) (c.push.new.self ≡ c.args.changes.now) c.push.ensures)
+    (λ made. subst (AddsTurned c.args.turn delta c.args.at row before) (sym made)
+    (turned_added c.args.turn delta c.args.at row before nodes new))
+    (at_ok c.push.result (c.push.new.self ≡ before ++ change ∷ []) (c.push.new.self ≡ before) c.push.ensures)

@@ -8,4 +8,4 @@ use Rattle.placement_deltas.proofs.joining.change_row.Goals as goal
 pub returns-then-eq : goal.returns-then-eq
 returns-then-eq c =
     let equal = (slice_eq-Decides Decides-eqb c.ids.result.now c.ids-2.result.now (pointwise nat_eq c.ids.result.now c.ids-2.result.now) refl).0 (sym c.if-eq.ensures) in
-    rw (c.empty.ensures, c.empty-then-eq.ensures) (sym (unchanged_row c.args.right c.args.before.now c.args.after.now (sym c.ids.ensures.ids ∙ equal ∙ c.ids-2.ensures.ids)))
+    c.unchanged_row.ensures ∙ sym (unchanged_row c.args.right c.args.before.now c.args.after.now (sym c.ids.ensures.ids ∙ equal ∙ c.ids-2.ensures.ids))

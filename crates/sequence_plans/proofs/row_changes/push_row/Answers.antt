@@ -16,6 +16,6 @@ returns-in_ok-after g c =
 pub returns-else-contains : goal.returns-else-contains
 returns-else-contains g c =
     let is =
-    outside_ranges c.args.ranges.now (nodes_by c.args.placers.now.before) (placed_by c.args.placers.now.after) c.args.row.now c.last_token-last.result c.last_token-last.ensures _
-    (sym c.if-contains.ensures) c.empty-none.ensures in
-    subst (λ (row : DeltaRow). OnOk c.push-else-contains.result (AreWithRow c.args.changes.now row c.push-else-contains.new.self)) is c.push-else-contains.ensures
+    outside_ranges c.args.ranges.now (nodes_by c.args.placers.now.before) (placed_by c.args.placers.now.after) c.args.row.now c.last_token-last.result c.last_token-last.ensures
+    (sym c.if-contains.ensures) in
+    subst (λ (row : DeltaRow). OnOk c.push_unchanged.result (AreWithRow c.args.changes.now row c.push_unchanged.new.self)) is c.push_unchanged.ensures

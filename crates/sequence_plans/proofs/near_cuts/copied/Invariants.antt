@@ -1,6 +1,6 @@
 use Rattle.std.proofs.Common.{◌≡◌, take}
 use Rattle.sequence_plans.specs.NearCuts.{near_cuts}
-use Rattle.sequence_plans.proofs.near_cuts.near_cuts.Given as goal
+use Rattle.sequence_plans.proofs.near_cuts.copied.Given as goal
 
 -- the cuts near the ranges so far
 abbrev pub invariant-loop-range : goal.invariant-loop-range
