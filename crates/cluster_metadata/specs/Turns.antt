@@ -1,12 +1,11 @@
 -- Placement maps that are changed by the deltas of a movement. Of the code: no promise rests on these.
-use Rattle.std.specs.Prelude.{◌≡◌, ℕ, ℤ, ◌≤ℤ◌, List, [], ◌∷◌, ◌++◌, length, map, take, Option, Some, None, IfSome}
+use Rattle.std.specs.Prelude.{◌≡◌, ℕ, ◌<◌, ℤ, ◌≤ℤ◌, List, [], ◌∷◌, ◌++◌, get_or, length, map, take, Option, Some, None}
 use Rattle.cluster_terms.specs.Row.{last_token}
 use Rattle.cluster_terms.specs.declared.row.TokenRange.{TokenRange}
 use Rattle.cluster_terms.specs.declared.token.RightEnd.{RightEnd}
-use Rattle.placement_deltas.specs.Deltas.{ChangesNothing, delta_at}
+use Rattle.placement_deltas.specs.Deltas.{delta_at}
 use Rattle.placement_deltas.specs.declared.book.DeltaBookRow.{DeltaBookRow}
 use Rattle.placement_deltas.specs.declared.delta_row.DeltaRow.{DeltaRow}
-use Rattle.placement_deltas.specs.declared.unchanged.Unchanged.{Unchanged}
 use Rattle.range_placements.specs.Changing.{row_changed, rows_changed}
 use Rattle.range_placements.specs.Editing.{Edits, edited}
 use Rattle.range_placements.specs.Exchanging.{with_changes, with_nodes}
@@ -51,13 +50,13 @@ row_with placement range = row_to range.right (placement (last_token range.right
 abbrev pub turned_rows : Turn → List PlacementRow → List DeltaRow → List PlacementRow
 turned_rows turn rows delta = rows_changed (turned turn) delta rows
 
--- a delta changes nothing at tokens of which this is known
-abbrev pub IsKnown : List DeltaRow → Option Unchanged → Type 0
-IsKnown delta known = IfSome known (λ tokens. ChangesNothing delta tokens.first tokens.last)
-
 -- the first n rows of a map have their new nodes, whatever rows come after them
 abbrev pub AreTurned : Turn → List DeltaRow → List PlacementRow → ℕ → List RowChange → Type 0
 AreTurned turn delta rows n changes = (rest : List PlacementRow) → with_changes changes (take n rows ++ rest) ≡ turned_rows turn (take n rows) delta ++ rest
+
+-- the first k rows end at or before a token
+abbrev pub EndUpTo : ℤ → List PlacementRow → ℕ → Type 0
+EndUpTo last rows k = (j : ℕ) (d : PlacementRow) → j < k → last_token (get_or rows j d).right ≤ℤ last
 
 -- a row ends from a token up to another one
 abbrev pub IsWithin : ℤ → ℤ → PlacementRow → Type 0
@@ -74,9 +73,9 @@ turned_at turn rows delta x = turned turn (map_at rows x) (delta_at delta x)
 abbrev pub recut_rows : Turn → List TokenRange → List PlacementRow → List DeltaRow → List PlacementRow
 recut_rows turn ranges rows delta = map (row_with (turned_at turn rows delta)) ranges
 
--- rows that a turn by a delta leaves as they are, and that have the right ends of these ranges
-abbrev pub AreKept : Turn → List DeltaRow → List PlacementRow → List TokenRange → Type 0
-AreKept turn delta rows ranges = (turned_rows turn rows delta ≡ rows) × (right_ends rows ≡ map (λ range. range.right) ranges)
+-- rows that a turn by a delta leaves as they are
+abbrev pub Keeps : Turn → List DeltaRow → List PlacementRow → Type 0
+Keeps turn delta rows = turned_rows turn rows delta ≡ rows
 
 -- the map of a row has the right ends of these ranges
 abbrev pub HasEnds : List TokenRange → MapRow → Type 0

@@ -89,7 +89,7 @@ fn set_keyspace(image: &Image, name: &Name, replication: &Replication) -> Result
         let _total = replication.total();
         return Ok(Change::Unchanged);
     }
-    let mut keyspaces = image.keyspaces.copy()?;
+    let mut keyspaces = image.keyspaces.copy_for(1)?;
     keyspaces.put(KeyspaceRow {
         name: name.copy()?,
         replication: replication.copy()?,

@@ -68,7 +68,8 @@ pub fn idle_map<L: Ledger>(
 {
     let cuts = cuts(alloc, image)?;
     let ranges = rows_between(alloc, cuts.as_slice())?;
-    let ring = Ring::from_distinct(alloc, image.tokens.as_slice())?;
+    let tokens = image.tokens.copy_with_room(0)?;
+    let ring = Ring::from_list(tokens)?;
     let ranges = ranges.as_slice();
     let placer = Placer::new(alloc, &ring, directory, replication, ranges.len())?;
     let rows = rows_once(alloc, &placer, ranges, walks)?;

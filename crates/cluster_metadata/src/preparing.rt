@@ -70,7 +70,7 @@ fn begun(alloc: Global, image: &Image, plan: Plan) -> Result<Change, Memory>
 {
     let row = &plan.row;
     let at = place_for(image.sequences.as_slice(), row.node);
-    let mut sequences = image.sequences.copy()?;
+    let mut sequences = image.sequences.copy_for(1)?;
     sequences.insert(at, row.copy()?)?;
     let plan = OnHeap::new(alloc, plan)?;
     Ok(Change::Begun {

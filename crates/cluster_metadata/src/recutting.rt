@@ -9,7 +9,7 @@ ghost use Rattle.cluster_metadata.specs.Turns.{HasEnds, each_map, recut_rows};
 use crate::map_book::MapBook;
 use crate::map_change::MapChange;
 use crate::turn::Turn;
-use crate::turning::{recut_book, turned_book};
+use crate::turning::{count_same, recut_book, turned_book};
 use cluster_terms::{Memory, TokenRange};
 use placement_deltas::DeltaBook;
 use range_placements::{MapRow, PlacementRow};
@@ -19,15 +19,7 @@ use std::alloc::Global;
 fn has_ends(rows: &[PlacementRow], ranges: &[TokenRange]) -> bool
     ensures { IsTrue result → right_ends rows.now ≡ map (λ range. range.right) ranges.now }
 {
-    if rows.len() != ranges.len() {
-        return false;
-    }
-    for at in 0..rows.len() {
-        if rows[at].right != ranges[at].right {
-            return false;
-        }
-    }
-    true
+    rows.len() == ranges.len() && count_same(rows, ranges) == rows.len()
 }
 
 /// Whether all maps of a book have the right ends of these ranges.

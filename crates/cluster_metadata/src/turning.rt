@@ -1,11 +1,11 @@
 //! Changes placement maps by the deltas of a movement.
 
-ghost use Rattle.std.specs.Prelude.{◌≡◌, ◌<◌, ◌≤◌, ◌^◌, ℕ, List, [], None, length, take, IfOk, IsTrue, OnOk};
+ghost use Rattle.std.specs.Prelude.{◌≡◌, ◌<◌, ◌≤◌, ◌^◌, ◌-◌, drop, length, map, take, IfOk, IsTrue, OnOk};
 ghost use Rattle.cluster_terms.specs.Row.{last_token};
 ghost use Rattle.placement_deltas.specs.Deltas.{delta_at};
-ghost use Rattle.placement_deltas.specs.declared.delta_row.DeltaRow.{DeltaRow};
 ghost use Rattle.range_placements.specs.Editing.{edited, all_passed};
 ghost use Rattle.range_placements.specs.Exchanging.{with_changes};
+ghost use Rattle.range_placements.specs.Placements.{right_ends};
 ghost use Rattle.cluster_metadata.specs.MapChanges.{each_edited, each_exchanged};
 ghost use Rattle.cluster_metadata.specs.Turns as spec;
 
@@ -14,7 +14,7 @@ use crate::map_change::{BookChanges, BookEdits};
 use crate::turn::Turn;
 use cluster_terms::{Memory, RightEnd, Token, TokenRange, TryCopy};
 use node_sets::NodeSet;
-use placement_deltas::{Delta, DeltaBook, Unchanged};
+use placement_deltas::{Delta, DeltaBook};
 use range_placements::{
     NewNodes, PlacementMap, PlacementRow, RowChange, RowChanges, RowEdits, with_change,
 };
@@ -115,6 +115,42 @@ fn push_turned(
     }
 }
 
+/// How many rows of a map end at or before a token. The cost is a binary search. It is left out for the greatest token,
+/// and if the token is in the row at position `near` or the next one.
+fn count_up_to(map: &PlacementMap, last: Token, near: usize) -> usize
+    ensures bound { result ≤ length map.now }
+    ensures ends { spec.EndUpTo last map.now result }
+{
+    let count = map.rows().len();
+    if last == RightEnd::Max.last_token() {
+        return count;
+    }
+    let mut at = near;
+    let row = map.row_near(last, &mut at);
+    if row.last_token() == last {
+        return at + 1;
+    }
+    at
+}
+
+/// The position after the rows of a map that a turn keeps, from a position on. Rows are passed up to the end of one row
+/// of the delta, or all of them if the turn keeps each row. `near` is where the delta was looked at last.
+fn kept_up_to(turn: Turn, map: &PlacementMap, at: usize, delta: &Delta, near: &mut usize) -> usize
+    requires { at < length map.now }
+    ensures later { at ≤ result }
+    ensures bound { result ≤ length map.now }
+    ensures kept { spec.Keeps turn delta.now (take (result - at) (drop at map.now)) }
+{
+    let rows = map.rows();
+    if matches!(turn, Turn::Keep) {
+        return rows.len();
+    }
+    match delta.unchanged_from(rows[at].last_token(), near) {
+        Some(tokens) => count_up_to(map, tokens.last, at).max(at + 1),
+        None => at,
+    }
+}
+
 /// Adds the new nodes of the row at a position, if the delta changes it, and passes it. Otherwise passes the rows that
 /// end where the delta changes nothing. Returns the position of the row after these.
 fn turn_from(
@@ -131,13 +167,11 @@ fn turn_from(
     ensures bound { IfOk result (λ next. next ≤ length map.now) }
     ensures turned { IfOk result (λ next. spec.AreTurned turn delta.now map.now next changes.new) }
 {
-    let row = &map.rows()[at];
-    if let Some(tokens) = delta.unchanged_from(row.last_token(), near) {
-        let mut end = at;
-        let _row = map.row_near(tokens.last, &mut end);
-        return Ok(end.max(at + 1));
+    let end = kept_up_to(turn, map, at, delta, near);
+    if end > at {
+        return Ok(end);
     }
-    push_turned(changes, turn, at, row, delta, near)?;
+    push_turned(changes, turn, at, &map.rows()[at], delta, near)?;
     Ok(at + 1)
 }
 
@@ -161,66 +195,11 @@ fn turned_rows(
     Ok(changes)
 }
 
-/// Where a delta was looked at last, and tokens at which it changes nothing, if some are known.
-#[derive(Drop)]
-struct DeltaPlace {
-    near: usize,
-    unchanged: Option<Unchanged>,
-}
-
-/// Before the first look at a delta.
-fn at_start() -> DeltaPlace
-    ensures { result ≡ record { near = 0; unchanged = None } }
-{
-    DeltaPlace {
-        near: 0,
-        unchanged: None,
-    }
-}
-
-/// Whether a token is one at which a delta is known to change nothing.
-fn is_among(known: Option<Unchanged>, t: Token) -> bool
-    ensures { IsTrue result → (delta : List DeltaRow)
-        → spec.IsKnown delta known → delta_at delta t ≡ ([], []) }
-{
-    match known {
-        Some(tokens) => tokens.has(t),
-        None => false,
-    }
-}
-
-/// Whether a delta changes nothing at a token. A row of the delta in which it changes nothing is looked up only once,
-/// if the tokens ascend.
-fn changes_nothing(delta: &Delta, t: Token, place: &mut DeltaPlace) -> bool
-    requires { spec.IsKnown delta.now place.old.unchanged }
-    ensures known { spec.IsKnown delta.now place.new.unchanged }
-    ensures unchanged { IsTrue result → delta_at delta.now t ≡ ([], []) }
-{
-    if is_among(place.unchanged, t) {
-        return true;
-    }
-    place.unchanged = delta.unchanged_from(t, &mut place.near);
-    is_among(place.unchanged, t)
-}
-
 /// Where a map and a delta were looked at last.
 #[derive(Drop)]
 struct Places {
     map: usize,
-    delta: DeltaPlace,
-}
-
-/// Whether a turn by a delta leaves the sets of a token as they are.
-fn leaves_sets(turn: Turn, delta: &Delta, t: Token, place: &mut DeltaPlace) -> bool
-    requires { spec.IsKnown delta.now place.old.unchanged }
-    ensures known { spec.IsKnown delta.now place.new.unchanged }
-    ensures sets { IsTrue result → (reads writes : List ℕ)
-        → spec.turned turn (reads, writes) (delta_at delta.now t) ≡ (reads, writes) }
-{
-    if matches!(turn, Turn::Keep) {
-        return true;
-    }
-    changes_nothing(delta, t, place)
+    delta: usize,
 }
 
 /// Whether a map has a row at an index, which no edit is past.
@@ -233,25 +212,15 @@ fn is_ahead(edits: &RowEdits, map: &PlacementMap, at: usize) -> bool
     edits.passed() <= at && at < count
 }
 
-/// How many of these rows of a map, from the first one on, have the right ends of these ranges and are left as they are
-/// by a turn.
-fn count_kept(
-    turn: Turn,
-    rows: &[PlacementRow],
-    delta: &Delta,
-    ranges: &[TokenRange],
-    place: &mut DeltaPlace,
-) -> usize
-    requires { spec.IsKnown delta.now place.old.unchanged }
-    ensures known { spec.IsKnown delta.now place.new.unchanged }
+/// How many of these rows, from the first one on, have the right ends of these ranges.
+pub fn count_same(rows: &[PlacementRow], ranges: &[TokenRange]) -> usize
     ensures rows { result ≤ length rows.now }
     ensures ranges { result ≤ length ranges.now }
-    ensures kept { spec.AreKept turn delta.now (take result rows.now) (take result ranges.now) }
+    ensures same { right_ends (take result rows.now) ≡ map (λ range. range.right) (take result ranges.now) }
 {
     let most = rows.len().min(ranges.len());
     for at in 0..most {
-        let right = rows[at].right;
-        if right != ranges[at].right || !leaves_sets(turn, delta, right.last_token(), place) {
+        if rows[at].right != ranges[at].right {
             return at;
         }
     }
@@ -269,9 +238,7 @@ fn recut_some(
     ranges: &[TokenRange],
     places: &mut Places,
 ) -> Result<usize, Memory>
-    requires known { spec.IsKnown delta.now places.old.delta.unchanged }
-    requires some { 0 < length ranges.now }
-    ensures known { spec.IsKnown delta.now places.new.delta.unchanged }
+    requires { 0 < length ranges.now }
     ensures some { IfOk result (λ count. 0 < count) }
     ensures bound { IfOk result (λ count. count ≤ length ranges.now) }
     ensures rows { IfOk result (λ count. spec.AddsRows map.now
@@ -279,19 +246,20 @@ fn recut_some(
 {
     let right = &ranges[0].right;
     let row = map.row_near(right.last_token(), &mut places.map);
-    if row.right != *right || !is_ahead(edits, map, places.map) {
-        let near = &mut places.delta.near;
-        edits.put(turned_row(turn, right, row, delta, near)?)?;
+    let at = places.map;
+    if row.right != *right || !is_ahead(edits, map, at) {
+        edits.put(turned_row(turn, right, row, delta, &mut places.delta)?)?;
         return Ok(1);
     }
-    let rows = &map.rows()[places.map..];
-    let count = count_kept(turn, rows, delta, ranges, &mut places.delta);
+    let end = kept_up_to(turn, map, at, delta, &mut places.delta);
+    let count = count_same(&map.rows()[at..end], ranges);
     if count > 0 {
-        edits.keep(places.map, count)?;
+        edits.keep(at, count)?;
+        places.map = at + count;
         return Ok(count);
     }
-    let new = turned_row(turn, right, row, delta, &mut places.delta.near)?;
-    edits.replace(places.map, new)?;
+    let new = turned_row(turn, right, row, delta, &mut places.delta)?;
+    edits.replace(at, new)?;
     Ok(1)
 }
 
@@ -307,10 +275,7 @@ fn recut_map(
     ensures { IfOk result (λ edits. edited edits map.now ≡ spec.recut_rows turn ranges.now map.now delta.now) }
 {
     let mut edits = RowEdits::with_room(alloc, ranges.len())?;
-    let mut places = Places {
-        map: 0,
-        delta: at_start(),
-    };
+    let mut places = Places { map: 0, delta: 0 };
     let mut done = 0;
     while done < ranges.len() {
         done += recut_some(&mut edits, turn, map, delta, &ranges[done..], &mut places)?;
@@ -339,8 +304,8 @@ pub fn turned_book(
 
 /// The edits that make the maps of a book those of these ranges, with the sets of their last tokens in the maps of the
 /// book, changed by the deltas of a movement. The deltas are under the same replications in the same order. Fails only
-/// if memory runs out. Cost: under each replication one pass over the map, the delta and the ranges, and a copy of the
-/// sets for each row that is new or changes.
+/// if memory runs out. Cost: under each replication one pass over the map and the ranges, a few binary searches for each
+/// row of the delta and each row that is new or changes, and a copy of the sets of the latter.
 pub fn recut_book(
     alloc: Global,
     turn: Turn,

@@ -184,7 +184,15 @@ impl<T: TryCopy + Drop> SmallList<T> {
     pub fn copy(&self) -> Result<Self, Memory>
         ensures { IfOk result (λ copied. copied ≡ self.now) }
     {
-        let mut items = Vec::with_capacity(*self.items.allocator(), self.items.len())?;
+        self.copy_for(0)
+    }
+
+    /// An equal list with room for `more` items, or `Memory` if memory runs out. The cost is a copy of each item.
+    pub fn copy_for(&self, more: usize) -> Result<Self, Memory>
+        ensures { IfOk result (λ copied. copied ≡ self.now) }
+    {
+        let count = self.items.len().saturating_add(more);
+        let mut items = Vec::with_capacity(*self.items.allocator(), count)?;
         for item in &self.items {
             items.push(item.copy()?)?;
         }

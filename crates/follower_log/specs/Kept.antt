@@ -1,17 +1,20 @@
 -- How a follower keeps the entries that wait.
 -- Of the code: no promise rests on these.
-use Rattle.std.specs.Prelude.{◌≡◌, ℕ, ◌≤◌, ◌<◌, Bool, true, false, List, [], ◌∷◌, Option, Some, None, Result, Ok, Err}
+use Rattle.std.specs.Prelude.{◌≡◌, ℕ, ◌≤◌, ◌<◌, Bool, true, false, List, [], ◌∷◌, length, Option, Some, None, Result, Ok, Err}
 use Rattle.std.specs.List.{AllByRecursion}
+use Rattle.std.specs.List.Sorted.{IsPartitionPoint}
 use Rattle.transformations.specs.History.{is_command, most_epochs, next_image}
 use Rattle.transformations.specs.Refusals.{refusal_of}
 use Rattle.transformations.specs.declared.entry.Entry.{Entry}
-use Rattle.follower_log.specs.Follower.{Performs, FollowerState, IsAdvance, advanced, is_next}
+use Rattle.follower_log.specs.Follower.{Performs, FollowerState, IsAdvance, advanced, is_next, waiting_at}
 use Rattle.follower_log.specs.declared.apply_fault.ApplyFault.{ApplyFault}
 use Rattle.follower_log.specs.declared.apply_fault.ApplyFault.TheVariants as apply
 use Rattle.follower_log.specs.declared.fault.FollowerFault.{FollowerFault}
 use Rattle.follower_log.specs.declared.fault.FollowerFault.TheVariants.{Refused, Memory, MemoryAt}
 use Rattle.follower_log.specs.declared.took.Took.{Took}
 use Rattle.follower_log.specs.declared.took.Took.TheVariants.{At}
+use Rattle.follower_log.specs.declared.waiting.Slot.{Slot}
+use Rattle.follower_log.specs.declared.waiting.Slot.TheVariants.{Taken, Free}
 
 -- the first entry
 abbrev pub first_entry : List Entry → Option Entry
@@ -22,6 +25,17 @@ first_entry (entry ∷ entries) = Some entry
 abbrev pub AreAbove : Option Entry → List Entry → Type 0
 AreAbove None entries = Unit {0}
 AreAbove (Some first) entries = AllByRecursion (λ entry. first.epoch < entry.epoch) entries
+
+-- no entry has an epoch, and this many are below it
+pub record IsFree (waiting : List Entry) (epoch below : ℕ) : Type 0 where
+  pub none : waiting_at waiting epoch ≡ None
+  pub bound : below ≤ length waiting
+  pub split : IsPartitionPoint (λ entry. entry.epoch < epoch) (λ entry. epoch ≤ entry.epoch) waiting below
+
+-- where an epoch belongs
+abbrev pub IsSlot : List Entry → ℕ → Slot → Type 0
+IsSlot waiting epoch (Taken entry) = waiting_at waiting epoch ≡ Some entry.now
+IsSlot waiting epoch (Free below) = IsFree waiting epoch below
 
 -- an entry that can wait at an epoch: it is above it, and its command is formed
 pub record CanWaitAt (epoch : ℕ) (entry : Entry) : Type 0 where

@@ -4,7 +4,7 @@ ghost use Rattle.transformations.specs.History.{is_command, most_epochs, state_a
 ghost use Rattle.transformations.specs.Log.{IsLog, commands_of};
 ghost use Rattle.transformations.specs.declared.entry.Entry.{Entry as LogEntry};
 ghost use Rattle.follower_log.specs.Follower.{Performs, FollowerState, IsAdvance, IsCutFrom, IsCutPast, advanced, by_epoch, empty_follower, hand_above, hand_entry, hand_image, hand_new, hand_valid, is_next, lacks_only, waiting_at};
-ghost use Rattle.follower_log.specs.Kept.{Advances, ComesFirst};
+ghost use Rattle.follower_log.specs.Kept.{Advances, ComesFirst, IsFree};
 ghost use Rattle.follower_log.specs.Kept as spec;
 ghost use Rattle.follower_log.specs.declared.took.Took.{Took};
 ghost use Rattle.follower_log.specs.Prefix.{IsEntryOf, IsImageOf, StandsAfter, StandsFor, Taken, nothing_taken, with_entry, with_image};
@@ -12,7 +12,7 @@ ghost use Rattle.follower_log.specs.Prefix.{IsEntryOf, IsImageOf, StandsAfter, S
 use crate::apply_fault::ApplyFault;
 use crate::fault::FollowerFault;
 use crate::took::Took;
-use crate::waiting::Waiting;
+use crate::waiting::{Slot, Waiting};
 use cluster_metadata::{AdmitFault, ImageFault, Metadata};
 use cluster_terms::{Memory, TryCopy};
 use std::alloc::Global;
@@ -118,10 +118,10 @@ impl Follower {
         if entry.epoch <= epoch {
             return Ok(Took::Old(epoch));
         }
-        if let Some(held) = self.waiting.at(entry.epoch) {
-            return compared(held, entry, epoch);
+        match self.waiting.slot(entry.epoch) {
+            Slot::Taken(held) => compared(held, entry, epoch),
+            Slot::Free(at) => Ok(self.take(at, entry)?),
         }
-        Ok(self.take(entry)?)
     }
 
     /// Whether the follower lacks the entry of this epoch alone, of all up to the epoch `last`: it is the next one, it
@@ -157,16 +157,16 @@ impl Follower {
         if !self.metadata.follow(last)? {
             return Ok(false);
         }
-        self.waiting = Waiting::empty(self.alloc);
+        self.waiting.clear();
         Ok(true)
     }
 
-    /// Takes an entry above the follower's epoch, at whose epoch none waits, unless too many wait.
-    fn take(&mut self, entry: &Entry) -> Result<Took, ApplyFault>
+    /// Takes an entry above the follower's epoch, at whose epoch none waits, unless too many wait. `at` is its free slot.
+    fn take(&mut self, at: usize, entry: &Entry) -> Result<Took, ApplyFault>
         requires formed { IsTrue (is_command entry.now.cmd) }
         requires above { self.old.image.epoch < entry.now.epoch }
         requires epoch { entry.now.epoch ≤ most_epochs }
-        requires none { waiting_at self.old.waiting entry.now.epoch ≡ None }
+        requires free { IsFree self.old.waiting entry.now.epoch at }
         ensures step { Performs self.old (hand_new self.old entry.now) (spec.widened result) self.new }
         ensures next { is_next self.old.image entry.now ≡ true → IsCutPast self.old.image.epoch (spec.widened result) }
     {
@@ -177,7 +177,7 @@ impl Follower {
         if self.waiting.len() >= MOST_WAITING {
             return Ok(Took::Full(epoch));
         }
-        self.waiting.insert(entry)?;
+        self.waiting.insert(at, entry)?;
         self.apply_waiting()
     }
 

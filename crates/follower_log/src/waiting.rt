@@ -1,11 +1,11 @@
 //! The entries that wait, by epoch.
 
-ghost use Rattle.std.specs.Prelude.{◌≡◌, ◌<◌, ◌≤◌, [], drop, filter, length, nat_lt, None, OnErr, OnOk};
+ghost use Rattle.std.specs.Prelude.{◌≡◌, ◌<◌, ◌≤◌, [], drop, filter, length, nat_lt, OnErr, OnOk};
 ghost use Rattle.std.specs.List.Sorted.{IsPartitionPoint};
 ghost use Rattle.std.specs.Option.{option_copied};
 ghost use Rattle.cluster_terms.specs.Ascending.{put};
 ghost use Rattle.follower_log.specs.Follower.{by_epoch, waiting_at};
-ghost use Rattle.follower_log.specs.Kept.{AreAbove, first_entry};
+ghost use Rattle.follower_log.specs.Kept.{AreAbove, IsFree, IsSlot, first_entry};
 
 use cluster_metadata::OnHeap;
 use cluster_terms::{Memory, TryCopy};
@@ -13,6 +13,15 @@ use std::alloc::Global;
 use std::collections::VecDeque;
 use std::marker::Model;
 use transformations::Entry;
+
+/// Where an epoch belongs among the entries that wait.
+#[derive(Drop)]
+pub enum Slot<'a> {
+    /// This entry has the epoch.
+    Taken(&'a Entry),
+    /// No entry has it. This many entries have an epoch below it.
+    Free(usize),
+}
 
 /// Entries that ascend by epoch, no two at one epoch. Each is on the heap, so that an entry that comes or goes moves
 /// pointers alone.
@@ -60,16 +69,29 @@ impl Waiting {
             .partition_point(|entry| entry.get().epoch < epoch)
     }
 
+    /// Where an epoch belongs. The cost is a binary search.
+    pub fn slot(&self, epoch: u64) -> Slot<'_>
+        ensures { IsSlot self.now epoch result }
+    {
+        let below = self.count_below(epoch);
+        let Some(entry) = self.entries.get(below) else {
+            return Slot::Free(below);
+        };
+        let entry = entry.get();
+        if entry.epoch == epoch {
+            Slot::Taken(entry)
+        } else {
+            Slot::Free(below)
+        }
+    }
+
     /// The entry of an epoch. The cost is a binary search.
     pub fn at(&self, epoch: u64) -> Option<&Entry>
         ensures { option_copied result ≡ waiting_at self.now epoch }
     {
-        let below = self.count_below(epoch);
-        let entry = self.entries.get(below)?.get();
-        if entry.epoch == epoch {
-            Some(entry)
-        } else {
-            None
+        match self.slot(epoch) {
+            Slot::Taken(entry) => Some(entry),
+            Slot::Free(_) => None,
         }
     }
 
@@ -83,17 +105,16 @@ impl Waiting {
         }
     }
 
-    /// Adds a copy of an entry whose epoch no entry has. If memory runs out, nothing is added. The cost is a binary
-    /// search, and a move of a pointer for each entry below this one, or for each above it if these are fewer.
-    pub fn insert(&mut self, entry: &Entry) -> Result<(), Memory>
-        requires { waiting_at self.old entry.now.epoch ≡ None }
+    /// Adds a copy of an entry whose epoch no entry has, at the position of its free slot. If memory runs out, nothing is
+    /// added. The cost is a move of a pointer for each entry below this one, or for each above it if these are fewer.
+    pub fn insert(&mut self, at: usize, entry: &Entry) -> Result<(), Memory>
+        requires { IsFree self.old entry.now.epoch at }
         ensures ok { OnOk result (self.new ≡ put by_epoch entry.now self.old) }
         ensures err { OnErr result (self.new ≡ self.old) }
     {
         let alloc = *self.entries.allocator();
-        let below = self.count_below(entry.epoch);
         let entry = OnHeap::new(alloc, entry.copy()?)?;
-        self.entries.insert(below, entry)?;
+        self.entries.insert(at, entry)?;
         Ok(())
     }
 
@@ -110,5 +131,11 @@ impl Waiting {
         ensures { self.new ≡ filter (λ entry. nat_lt epoch entry.epoch) self.old }
     {
         self.entries.retain(|entry| entry.get().epoch > epoch);
+    }
+    /// Drops all entries, and keeps their memory for others. Takes no memory.
+    pub fn clear(&mut self)
+        ensures { self.new ≡ [] }
+    {
+        self.entries.clear();
     }
 }

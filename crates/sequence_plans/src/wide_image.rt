@@ -29,7 +29,7 @@ impl<'a> WideImage<'a> {
     pub fn new(image: &'a Image, row: &SeqRow) -> Result<WideImage<'a>, Memory>
         ensures { IfOk result (λ wide. wide ≡ with_movement image.now row.now) }
     {
-        let mut sequences = image.sequences.copy()?;
+        let mut sequences = image.sequences.copy_for(1)?;
         sequences.put(row.copy()?)?;
         Ok(WideImage { image, sequences })
     }

@@ -12,6 +12,7 @@ pub mod KeysLemmas
 pub mod KindsLemmas
 pub mod LineLemmas
 pub mod ListItems
+pub mod MembersLemmas
 pub mod PairItems
 pub mod ReadingLemmas
 pub mod SnapshotNames

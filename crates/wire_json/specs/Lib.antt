@@ -1,6 +1,7 @@
 pub mod Entries
 pub mod Kinds
 pub mod LineImages
+pub mod Members
 pub mod Reading
 pub mod SnapshotTexts
 pub mod Snapshots

@@ -5,8 +5,9 @@ ghost use Rattle.serde_json.specs.View.{view};
 ghost use Rattle.transformations.specs.declared.command.Command.TheVariants.{Step};
 ghost use Rattle.wire_json.specs.Kinds as spec;
 
-use crate::tokens::tokens_at;
-use crate::values::{has_keys, name_at, node_at, replication_at, text_at, token_at};
+use crate::members::{four_at, three_at, two_at};
+use crate::tokens::tokens_in;
+use crate::values::{name_in, node_in, replication_in, text_at, token_of};
 use cluster_terms::{Memory, NodeId};
 use serde_json::Value;
 use std::alloc::Global;
@@ -44,16 +45,16 @@ fn command_named(alloc: Global, word: &str, value: &Value) -> Result<Option<Comm
 fn register_of(alloc: Global, value: &Value) -> Result<Option<Command>, Memory>
     ensures { IfOk result (λ found. found ≡ spec.command_by spec.register (view value.now)) }
 {
-    if !has_keys(value, &["dc", "kind", "name", "rack"]) {
-        return Ok(None);
-    }
-    let Some(name) = name_at(alloc, value, "name")? else {
+    let Some((dc, _, name, rack)) = four_at(value, "dc", "kind", "name", "rack") else {
         return Ok(None);
     };
-    let Some(dc) = name_at(alloc, value, "dc")? else {
+    let Some(name) = name_in(alloc, name)? else {
         return Ok(None);
     };
-    let Some(rack) = name_at(alloc, value, "rack")? else {
+    let Some(dc) = name_in(alloc, dc)? else {
+        return Ok(None);
+    };
+    let Some(rack) = name_in(alloc, rack)? else {
         return Ok(None);
     };
     Ok(Some(Command::Register { name, dc, rack }))
@@ -64,13 +65,13 @@ fn register_of(alloc: Global, value: &Value) -> Result<Option<Command>, Memory>
 fn unsafe_join_of(alloc: Global, value: &Value) -> Result<Option<Command>, Memory>
     ensures { IfOk result (λ found. found ≡ spec.command_by spec.unsafe_join (view value.now)) }
 {
-    if !has_keys(value, &["kind", "node", "tokens"]) {
-        return Ok(None);
-    }
-    let Some(node) = node_at(value, "node") else {
+    let Some((_, node, tokens)) = three_at(value, "kind", "node", "tokens") else {
         return Ok(None);
     };
-    let tokens = tokens_at(alloc, value, "tokens")?;
+    let Some(node) = node_in(node) else {
+        return Ok(None);
+    };
+    let tokens = tokens_in(alloc, tokens)?;
     Ok(tokens.map(|tokens| Command::UnsafeJoin { node, tokens }))
 }
 
@@ -79,13 +80,13 @@ fn unsafe_join_of(alloc: Global, value: &Value) -> Result<Option<Command>, Memor
 fn prepare_join_of(alloc: Global, value: &Value) -> Result<Option<Command>, Memory>
     ensures { IfOk result (λ found. found ≡ spec.command_by spec.prepare_join (view value.now)) }
 {
-    if !has_keys(value, &["kind", "node", "tokens"]) {
-        return Ok(None);
-    }
-    let Some(node) = node_at(value, "node") else {
+    let Some((_, node, tokens)) = three_at(value, "kind", "node", "tokens") else {
         return Ok(None);
     };
-    let tokens = tokens_at(alloc, value, "tokens")?;
+    let Some(node) = node_in(node) else {
+        return Ok(None);
+    };
+    let tokens = tokens_in(alloc, tokens)?;
     Ok(tokens.map(|tokens| Command::PrepareJoin { node, tokens }))
 }
 
@@ -94,13 +95,13 @@ fn prepare_join_of(alloc: Global, value: &Value) -> Result<Option<Command>, Memo
 fn set_keyspace_of(alloc: Global, value: &Value) -> Result<Option<Command>, Memory>
     ensures { IfOk result (λ found. found ≡ spec.command_by spec.keyspace (view value.now)) }
 {
-    if !has_keys(value, &["kind", "name", "replication"]) {
-        return Ok(None);
-    }
-    let Some(name) = name_at(alloc, value, "name")? else {
+    let Some((_, name, replication)) = three_at(value, "kind", "name", "replication") else {
         return Ok(None);
     };
-    let replication = replication_at(alloc, value, "replication")?;
+    let Some(name) = name_in(alloc, name)? else {
+        return Ok(None);
+    };
+    let replication = replication_in(alloc, replication)?;
     Ok(replication.map(|replication| Command::Keyspace { name, replication }))
 }
 
@@ -109,10 +110,10 @@ fn set_keyspace_of(alloc: Global, value: &Value) -> Result<Option<Command>, Memo
 fn drop_keyspace_of(alloc: Global, value: &Value) -> Result<Option<Command>, Memory>
     ensures { IfOk result (λ found. found ≡ spec.command_by spec.drop_keyspace (view value.now)) }
 {
-    if !has_keys(value, &["kind", "name"]) {
+    let Some((_, name)) = two_at(value, "kind", "name") else {
         return Ok(None);
-    }
-    let name = name_at(alloc, value, "name")?;
+    };
+    let name = name_in(alloc, name)?;
     Ok(name.map(|name| Command::DropKeyspace { name }))
 }
 
@@ -121,11 +122,11 @@ fn drop_keyspace_of(alloc: Global, value: &Value) -> Result<Option<Command>, Mem
 fn prepare_move_of(value: &Value) -> Option<Command>
     ensures { result ≡ spec.command_by spec.prepare_move (view value.now) }
 {
-    if !has_keys(value, &["kind", "node", "token"]) {
+    let Some((_, node, token)) = three_at(value, "kind", "node", "token") else {
         return None;
-    }
-    let node = node_at(value, "node")?;
-    let token = token_at(value, "token")?;
+    };
+    let node = node_in(node)?;
+    let token = token_of(token)?;
     Some(Command::PrepareMove { node, token })
 }
 
@@ -134,11 +135,11 @@ fn prepare_move_of(value: &Value) -> Option<Command>
 fn prepare_replace_of(value: &Value) -> Option<Command>
     ensures { result ≡ spec.command_by spec.prepare_replace (view value.now) }
 {
-    if !has_keys(value, &["gone", "kind", "node"]) {
+    let Some((gone, _, node)) = three_at(value, "gone", "kind", "node") else {
         return None;
-    }
-    let node = node_at(value, "node")?;
-    let gone = node_at(value, "gone")?;
+    };
+    let node = node_in(node)?;
+    let gone = node_in(gone)?;
     Some(Command::PrepareReplace { node, gone })
 }
 
@@ -178,8 +179,8 @@ fn command_on(word: &str, node: NodeId) -> Option<Command>
 fn node_command_of(word: &str, value: &Value) -> Option<Command>
     ensures { result ≡ spec.command_named spec.node_kinds word.now (view value.now) }
 {
-    if !has_keys(value, &["kind", "node"]) {
+    let Some((_, node)) = two_at(value, "kind", "node") else {
         return None;
-    }
-    command_on(word, node_at(value, "node")?)
+    };
+    command_on(word, node_in(node)?)
 }

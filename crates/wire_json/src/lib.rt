@@ -5,6 +5,7 @@ mod command_values;
 mod commands;
 mod line;
 mod lists;
+mod members;
 mod reading;
 mod snapshot_values;
 mod snapshots;

@@ -1,19 +1,20 @@
 //! Reads the lines of files: entries and snapshots.
 
-ghost use Rattle.std.specs.Prelude.{◌≡◌, ◌≢◌, ◌<◌, length, Err, IfOk};
+ghost use Rattle.std.specs.Prelude.{◌≡◌, ◌≢◌, ◌<◌, length, Err, IfOk, option_map};
 ghost use Rattle.serde_json.specs.View.{view};
-ghost use Rattle.wire_json.specs.Kinds.{command_at};
+ghost use Rattle.wire_json.specs.Members.{epoch_in};
 ghost use Rattle.wire_json.specs.Reading as spec;
+ghost use Rattle.wire_json.specs.Snapshots.{image_in};
+ghost use Rattle.wire_json.specs.declared.line.Line.TheVariants.{Snapshot};
 ghost use Rattle.wire_json.specs.declared.line.ReadLineFault.TheVariants as fault;
 
 use crate::commands::command_of;
 use crate::line::{Line, ReadLineFault};
-use crate::snapshots::snapshot_at;
-use crate::values::{has_keys, number_at};
-use cluster_terms::Memory;
+use crate::members::{one_at, three_at};
+use crate::snapshots::image_in;
 use serde_json::Value;
 use std::alloc::Global;
-use transformations::{Command, Entry};
+use transformations::Entry;
 
 /// The most bytes of a line, without its line feed.
 const MOST_BYTES: usize = 4_194_304;
@@ -54,21 +55,21 @@ pub fn read_line(alloc: Global, bytes: &[u8]) -> Result<Line, ReadLineFault>
 }
 
 /// What a JSON value says: rules 3 to 6.
-#[tactic(auto, using(crate::proofs::LineLemmas::gives_entry), unfolding(crate::specs::Reading::line_in))]
+#[tactic(auto, using(crate::proofs::LineLemmas::gives_entry, crate::proofs::LineLemmas::gives_image), unfolding(crate::specs::Reading::line_in))]
 fn line_in(alloc: Global, value: &Value) -> Result<Line, ReadLineFault>
     ensures { spec.Gives (λ line. line) result (spec.line_in (view value.now)) }
 {
-    if has_keys(value, &["snapshot"]) {
-        return image_of_line(alloc, value);
+    match one_at(value, "snapshot") {
+        Some(image) => image_of_line(alloc, image),
+        None => entry_of(alloc, value).map(Line::Entry),
     }
-    entry_of(alloc, value).map(Line::Entry)
 }
 
-/// The image of a snapshot line: rule 6.
+/// The snapshot line with the image in a value: rule 6.
 fn image_of_line(alloc: Global, value: &Value) -> Result<Line, ReadLineFault>
-    ensures { spec.Gives (λ line. line) result (spec.image_of_line (view value.now)) }
+    ensures { spec.Gives (λ line. line) result (spec.found 6 (option_map Snapshot (image_in (view value.now)))) }
 {
-    match snapshot_at(alloc, value, "snapshot")? {
+    match image_in(alloc, value)? {
         Some(image) => Ok(Line::Snapshot(image)),
         None => Err(ReadLineFault::Bad(6)),
     }
@@ -91,34 +92,26 @@ fn value_of(alloc: Global, bytes: &[u8]) -> Result<Value, ReadLineFault>
 fn entry_of(alloc: Global, value: &Value) -> Result<Entry, ReadLineFault>
     ensures { spec.Gives (λ entry. entry) result (spec.entry_of (view value.now)) }
 {
-    if !has_keys(value, &["command", "entry", "epoch"]) {
+    let Some((command, id, epoch)) = three_at(value, "command", "entry", "epoch") else {
         return Err(ReadLineFault::Bad(3));
-    }
-    let Some(id) = number_at(value, "entry") else {
+    };
+    let Some(id) = id.as_u64() else {
         return Err(ReadLineFault::Bad(4));
     };
-    let Some(epoch) = epoch_at(value, "epoch") else {
+    let Some(epoch) = epoch_in(epoch) else {
         return Err(ReadLineFault::Bad(4));
     };
-    match command_at(alloc, value, "command")? {
+    match command_of(alloc, command)? {
         Some(cmd) => Ok(Entry { id, epoch, cmd }),
         None => Err(ReadLineFault::Bad(5)),
     }
 }
 
-/// The epoch at a key: a whole number from 1 to 65,536.
-fn epoch_at(value: &Value, key: &str) -> Option<u64>
-    ensures { result ≡ spec.epoch_at key.now (view value.now) }
+/// The epoch in a value: a whole number from 1 to 65,536.
+fn epoch_in(value: &Value) -> Option<u64>
+    ensures { result ≡ epoch_in (view value.now) }
 {
-    number_at(value, key).filter(|epoch| (1..=MOST_EPOCHS).contains(epoch))
-}
-
-/// The command at a key, or `None` if there is no valid command.
-fn command_at(alloc: Global, value: &Value, key: &str) -> Result<Option<Command>, Memory>
-    ensures { IfOk result (λ found. found ≡ command_at key.now (view value.now)) }
-{
-    match value.get(key) {
-        Some(command) => command_of(alloc, command),
-        None => Ok(None),
-    }
+    value
+        .as_u64()
+        .filter(|epoch| (1..=MOST_EPOCHS).contains(epoch))
 }

@@ -13,20 +13,10 @@ use serde_json::Value;
 use std::alloc::Global;
 use transformations::{Image, KeyspaceRow, Kind, Phase, SeqRow};
 
-/// The image at a key, or `None` if no image is there. Fails only if memory runs out. The cost is a pass over the
-/// value.
-pub fn snapshot_at(alloc: Global, value: &Value, key: &str) -> Result<Option<Image>, Memory>
-    ensures { IfOk result (λ found. found ≡ spec.snapshot_at key.now (view value.now)) }
-{
-    match value.get(key) {
-        Some(image) => image_in(alloc, image),
-        None => Ok(None),
-    }
-}
-
-/// The image in a value.
+/// The image in a value, or `None` if the value isn't an image. Fails only if memory runs out. The cost is a pass over
+/// the value.
 #[tactic(auto, unfolding(crate::specs::Snapshots::image_in))]
-fn image_in(alloc: Global, value: &Value) -> Result<Option<Image>, Memory>
+pub fn image_in(alloc: Global, value: &Value) -> Result<Option<Image>, Memory>
     ensures { IfOk result (λ found. found ≡ spec.image_in (view value.now)) }
 {
     if !has_keys(

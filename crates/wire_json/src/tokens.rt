@@ -3,6 +3,7 @@
 ghost use Rattle.std.specs.Prelude.{◌≡◌, IfOk};
 ghost use Rattle.serde_json.specs.View.{items_view, view};
 ghost use Rattle.transformations.specs.History as history;
+ghost use Rattle.wire_json.specs.Members.{tokens_in};
 ghost use Rattle.wire_json.specs.Values as spec;
 
 use crate::lists::each_of;
@@ -40,11 +41,11 @@ fn list_of(alloc: Global, values: &Vec<Value>) -> Result<Option<TokenList>, Memo
     }
 }
 
-/// The tokens at a key, or `None` unless a list of 1 to 256 tokens that ascend is there. Fails only if memory runs out.
-pub fn tokens_at(alloc: Global, value: &Value, key: &str) -> Result<Option<TokenList>, Memory>
-    ensures { IfOk result (λ found. found ≡ spec.tokens_at key.now (view value.now)) }
+/// The tokens in a value, or `None` unless it is a list of 1 to 256 tokens that ascend. Fails only if memory runs out.
+pub fn tokens_in(alloc: Global, value: &Value) -> Result<Option<TokenList>, Memory>
+    ensures { IfOk result (λ found. found ≡ tokens_in (view value.now)) }
 {
-    match value.get(key).and_then(Value::as_array) {
+    match value.as_array() {
         Some(values) => list_of(alloc, values),
         None => Ok(None),
     }

@@ -2,6 +2,7 @@
 
 ghost use Rattle.std.specs.Prelude.{◌≡◌, map, option_map, IfOk};
 ghost use Rattle.serde_json.specs.View.{members_view, view};
+ghost use Rattle.wire_json.specs.Members.{name_in, replication_in};
 ghost use Rattle.wire_json.specs.Values as spec;
 
 use cluster_terms::{Memory, Name, NodeId, Replication, Token};
@@ -75,12 +76,32 @@ pub fn node_at(value: &Value, key: &str) -> Option<NodeId>
     node_by(number_at(value, key)?)
 }
 
+/// The name in a value, or `None` if the value isn't the text of a name. Fails only if memory runs out.
+pub fn name_in(alloc: Global, value: &Value) -> Result<Option<Name>, Memory>
+    ensures { IfOk result (λ found. found ≡ name_in (view value.now)) }
+{
+    match value.as_str() {
+        Some(text) => Name::from_text(alloc, text),
+        None => Ok(None),
+    }
+}
+
 /// The name at a key, or `None` if no valid name is there. Fails only if memory runs out.
 pub fn name_at(alloc: Global, value: &Value, key: &str) -> Result<Option<Name>, Memory>
     ensures { IfOk result (λ found. found ≡ spec.name_at key.now (view value.now)) }
 {
-    match text_at(value, key) {
-        Some(text) => Name::from_text(alloc, text),
+    match value.get(key) {
+        Some(name) => name_in(alloc, name),
+        None => Ok(None),
+    }
+}
+
+/// The replication in a value, or `None` if the value isn't the text of a replication. Fails only if memory runs out.
+pub fn replication_in(alloc: Global, value: &Value) -> Result<Option<Replication>, Memory>
+    ensures { IfOk result (λ found. found ≡ replication_in (view value.now)) }
+{
+    match value.as_str() {
+        Some(text) => Replication::parse(alloc, text),
         None => Ok(None),
     }
 }
@@ -93,8 +114,8 @@ pub fn replication_at(
 ) -> Result<Option<Replication>, Memory>
     ensures { IfOk result (λ found. found ≡ spec.replication_at key.now (view value.now)) }
 {
-    match text_at(value, key) {
-        Some(text) => Replication::parse(alloc, text),
+    match value.get(key) {
+        Some(replication) => replication_in(alloc, replication),
         None => Ok(None),
     }
 }
@@ -104,11 +125,4 @@ pub fn token_of(value: &Value) -> Option<Token>
     ensures { result ≡ spec.token_of (view value.now) }
 {
     value.as_i64().map(Token::new)
-}
-
-/// The token at a key.
-pub fn token_at(value: &Value, key: &str) -> Option<Token>
-    ensures { result ≡ spec.token_at key.now (view value.now) }
-{
-    token_of(value.get(key)?)
 }

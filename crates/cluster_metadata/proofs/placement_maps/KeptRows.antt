@@ -1,6 +1,8 @@
 -- Rows of a map that a change of its ranges keeps.
-use Rattle.std.proofs.Common.{◌≡◌, ℕ, zero, suc, List, [], ◌∷◌, length, take, drop, map, refl, sym, ap, ◌∙◌, arith}
+use Rattle.std.proofs.Common.{◌≡◌, ℕ, zero, suc, ◌≤◌, List, [], ◌∷◌, length, take, drop, map, refl, sym, ap, ◌∙◌, arith}
 use Rattle.std.specs.List.{AllByRecursion}
+use Rattle.std.proofs.Math.Seq.{take-take}
+use Rattle.std.proofs.lemmas.List.{take-map}
 use Rattle.std.proofs.lemmas.Simd.{map-map}
 use Rattle.cluster_terms.specs.Row.{last_token}
 use Rattle.cluster_terms.specs.declared.row.TokenRange.{TokenRange}
@@ -9,9 +11,10 @@ use Rattle.placement_deltas.specs.Deltas.{delta_at}
 use Rattle.placement_deltas.specs.declared.book.DeltaBookRow.{DeltaBookRow}
 use Rattle.placement_deltas.specs.declared.delta_row.DeltaRow.{DeltaRow}
 use Rattle.range_placements.proofs.MapRows.{rows_tell}
+use Rattle.range_placements.specs.Changing.{row_changed}
 use Rattle.range_placements.specs.Placements.{IsPlacementMap, map_at, placement_in, right_ends}
 use Rattle.range_placements.specs.declared.placement_row.PlacementRow.{PlacementRow}
-use Rattle.cluster_metadata.specs.Turns.{AreKept, HasEnds, each_map, recut_rows, row_to, turned, turned_at, turned_rows}
+use Rattle.cluster_metadata.specs.Turns.{HasEnds, Keeps, each_map, recut_rows, row_to, turned, turned_at, turned_rows}
 use Rattle.range_placements.specs.declared.map_row.MapRow.{MapRow}
 use Rattle.cluster_metadata.specs.declared.turn.Turn.{Turn}
 use Rattle.cluster_metadata.specs.declared.turn.Turn.TheVariants.{Keep}
@@ -42,15 +45,19 @@ module _ (turn : Turn) (rows : List PlacementRow) (delta : List DeltaRow) where
       ∙ ap (λ l. row_up_to r.right ∷ l) (turned_up_to part told.1)
 
   kept_told : (part : List PlacementRow) (ranges : List TokenRange) → AllByRecursion (λ (r : PlacementRow). map_at rows (last_token r.right) ≡ placement_in r) part
-      → AreKept turn delta part ranges → part ≡ recut_rows turn ranges rows delta
-  kept_told part ranges told kept =
-      sym kept.0 ∙ turned_up_to part told ∙ ap (λ rights. map row_up_to rights) kept.1 ∙ map-map row_up_to (λ (range : TokenRange). range.right) ranges
+      → Keeps turn delta part → right_ends part ≡ map (λ range. range.right) ranges → part ≡ recut_rows turn ranges rows delta
+  kept_told part ranges told keeps ends =
+      sym keeps ∙ turned_up_to part told ∙ ap (λ rights. map row_up_to rights) ends ∙ map-map row_up_to (λ (range : TokenRange). range.right) ranges
 
-  -- rows from an index on that are kept are those of the ranges
-  pub kept_rows : (at count : ℕ) (ranges : List TokenRange) → IsPlacementMap rows → AreKept turn delta (take count (drop at rows)) ranges → take count (drop at rows) ≡ recut_rows turn ranges rows delta
-  kept_rows at count ranges is_map kept =
+  -- the first rows from an index on, of those that are kept, are those of the ranges that end as they do
+  pub kept_rows : (at m count : ℕ) (ranges : List TokenRange) → IsPlacementMap rows → count ≤ m → Keeps turn delta (take m (drop at rows))
+      → right_ends (take count (take m (drop at rows))) ≡ map (λ range. range.right) ranges → take count (drop at rows) ≡ recut_rows turn ranges rows delta
+  kept_rows at m count ranges is_map few keeps ends =
       let P = λ (r : PlacementRow). map_at rows (last_token r.right) ≡ placement_in r in
-      kept_told (take count (drop at rows)) ranges (all_taken P count (drop at rows) (all_dropped P at rows (rows_tell rows is_map))) kept
+      let run = take m (drop at rows) in
+      let first : Keeps turn delta (take count run) = sym (take-map (row_changed (turned turn) delta) count run) ∙ ap (λ (l : List PlacementRow). take count l) keeps in
+      sym (take-take count m (drop at rows) few)
+      ∙ kept_told (take count run) ranges (all_taken P count run (all_taken P m (drop at rows) (all_dropped P at rows (rows_tell rows is_map)))) first ends
 
   -- where the ranges of a map stay, its rows are turned
   pub ends_turned : (ranges : List TokenRange) → IsPlacementMap rows → right_ends rows ≡ map (λ range. range.right) ranges → turned_rows turn rows delta ≡ recut_rows turn ranges rows delta
@@ -58,7 +65,7 @@ module _ (turn : Turn) (rows : List PlacementRow) (delta : List DeltaRow) where
       turned_up_to rows (rows_tell rows is_map) ∙ ap (λ rights. map row_up_to rights) ends ∙ map-map row_up_to (λ (range : TokenRange). range.right) ranges
 
 -- a turn that keeps the sets keeps the rows
-kept_turned : (rows : List PlacementRow) (delta : List DeltaRow) → turned_rows Keep rows delta ≡ rows
+pub kept_turned : (rows : List PlacementRow) (delta : List DeltaRow) → Keeps Keep delta rows
 kept_turned [] delta = refl
 kept_turned (row ∷ rows) delta = ap (λ l. row ∷ l) (kept_turned rows delta)
 

@@ -1,4 +1,4 @@
-use Rattle.std.proofs.Common.{◌∙◌, ap, refl, sym, subst, true, false, true≢false}
+use Rattle.std.proofs.Common.{◌∙◌, ap, refl, sym, subst, true≢false}
 use Rattle.std.specs.List.{AllByRecursion}
 use Rattle.cluster_metadata.proofs.placement_maps.KeptRows.{book_kept, book_turned}
 use Rattle.cluster_metadata.specs.Turns.{HasEnds, each_map, recut_rows}

@@ -20,7 +20,6 @@ loop-done-preserved c =
     let more : take done ranges ++ take count (take (length ranges - done) (drop done ranges)) ≡ take (done + count) ranges =
     ap (λ (l : List TokenRange). take done ranges ++ take count l) rest ∙ sym (take-add done count ranges) in
     record {
-      known = c.in_ok-done.ensures.known;
       bound = omega (arith, left, below, c.loop-done-test.true);
       rows =
           c.in_ok-done.ensures.rows

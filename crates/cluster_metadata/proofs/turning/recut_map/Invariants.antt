@@ -1,12 +1,11 @@
 use Rattle.std.proofs.Common.{◌≡◌, ◌-◌, ◌≤◌, length, take}
 use Rattle.range_placements.specs.Editing.{edited}
-use Rattle.cluster_metadata.specs.Turns.{IsKnown, recut_rows}
+use Rattle.cluster_metadata.specs.Turns.{recut_rows}
 use Rattle.cluster_metadata.proofs.turning.recut_map.Given as goal
 
 -- the rows of the ranges so far
 abbrev pub invariant-loop-done : goal.invariant-loop-done
 invariant-loop-done l = record {
-  known : IsKnown l.delta l.places.delta.unchanged;
   bound : l.done ≤ length l.ranges;
   rows : edited l.edits l.map ≡ recut_rows l.turn (take l.done l.ranges) l.map l.delta;
 }

@@ -18,43 +18,43 @@ returns-then-entry-epoch-clause-shows c log taken is of stands = entry_shows log
 -- ---- an entry at whose epoch one waits
 
 -- the waiting entry of the epoch
-held : (c : goal.After-compared) → waiting_at c.args.self.now.waiting c.args.entry.now.epoch ≡ Some c.in-Some.held.now
-held c = sym (ap (λ (f : FollowerState). waiting_at f.waiting c.args.entry.now.epoch) c.self.view_is) ∙ sym c.in-Some.ensures
+held : (c : goal.After-compared) → waiting_at c.args.self.now.waiting c.args.entry.now.epoch ≡ Some c.in-Taken.held.now
+held c = sym (ap (λ (f : FollowerState). waiting_at f.waiting c.args.entry.now.epoch) c.self.view_is) ∙ c.in-Taken.ensures
 
-comes : (c : goal.After-compared) → Performs c.args.self.now (hand_above c.args.self.now c.args.entry.now (Some c.in-Some.held.now)) c.compared.result c.args.self.now
-comes c = c.compared.ensures c.args.self.now (sym c.epoch-epoch.ensures) (waiting_at_epoch c.args.self.now.waiting c.args.entry.now.epoch c.in-Some.held.now (held c))
+comes : (c : goal.After-compared) → Performs c.args.self.now (hand_above c.args.self.now c.args.entry.now (Some c.in-Taken.held.now)) c.compared.result c.args.self.now
+comes c = c.compared.ensures c.args.self.now (sym c.epoch-epoch.ensures) (waiting_at_epoch c.args.self.now.waiting c.args.entry.now.epoch c.in-Taken.held.now (held c))
 
-pub returns-in-Some-clause-step : goal.returns-in-Some-clause-step
-returns-in-Some-clause-step c =
+pub returns-in-Taken-clause-step : goal.returns-in-Taken-clause-step
+returns-in-Taken-clause-step c =
     let past : c.args.self.now.image.epoch < c.args.entry.now.epoch = omega (arith, c.if-entry-epoch.false, c.epoch-epoch.ensures) in
     let high : nat_le c.args.entry.now.epoch c.args.self.now.image.epoch ≡ false = grind (arith, nat_tests) in
     rw (high, held c) (comes c)
 
-pub returns-in-Some-clause-next : goal.returns-in-Some-clause-next
-returns-in-Some-clause-next c next = compared_past c.args.self.now.image.epoch c.args.self.now c.in-Some.held.now c.args.entry.now c.compared.result (comes c)
+pub returns-in-Taken-clause-next : goal.returns-in-Taken-clause-next
+returns-in-Taken-clause-next c next = compared_past c.args.self.now.image.epoch c.args.self.now c.in-Taken.held.now c.args.entry.now c.compared.result (comes c)
 
-pub returns-in-Some-clause-least : goal.returns-in-Some-clause-least
-returns-in-Some-clause-least c = cut_from_entry c.args.self.now c.args.self.now c.args.entry.now c.compared.result (returns-in-Some-clause-step c)
+pub returns-in-Taken-clause-least : goal.returns-in-Taken-clause-least
+returns-in-Taken-clause-least c = cut_from_entry c.args.self.now c.args.self.now c.args.entry.now c.compared.result (returns-in-Taken-clause-step c)
 
-pub returns-in-Some-clause-shows : goal.returns-in-Some-clause-shows
-returns-in-Some-clause-shows c log taken is of stands =
-    entry_shows log taken c.args.self.now c.args.self.now c.args.entry.now c.compared.result is of stands (returns-in-Some-clause-step c)
+pub returns-in-Taken-clause-shows : goal.returns-in-Taken-clause-shows
+returns-in-Taken-clause-shows c log taken is of stands =
+    entry_shows log taken c.args.self.now c.args.self.now c.args.entry.now c.compared.result is of stands (returns-in-Taken-clause-step c)
 
 -- ---- an entry at whose epoch none waits
 
-pub returns-in_err-take-clause-step : goal.returns-in_err-take-clause-step
-returns-in_err-take-clause-step c = search rules
+pub returns-in_err-take-in-Free-clause-step : goal.returns-in_err-take-in-Free-clause-step
+returns-in_err-take-in-Free-clause-step c = search rules
 
-pub returns-in_err-take-clause-least : goal.returns-in_err-take-clause-least
-returns-in_err-take-clause-least c = cut_from_entry c.args.self.now c.take.new.self c.args.entry.now c.from_residual.result (returns-in_err-take-clause-step c)
+pub returns-in_err-take-in-Free-clause-least : goal.returns-in_err-take-in-Free-clause-least
+returns-in_err-take-in-Free-clause-least c = cut_from_entry c.args.self.now c.take.new.self c.args.entry.now c.from_residual.result (returns-in_err-take-in-Free-clause-step c)
 
-pub returns-in_err-take-clause-shows : goal.returns-in_err-take-clause-shows
-returns-in_err-take-clause-shows c log taken is of stands =
-    entry_shows log taken c.args.self.now c.take.new.self c.args.entry.now c.from_residual.result is of stands (returns-in_err-take-clause-step c)
+pub returns-in_err-take-in-Free-clause-shows : goal.returns-in_err-take-in-Free-clause-shows
+returns-in_err-take-in-Free-clause-shows c log taken is of stands =
+    entry_shows log taken c.args.self.now c.take.new.self c.args.entry.now c.from_residual.result is of stands (returns-in_err-take-in-Free-clause-step c)
 
-pub returns-clause-step : goal.returns-clause-step
-returns-clause-step c = search rules
+pub returns-in_ok-take-in-Free-clause-step : goal.returns-in_ok-take-in-Free-clause-step
+returns-in_ok-take-in-Free-clause-step c = search rules
 
-pub returns-clause-shows : goal.returns-clause-shows
-returns-clause-shows c log taken is of stands =
-    entry_shows log taken c.args.self.now c.take.new.self c.args.entry.now (Ok c.in_ok-take.field-0) is of stands (returns-clause-step c)
+pub returns-in_ok-take-in-Free-clause-shows : goal.returns-in_ok-take-in-Free-clause-shows
+returns-in_ok-take-in-Free-clause-shows c log taken is of stands =
+    entry_shows log taken c.args.self.now c.take.new.self c.args.entry.now (Ok c.in_ok-take-in-Free.field-0) is of stands (returns-in_ok-take-in-Free-clause-step c)

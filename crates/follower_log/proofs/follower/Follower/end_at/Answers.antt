@@ -10,7 +10,7 @@ followed_there new last old b is = subst (λ a. new ≡ (if b then last else old
 
 pub returns-clause-step : goal.returns-clause-step
 returns-clause-step c _ log taken entry is there stands lacks at =
-    let g : FollowerState = record { image = c.follow.new.self; waiting = c.empty.result } in
+    let g : FollowerState = record { image = c.follow.new.self; waiting = c.clear.new.self } in
     let image = followed_there c.follow.new.self c.args.last.now c.self.inside.metadata c.in_ok-follow.field-0 c.if-not-branch.false c.in_ok-follow.ensures.followed in
-    let ends : g ≡ record { image = c.args.last.now; waiting = [] } = λ i. record { image = image i; waiting = c.empty.ensures i } in
+    let ends : g ≡ record { image = c.args.last.now; waiting = [] } = λ i. record { image = image i; waiting = c.clear.ensures i } in
     comes_to_end log taken c.args.self.now entry is there stands lacks g c.args.last.now at ends

@@ -9,12 +9,11 @@ use Rattle.follower_log.proofs.waiting.Waiting.insert.Goals as goal
 
 made : (c : goal.In_ok-insert) → c.insert.new.self.items ≡ put by_epoch c.args.entry.now c.args.self.now
 made c =
-    let below = c.count_below-below.result in
     let entry = c.args.entry.now in
     c.in_ok-insert.ensures.items
-    ∙ ap (λ e. insert c.self.inside.entries.items below e) (c.in_ok-entry.ensures ∙ c.in_ok-copy.ensures)
-    ∙ ap (λ l. insert l below entry) c.self.view_is
-    ∙ put_there c.args.self.now below entry c.count_below-below.ensures.split c.count_below-below.ensures.bound c.requires
+    ∙ ap (λ e. insert c.self.inside.entries.items c.args.at e) (c.in_ok-entry.ensures ∙ c.in_ok-copy.ensures)
+    ∙ ap (λ l. insert l c.args.at entry) c.self.view_is
+    ∙ put_there c.args.self.now c.args.at entry c.requires.split c.requires.bound c.requires.none
 
 pub invariant_of-self-2 : goal.invariant_of-self-2
 invariant_of-self-2 c =

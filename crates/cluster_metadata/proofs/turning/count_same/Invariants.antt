@@ -1,6 +1,6 @@
 use Rattle.std.proofs.Common.{◌≡◌, take, map}
 use Rattle.range_placements.specs.Placements.{right_ends}
-use Rattle.cluster_metadata.proofs.recutting.has_ends.Given as goal
+use Rattle.cluster_metadata.proofs.turning.count_same.Given as goal
 
 -- the rows so far have the right ends of as many ranges
 abbrev pub invariant-loop-at : goal.invariant-loop-at
