@@ -1,5 +1,5 @@
 -- How changes lock and unlock ranges, and the keys that movements hold. Of the code: no promise rests on these.
-use Rattle.std.specs.Prelude.{◌≡◌, ◌≤◌, false, true, List, [], ◌∷◌, ◌++◌, map, length, nat_eq, ℤ}
+use Rattle.std.specs.Prelude.{◌≡◌, false, true, List, [], ◌∷◌, ◌++◌, map, nat_eq, ℤ}
 use Rattle.std.specs.List.{AllByRecursion, IsDistinct, insert, remove}
 use Rattle.locked_ranges.specs.Sharing.{ShareNoToken}
 use Rattle.locked_ranges.specs.Table.{has_row}

@@ -212,7 +212,7 @@ pub fn make(
     image.epoch += 1;
     match change {
         Change::Unchanged => {}
-        Change::Registered(node) => register(image, directory, node.take()),
+        Change::Registered(node) => register(image, directory, node),
         Change::Unregistered { node } => unregister(image, directory, node),
         Change::Tokens(tokens) => image.tokens = tokens,
         Change::Keyspaces(keyspaces) => image.keyspaces = keyspaces,

@@ -22,7 +22,8 @@ pub fn add_row(image: &mut Image, row: NodeRow, next: u32, room: Room<NodeRow>)
 }
 
 /// Registers a node.
-pub fn register(image: &mut Image, directory: &mut Directory, node: NewNode)
+#[inline(never)]
+pub fn register(image: &mut Image, directory: &mut Directory, node: OnHeap<NewNode>)
     requires directory { directory.old ≡ directory_of image.old }
     requires node { IsNew image.old.nodes image.old.next node }
     ensures image { image.new ≡ with_node image.old node }
@@ -34,7 +35,7 @@ pub fn register(image: &mut Image, directory: &mut Directory, node: NewNode)
         next,
         nodes,
         directory: room,
-    } = node;
+    } = node.take();
     let NodeRow {
         id: _,
         name,

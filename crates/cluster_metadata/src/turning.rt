@@ -1,11 +1,13 @@
 //! Changes placement maps by the deltas of a movement.
 
-ghost use Rattle.std.specs.Prelude.{◌≡◌, ◌<◌, ◌≤◌, ◌^◌, ◌-◌, drop, length, map, take, IfOk, IsTrue, OnOk};
+ghost use Rattle.std.specs.Prelude.{◌≡◌, ◌<◌, ◌≤◌, ◌^◌, ◌-◌, List, [], drop, get_or, length, map, take, IfOk, IsTrue, OnOk};
 ghost use Rattle.cluster_terms.specs.Row.{last_token};
 ghost use Rattle.placement_deltas.specs.Deltas.{delta_at};
+ghost use Rattle.placement_deltas.specs.declared.delta_row.DeltaRow.{DeltaRow as AnyDeltaRow};
 ghost use Rattle.range_placements.specs.Editing.{edited, all_passed};
 ghost use Rattle.range_placements.specs.Exchanging.{with_changes};
 ghost use Rattle.range_placements.specs.Placements.{right_ends};
+ghost use Rattle.range_placements.specs.declared.placement_row.PlacementRow.{PlacementRow as AnyRow};
 ghost use Rattle.cluster_metadata.specs.MapChanges.{each_edited, each_exchanged};
 ghost use Rattle.cluster_metadata.specs.Turns as spec;
 
@@ -97,18 +99,19 @@ fn turned_nodes(
     Ok(Some(nodes))
 }
 
-/// Adds the new nodes of a row.
+/// Adds the new nodes of a row, by the nodes gained and the nodes lost.
 fn push_turned(
     changes: &mut RowChanges,
     turn: Turn,
     at: usize,
     row: &PlacementRow,
-    delta: &Delta,
-    near: &mut usize,
+    gained: &NodeSet,
+    lost: &NodeSet,
 ) -> Result<(), Memory>
-    ensures { OnOk result (spec.AddsTurned turn delta.now at row.now changes.old changes.new) }
+    ensures { OnOk result ((delta : List AnyDeltaRow)
+        → (gained.now, lost.now) ≡ delta_at delta (last_token row.now.right)
+        → spec.AddsTurned turn delta at row.now changes.old changes.new) }
 {
-    let (gained, lost) = delta.at_near(row.last_token(), near);
     match turned_nodes(turn, row, gained, lost)? {
         Some(nodes) => changes.push(RowChange { at, nodes }),
         None => Ok(()),
@@ -138,6 +141,8 @@ fn count_up_to(map: &PlacementMap, last: Token, near: usize) -> usize
 fn kept_up_to(turn: Turn, map: &PlacementMap, at: usize, delta: &Delta, near: &mut usize) -> usize
     requires { at < length map.now }
     ensures later { at ≤ result }
+    ensures passes { (row : AnyRow) → row ≡ get_or map.now at row
+        → delta_at delta.now (last_token row.right) ≡ ([], []) → at < result }
     ensures bound { result ≤ length map.now }
     ensures kept { spec.Keeps turn delta.now (take (result - at) (drop at map.now)) }
 {
@@ -167,11 +172,12 @@ fn turn_from(
     ensures bound { IfOk result (λ next. next ≤ length map.now) }
     ensures turned { IfOk result (λ next. spec.AreTurned turn delta.now map.now next changes.new) }
 {
-    let end = kept_up_to(turn, map, at, delta, near);
-    if end > at {
-        return Ok(end);
+    let row = &map.rows()[at];
+    let (gained, lost) = delta.at_near(row.last_token(), near);
+    if gained.is_empty() && lost.is_empty() {
+        return Ok(kept_up_to(turn, map, at, delta, near));
     }
-    push_turned(changes, turn, at, &map.rows()[at], delta, near)?;
+    push_turned(changes, turn, at, row, gained, lost)?;
     Ok(at + 1)
 }
 

@@ -1,5 +1,5 @@
 -- Entries that are stored under their ids, in order of epoch.
-use Rattle.std.proofs.Common.{◌≡◌, ℕ, ◌+◌, ◌-◌, ◌≤◌, Bool, true, false, ◌==◌, cond, List, [], ◌∷◌, ◌++◌, length, take, slice_get, nat_eq, Option, Some, None, is_none, IsSome, true≢false, refl, sym, ap, ◌∙◌, arith, length-append}
+use Rattle.std.proofs.Common.{◌≡◌, ℕ, ◌+◌, ◌-◌, ◌≤◌, ◌<◌, Bool, true, false, ◌==◌, cond, List, [], ◌∷◌, ◌++◌, length, take, slice_get, nat_eq, Option, Some, None, is_none, IsSome, true≢false, refl, sym, ap, ◌∙◌, arith, length-append}
 use Rattle.std.proofs.lemmas.Bool.{and_parts, and_from, ne_eqb}
 use Rattle.std.proofs.lemmas.List.{map-append}
 use Rattle.std.proofs.lemmas.Option.{slice_get-map}
@@ -11,7 +11,7 @@ use Rattle.indexmap.specs.IndexMap.{IndexMap, insert_entry}
 use Rattle.transformations.proofs.histories.LogLemmas.{entries_push}
 use Rattle.transformations.specs.Log.{AreEntries, are_numbered, entry_with_id, have_own_ids}
 use Rattle.transformations.specs.declared.entry.Entry.{Entry}
-use Rattle.epoch_log.specs.Epochs.{AreById, IsStored, entry_at}
+use Rattle.epoch_log.specs.Epochs.{AreById, AreUpTo, IsStored, entry_at}
 
 -- ---- the first entries of a log
 
@@ -79,6 +79,30 @@ AreById-front (e ∷ es) more by_id =
     let first = first_id e (es ++ more) by_id in
     let rest : AreById es = AreById-front es more (other_ids e (es ++ more) by_id) in
     cc
+
+-- ---- the greatest id
+
+-- an id above all ids is in no entry
+pub none_above : (log : List Entry) (greatest id : ℕ) → AreUpTo greatest log → greatest < id → entry_with_id log id ≡ None
+none_above [] greatest id up_to above = refl
+none_above (first ∷ log) greatest id up_to above =
+    let other : (id == first.id) ≡ false = ne_eqb id first.id (λ same. omega (arith, up_to.0, above, same)) in
+    rw other (none_above log greatest id up_to.1 above)
+
+-- another entry raises the greatest id to its own
+pub up_to_push : (log : List Entry) (entry : Entry) (greatest now : ℕ) → AreUpTo greatest log → greatest ≤ now → entry.id ≤ now → AreUpTo now (log ++ entry ∷ [])
+up_to_push [] entry greatest now up_to rises own = (own, tt)
+up_to_push (first ∷ log) entry greatest now up_to rises own =
+    (omega (arith, up_to.0, rises), up_to_push log entry greatest now up_to.1 rises own)
+
+pub up_to_front : (log more : List Entry) (greatest : ℕ) → AreUpTo greatest (log ++ more) → AreUpTo greatest log
+up_to_front [] more greatest up_to = tt
+up_to_front (first ∷ log) more greatest up_to = (up_to.0, up_to_front log more greatest up_to.1)
+
+pub up_to_pop : (es rest : List (ℕ × Entry)) (last : Option (ℕ × Entry)) (greatest : ℕ) → AreUpTo greatest (values_of es) → es ≡ rest ++ option_to_list last → AreUpTo greatest (values_of rest)
+up_to_pop es rest last greatest up_to is =
+    let values : values_of es ≡ values_of rest ++ values_of (option_to_list last) = ap values_of is ∙ map-append (λ (e : ℕ × Entry). e.1) rest (option_to_list last) in
+    up_to_front (values_of rest) (values_of (option_to_list last)) greatest (rw (← values) up_to)
 
 -- ---- the changes of a log
 

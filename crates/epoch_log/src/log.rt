@@ -14,19 +14,22 @@ use transformations::Entry;
 pub struct Log {
     /// The entries by id, in order of epoch.
     entries: IndexMap<u64, Entry>,
+    /// No entry has an id above this one.
+    greatest_id: u64,
 }
 
 impl Model for Log {
     ghost use Rattle.std.specs.Prelude.{List};
     ghost use Rattle.std.specs.Map.{values_of};
     ghost use Rattle.transformations.specs.declared.entry.Entry.{Entry};
-    ghost use Rattle.epoch_log.specs.Epochs.{IsStored};
+    ghost use Rattle.epoch_log.specs.Epochs.{AreUpTo, IsStored};
 
     ghost Value = { List Entry };
 
     ghost view = { λ log. values_of log.entries.entries };
 
-    ghost invariant = { λ log. IsStored log.entries.entries };
+    ghost invariant = { λ log. IsStored log.entries.entries
+        × AreUpTo log.greatest_id (values_of log.entries.entries) };
 }
 
 impl Log {
@@ -36,6 +39,7 @@ impl Log {
     {
         Log {
             entries: IndexMap::new(alloc),
+            greatest_id: 0,
         }
     }
 
@@ -48,8 +52,12 @@ impl Log {
         ensures err { OnErr result (self.new ≡ self.old) }
         ensures handed_back { IfErr result (λ e. e.0 ≡ entry) }
     {
-        match self.entries.insert(entry.id, entry) {
-            Ok(_) => Ok(()),
+        let id = entry.id;
+        match self.entries.insert(id, entry) {
+            Ok(_) => {
+                self.greatest_id = self.greatest_id.max(id);
+                Ok(())
+            }
             Err(failed) => {
                 let (_id, entry) = failed.value;
                 Err((entry, Memory))
@@ -65,11 +73,15 @@ impl Log {
         let _last = self.entries.pop();
     }
 
-    /// The entry with this id. Returns `None` if and only if no entry has the id. The cost is a look-up by hash.
+    /// The entry with this id. Returns `None` if and only if no entry has the id. The cost is a look-up by hash, or one
+    /// comparison if the id is above all ids that the log has had.
     pub fn seen(&self, id: u64) -> Option<&Entry>
         ensures entry { option_copied result ≡ entry_with_id self.now id }
         ensures entries { AreEntries self.now }
     {
+        if id > self.greatest_id {
+            return None;
+        }
         self.entries.get(&id)
     }
 

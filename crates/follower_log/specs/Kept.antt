@@ -6,7 +6,8 @@ use Rattle.std.specs.List.Sorted.{IsPartitionPoint}
 use Rattle.transformations.specs.History.{is_command, most_epochs, next_image}
 use Rattle.transformations.specs.Refusals.{refusal_of}
 use Rattle.transformations.specs.declared.entry.Entry.{Entry}
-use Rattle.follower_log.specs.Follower.{Performs, FollowerState, IsAdvance, advanced, is_next, waiting_at}
+use Rattle.cluster_terms.specs.Ascending.{put}
+use Rattle.follower_log.specs.Follower.{Performs, FollowerState, IsAdvance, advanced, by_epoch, is_next, most_waiting, waiting_at}
 use Rattle.follower_log.specs.declared.apply_fault.ApplyFault.{ApplyFault}
 use Rattle.follower_log.specs.declared.apply_fault.ApplyFault.TheVariants as apply
 use Rattle.follower_log.specs.declared.fault.FollowerFault.{FollowerFault}
@@ -74,3 +75,8 @@ abbrev pub ComesFirst : FollowerState → Result Bool ApplyFault → FollowerSta
 ComesFirst before (Ok true) after = Leads before after
 ComesFirst before (Ok false) after = (after ≡ before) × Advances before (Ok (At before.image.epoch)) after
 ComesFirst before (Err fault) after = Advances before (Err (widened_fault fault)) after
+
+-- an entry was let wait; or 1,024 entries wait
+abbrev pub Keeps : FollowerState → Entry → Bool → FollowerState → Type 0
+Keeps before entry true after = (length before.waiting < most_waiting) × (after ≡ record before { waiting = put by_epoch entry before.waiting })
+Keeps before entry false after = (most_waiting ≤ length before.waiting) × (after ≡ before)

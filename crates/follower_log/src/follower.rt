@@ -1,9 +1,10 @@
 ghost use Rattle.std.specs.Prelude.{◌≡◌, ◌+◌, ◌<◌, ◌≤◌, ◌∷◌, ◌↔◌, true, List, [], Ok, Some, None, length, IfOk, IsFalse, IsTrue, OnErr};
+ghost use Rattle.std.specs.Option.{IfSome};
 ghost use Rattle.cluster_terms.specs.Ascending.{put};
 ghost use Rattle.transformations.specs.History.{is_command, most_epochs, state_after};
 ghost use Rattle.transformations.specs.Log.{IsLog, commands_of};
 ghost use Rattle.transformations.specs.declared.entry.Entry.{Entry as LogEntry};
-ghost use Rattle.follower_log.specs.Follower.{Performs, FollowerState, IsAdvance, IsCutFrom, IsCutPast, advanced, by_epoch, empty_follower, hand_above, hand_entry, hand_image, hand_new, hand_valid, is_next, lacks_only, waiting_at};
+ghost use Rattle.follower_log.specs.Follower.{Holds, Performs, FollowerState, IsAdvance, IsCutFrom, IsCutPast, advanced, by_epoch, empty_follower, hand_above, hand_entry, hand_image, hand_new, hand_valid, is_next, lacks_only, leads, waiting_at};
 ghost use Rattle.follower_log.specs.Kept.{Advances, ComesFirst, IsFree};
 ghost use Rattle.follower_log.specs.Kept as spec;
 ghost use Rattle.follower_log.specs.declared.took.Took.{Took};
@@ -114,14 +115,76 @@ impl Follower {
             → StandsFor log taken self.old
             → StandsAfter log taken (with_entry taken entry.now.epoch) result self.new }
     {
-        let epoch = self.epoch();
-        if entry.epoch <= epoch {
-            return Ok(Took::Old(epoch));
+        if let Some(took) = self.hold(entry)? {
+            return Ok(took);
         }
         match self.waiting.slot(entry.epoch) {
-            Slot::Taken(held) => compared(held, entry, epoch),
+            Slot::Taken(held) => compared(held, entry, self.epoch()),
             Slot::Free(at) => Ok(self.take(at, entry)?),
         }
+    }
+
+    /// Hands over an entry, whose epoch is at most 65,536, if no entries are compared or applied for it. Then it comes to
+    /// the same as `deliver`; the result is smaller. Returns `None` and changes nothing if the entry is the next one, or
+    /// past it where an entry of its epoch waits, or where the first entry that waits is the next one. Fails only if
+    /// memory runs out, and then changes nothing.
+    ///
+    /// Cost: a search among the waiting entries.
+    pub fn hold(&mut self, entry: &Entry) -> Result<Option<Took>, Memory>
+        requires formed { IsTrue (is_command entry.now.cmd) }
+        requires epoch { entry.now.epoch ≤ most_epochs }
+        ensures step { IfOk result (λ held. Holds self.old entry.now held self.new) }
+        ensures unchanged { OnErr result (self.new ≡ self.old) }
+        ensures shows { (log : List LogEntry) (taken : Taken) → IsLog log → IsEntryOf log entry.now
+            → StandsFor log taken self.old
+            → IfOk result (λ held. IfSome held
+            (λ took. StandsAfter log taken (with_entry taken entry.now.epoch) (Ok took) self.new)) }
+    {
+        let epoch = self.epoch();
+        if entry.epoch <= epoch {
+            return Ok(Some(Took::Old(epoch)));
+        }
+        if entry.epoch - epoch == 1 || self.leads() {
+            return Ok(None);
+        }
+        match self.waiting.slot(entry.epoch) {
+            Slot::Taken(_) => Ok(None),
+            Slot::Free(at) => {
+                if self.keep(at, entry)? {
+                    Ok(Some(Took::At(epoch)))
+                } else {
+                    Ok(Some(Took::Full(epoch)))
+                }
+            }
+        }
+    }
+
+    /// Whether the first waiting entry is the next one.
+    fn leads(&self) -> bool
+        ensures { result ≡ leads self.now.image self.now.waiting }
+    {
+        match self.waiting.first() {
+            Some(first) => first.epoch - self.metadata.epoch() == 1,
+            None => false,
+        }
+    }
+
+    /// Lets an entry above the follower's epoch wait, unless too many wait, and returns whether it does. None waits at its
+    /// epoch, and `at` is its free slot.
+    #[inline(always)]
+    fn keep(&mut self, at: usize, entry: &Entry) -> Result<bool, Memory>
+        requires formed { IsTrue (is_command entry.now.cmd) }
+        requires above { self.old.image.epoch < entry.now.epoch }
+        requires epoch { entry.now.epoch ≤ most_epochs }
+        requires free { IsFree self.old.waiting entry.now.epoch at }
+        ensures ok { IfOk result (λ kept. spec.Keeps self.old entry.now kept self.new) }
+        ensures err { OnErr result (self.new ≡ self.old) }
+    {
+        if self.waiting.len() >= MOST_WAITING {
+            return Ok(false);
+        }
+        self.waiting.insert(at, entry)?;
+        Ok(true)
     }
 
     /// Whether the follower lacks the entry of this epoch alone, of all up to the epoch `last`: it is the next one, it
@@ -174,10 +237,9 @@ impl Follower {
         if entry.epoch == epoch + 1 {
             return self.take_next(entry);
         }
-        if self.waiting.len() >= MOST_WAITING {
+        if !self.keep(at, entry)? {
             return Ok(Took::Full(epoch));
         }
-        self.waiting.insert(at, entry)?;
         self.apply_waiting()
     }
 

@@ -1,5 +1,6 @@
 pub mod Change
 pub mod Moved
 pub mod Settled
+pub mod ShortLists
 pub mod Walk
 pub mod Windows

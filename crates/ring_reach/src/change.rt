@@ -5,10 +5,10 @@ ghost use Rattle.ring_reach.specs.Moved.{AreTokensAmong, HaveSameTokens, tokens_
 ghost use Rattle.ring_reach.specs.Windows.{window_bounds, have};
 
 use crate::shape::common_shape;
-use crate::token_set::TokenSet;
+use crate::token_set::{TokenList, TokenSet};
 use crate::walk::Walk;
 use crate::windows::Windows;
-use cluster_terms::{Memory, Pair};
+use cluster_terms::{Memory, Pair, Token};
 use node_directory::Members;
 use std::alloc::Global;
 use token_ring::Ring;
@@ -25,16 +25,13 @@ pub struct Change<'a> {
 fn tokens_of(alloc: Global, members: &Members, pairs: &[Pair]) -> Result<TokenSet, Memory>
     ensures { IfOk result (λ set. HaveSameTokens set (tokens_in (group_of members.now) pairs.now)) }
 {
-    let mut tokens = Vec::new(alloc);
+    let mut tokens = TokenList::empty(alloc, Token::new(0));
     for pair in pairs {
         if members.rack_of(pair.node).is_some() {
-            if tokens.is_empty() {
-                tokens.reserve(pairs.len())?;
-            }
             tokens.push(pair.token)?;
         }
     }
-    Ok(TokenSet::from_tokens(tokens))
+    TokenSet::from_tokens(alloc, tokens)
 }
 
 impl<'a> Change<'a> {

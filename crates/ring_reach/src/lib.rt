@@ -8,6 +8,7 @@ mod reach;
 mod rows;
 mod settled;
 mod shape;
+mod short_list;
 mod token_set;
 mod walk;
 mod windows;

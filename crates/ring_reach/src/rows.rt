@@ -4,15 +4,15 @@ ghost use Rattle.token_ring.specs.Ranges.{AreCutOut, HaveTokens};
 ghost use Rattle.ring_reach.specs.Moved.{HaveSameTokens};
 ghost use Rattle.ring_reach.specs.Windows.{any_have, window_bounds};
 
-use crate::token_set::TokenSet;
+use crate::token_set::{TokenList, TokenSet};
 use crate::windows::{Window, Windows};
 use cluster_terms::{Memory, Token};
 use std::alloc::Global;
 use token_ring::RangeList;
 
 /// Adds the tokens at which windows begin and end.
-fn push_bounds(bounds: &mut Vec<Token>, windows: &[Window]) -> Result<(), Memory>
-    ensures { OnOk result (bounds.new.items ≡ bounds.old.items ++ window_bounds windows.now) }
+fn push_bounds(bounds: &mut TokenList, windows: &[Window]) -> Result<(), Memory>
+    ensures { OnOk result (bounds.new ≡ bounds.old ++ window_bounds windows.now) }
 {
     for window in windows {
         bounds.push(window.left)?;
@@ -25,11 +25,11 @@ fn push_bounds(bounds: &mut Vec<Token>, windows: &[Window]) -> Result<(), Memory
 pub fn cuts_of(alloc: Global, groups: &[Windows]) -> Result<TokenSet, Memory>
     ensures { IfOk result (λ cuts. HaveSameTokens cuts (flat_map window_bounds groups.now)) }
 {
-    let mut bounds = Vec::new(alloc);
+    let mut bounds = TokenList::empty(alloc, Token::new(0));
     for windows in groups {
         push_bounds(&mut bounds, windows.as_slice())?;
     }
-    Ok(TokenSet::from_tokens(bounds))
+    TokenSet::from_tokens(alloc, bounds)
 }
 
 /// Whether the windows of any group have a token.

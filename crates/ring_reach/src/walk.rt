@@ -6,7 +6,7 @@ ghost use Rattle.ring_reach.specs.Walk as spec;
 ghost use Rattle.ring_reach.specs.Windows.{window_bounds, have};
 
 use crate::token_set::TokenSet;
-use crate::windows::{Window, Windows};
+use crate::windows::{Window, WindowList, Windows};
 use cluster_terms::{Memory, Pair, Token};
 use node_directory::{Members, Shape, Tally};
 use std::alloc::Global;
@@ -85,7 +85,8 @@ impl<'a> Walk<'a> {
             return Ok(Windows::empty(alloc));
         };
         let mut left = *last;
-        let mut windows = Vec::with_capacity(alloc, tokens.len())?;
+        let blank = Window { left, right: left };
+        let mut windows = WindowList::with_room(alloc, blank, tokens.len())?;
         for token in tokens {
             let right = *token;
             windows.push(self.part(Window { left, right }, tally))?;

@@ -3,6 +3,7 @@ ghost use Rattle.std.specs.List.Sorted.{IsPartitionPoint, IsStrictlySortedBy};
 ghost use Rattle.std.specs.Ordering.{int_cmp};
 ghost use Rattle.ring_reach.specs.Windows as spec;
 
+use crate::short_list::ShortList;
 use cluster_terms::{Memory, Token};
 use std::alloc::Global;
 use std::marker::Model;
@@ -28,11 +29,14 @@ impl Window {
     }
 }
 
+/// A list of windows. Up to 2 windows take no memory.
+pub type WindowList = ShortList<Window, 2>;
+
 /// Windows of the ring, in ascending order of their right ends. They have a token if the nearest window has it: the one
 /// that ends first at or after the token, in ring order.
 #[derive(Drop)]
 pub struct Windows {
-    windows: Vec<Window>,
+    windows: WindowList,
 }
 
 impl Model for Windows {
@@ -44,9 +48,9 @@ impl Model for Windows {
 
     ghost Value = { List Window };
 
-    ghost view = { λ list. list.windows.items };
+    ghost view = { λ list. list.windows };
 
-    ghost invariant = { λ list. IsStrictlySortedBy int_cmp (rights_of list.windows.items) };
+    ghost invariant = { λ list. IsStrictlySortedBy int_cmp (rights_of list.windows) };
 }
 
 /// How many windows end before a token.
@@ -64,8 +68,13 @@ impl Windows {
     pub fn empty(alloc: Global) -> Windows
         ensures { result ≡ [] }
     {
+        let zero = Token::new(0);
+        let blank = Window {
+            left: zero,
+            right: zero,
+        };
         Windows {
-            windows: Vec::new(alloc),
+            windows: WindowList::empty(alloc, blank),
         }
     }
 
@@ -77,14 +86,14 @@ impl Windows {
             left: token,
             right: token,
         };
-        let windows = Vec::from_slice(alloc, &[window])?;
+        let windows = WindowList::of_one(alloc, window)?;
         Ok(Windows { windows })
     }
 
     /// These windows, given in ascending order of their right ends.
-    pub fn from_ascending(windows: Vec<Window>) -> Windows
-        requires { IsStrictlySortedBy int_cmp (spec.rights_of windows.items) }
-        ensures { result ≡ windows.items }
+    pub fn from_ascending(windows: WindowList) -> Windows
+        requires { IsStrictlySortedBy int_cmp (spec.rights_of windows) }
+        ensures { result ≡ windows }
     {
         Windows { windows }
     }
@@ -100,10 +109,11 @@ impl Windows {
     fn nearest(&self, t: Token) -> Option<Window>
         ensures { result ≡ spec.nearest self.now t }
     {
-        let first = self.windows.first()?;
-        let before = count_before(&self.windows, t);
-        if before < self.windows.len() {
-            Some(self.windows[before])
+        let windows = self.windows.as_slice();
+        let first = windows.first()?;
+        let before = count_before(windows, t);
+        if before < windows.len() {
+            Some(windows[before])
         } else {
             Some(*first)
         }

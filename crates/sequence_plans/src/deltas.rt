@@ -18,7 +18,7 @@ use crate::movement_rings::{MovementPlacers, MovementRings};
 use crate::near_cuts::near_cuts;
 use crate::row_changes::changes_of;
 use crate::wide_image::WideImage;
-use cluster_terms::{Memory, Replication, Steps, Token, TryCopy, rows_between};
+use cluster_terms::{Memory, Replication, Steps, Token, TryCopy};
 use node_directory::Directory;
 use placement_deltas::{Delta, DeltaBook, DeltaBookRow, Side};
 use range_placements::MapRow;
@@ -66,8 +66,7 @@ fn deltas_under<L: Ledger>(
     requires ascending { IsStrictlySortedBy int_cmp near.now }
     ensures { IfOk result (AreExact image.now row.now replication.now) }
 {
-    let rows = rows_between(alloc, near)?;
-    let changes = changes_of(alloc, placers, ranges, rows.as_slice(), walks)?;
+    let changes = changes_of(alloc, placers, ranges, near, walks)?;
     let swap = Delta::of_changes(alloc, changes)?;
     Ok(Deltas {
         gain: swap.only(Side::Gained)?,

@@ -13,14 +13,15 @@ ghost use Rattle.sequence_plans.specs.LowMaps.{ShowLow};
 ghost use Rattle.sequence_plans.specs.Plan.{AreLocks, IsPlan};
 
 use crate::basis::Basis;
+use crate::deltas::DeltaBooks;
 use crate::wide_image::WideImage;
-use cluster_terms::{Memory, Steps, Token, TryCopy};
+use cluster_terms::{Memory, Steps, Token, TokenList};
 use node_directory::Directory;
 use placement_deltas::Plan;
 use range_placements::MapRow;
 use std::alloc::Global;
 use std::sync::ledger::Ledger;
-use token_ring::{LockRow, LockRows};
+use token_ring::{LockRow, LockRows, RangeBook};
 use transformations::{Image, SeqRow, cuts_among};
 
 /// The ranges of the movements beside a new one, in the image with it. `locks` may have those in the image without it.
@@ -47,7 +48,45 @@ fn locks_with(
     basis.locks_beside(row.node)
 }
 
-/// The plan of a movement, in the image with this movement.
+/// A plan without its row.
+#[derive(Drop)]
+struct Parts {
+    cuts: TokenList,
+    ranges: RangeBook,
+    wide: LockRows,
+    books: DeltaBooks,
+}
+
+/// The plan of a row that has these parts.
+fn whole(row: SeqRow, parts: Parts) -> Plan
+    ensures { result ≡ record {
+      row = row;
+      cuts = parts.cuts;
+      ranges = parts.ranges;
+      wide = parts.wide;
+      gain = parts.books.gain;
+      swap = parts.books.swap;
+      lose = parts.books.lose;
+    } }
+{
+    let Parts {
+        cuts,
+        ranges,
+        wide,
+        books,
+    } = parts;
+    Plan {
+        row,
+        cuts,
+        ranges,
+        wide,
+        gain: books.gain,
+        swap: books.swap,
+        lose: books.lose,
+    }
+}
+
+/// The plan of a movement without its row, in the image with this movement.
 fn planned<L: Ledger>(
     alloc: Global,
     image: &Image,
@@ -56,27 +95,33 @@ fn planned<L: Ledger>(
     known: Option<&[MapRow]>,
     row: &SeqRow,
     walks: &mut Steps<L>,
-) -> Result<Plan, Memory>
+) -> Result<Parts, Memory>
     requires sound { IsSound (with_movement image.now row.now) }
     requires nodes { directory.now.rows ≡ image.now.nodes }
     requires locks { IfSome locks (λ rows. HasLocks image.now row.now rows.now) }
     requires known { IfSome known (λ maps. ShowLow image.now maps.now) }
-    ensures { IfOk result (IsPlan (with_movement image.now row.now) row.now) }
+    ensures { IfOk result (λ parts. IsPlan (with_movement image.now row.now) row.now
+        (record {
+          row = row.now;
+          cuts = parts.cuts;
+          ranges = parts.ranges;
+          wide = parts.wide;
+          gain = parts.books.gain;
+          swap = parts.books.swap;
+          lose = parts.books.lose;
+        })) }
 {
-    let wide = WideImage::new(image, row)?;
-    let basis = Basis::of_image(alloc, &wide, directory)?;
-    let cuts = cuts_among(alloc, wide.tokens(), wide.sequences())?;
+    let with_row = WideImage::new(image, row)?;
+    let basis = Basis::of_image(alloc, &with_row, directory)?;
+    let cuts = cuts_among(alloc, with_row.tokens(), with_row.sequences())?;
     let ranges = basis.book_of(row)?;
     let books = basis.deltas_of(row, known, ranges.as_slice(), cuts.as_slice(), walks)?;
-    let others = locks_with(&basis, image, row, locks, cuts.as_slice())?;
-    Ok(Plan {
-        row: row.copy()?,
+    let wide = locks_with(&basis, image, row, locks, cuts.as_slice())?;
+    Ok(Parts {
         cuts,
         ranges,
-        wide: others,
-        gain: books.gain,
-        swap: books.swap,
-        lose: books.lose,
+        wide,
+        books,
     })
 }
 
@@ -99,7 +144,7 @@ fn plan_with<L: Ledger>(
         (λ plan. IsValid (begun image.now row) → StaysExact (begun image.now row) plan) }
 {
     match planned(alloc, image, directory, locks, known, &row, walks) {
-        Ok(plan) => Ok(plan),
+        Ok(parts) => Ok(whole(row, parts)),
         Err(memory) => Err((row, memory)),
     }
 }

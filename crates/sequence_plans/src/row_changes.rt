@@ -1,13 +1,17 @@
 //! What changes in each row between cuts with a movement, under one replication.
 
-ghost use Rattle.std.specs.Prelude.{map, IfOk, OnOk};
+ghost use Rattle.std.specs.Prelude.{◌≡◌, [], map, IfOk, OnOk};
+ghost use Rattle.std.specs.List.{AllByRecursion};
+ghost use Rattle.std.specs.Option.{option_to_list};
+ghost use Rattle.cluster_terms.specs.Arc.{IsToken};
+ghost use Rattle.cluster_terms.specs.Row.{rows_between, rows_from};
 ghost use Rattle.placement_deltas.specs.Changes.{AreJoined, AreWithRow};
 ghost use Rattle.sequence_plans.specs.LowNodes.{nodes_by};
 ghost use Rattle.sequence_plans.specs.Placers.{placed_by};
 ghost use Rattle.sequence_plans.specs.RowChanges.{change_at};
 
 use crate::movement_rings::MovementPlacers;
-use cluster_terms::{Memory, Steps, TokenRange};
+use cluster_terms::{Memory, RightEnd, Steps, Token, TokenRange, TryCopy};
 use placement_deltas::Changes;
 use std::alloc::Global;
 use std::sync::ledger::Ledger;
@@ -38,22 +42,47 @@ fn push_row<L: Ledger>(
     }
 }
 
-/// What changes in these rows. For each row in the ranges a placer makes one walk, and a map is looked at; elsewhere
-/// no node is looked for. Fails only if memory runs out.
+/// The row from this left end on, unless no token comes after it.
+fn last_row(left: Option<Token>) -> Option<TokenRange>
+    ensures { option_to_list result ≡ rows_from left [] }
+{
+    let is_last = match left {
+        None => false,
+        Some(token) => token.value() == i64::MAX,
+    };
+    if is_last {
+        return None;
+    }
+    Some(TokenRange {
+        left,
+        right: RightEnd::Max,
+    })
+}
+
+/// What changes in the rows between cuts. For each row in the ranges a placer makes one walk, and a map is looked at;
+/// elsewhere no node is looked for. Fails only if memory runs out.
 pub fn changes_of<L: Ledger>(
     alloc: Global,
     placers: &MovementPlacers,
     ranges: &RangeList,
-    rows: &[TokenRange],
+    cuts: &[Token],
     walks: &mut Steps<L>,
 ) -> Result<Changes, Memory>
-    ensures { IfOk result (AreJoined (map
-        (change_at ranges.now (nodes_by placers.now.before) (placed_by placers.now.after)) rows.now)) }
+    ensures changes { IfOk result (AreJoined (map
+        (change_at ranges.now (nodes_by placers.now.before) (placed_by placers.now.after)) (rows_between cuts.now))) }
+    ensures tokens { OnOk result (AllByRecursion IsToken cuts.now) }
 {
-    let mut changes = Changes::with_room(alloc, rows.len())?;
+    let mut changes = Changes::with_room(alloc, cuts.len().saturating_add(1))?;
     let mut near = 0;
-    for row in rows {
-        push_row(&mut changes, alloc, placers, ranges, row, &mut near, walks)?;
+    let mut left = None;
+    for cut in cuts {
+        let right = RightEnd::At(cut.copy()?);
+        let row = TokenRange { left, right };
+        push_row(&mut changes, alloc, placers, ranges, &row, &mut near, walks)?;
+        left = Some(*cut);
+    }
+    if let Some(row) = last_row(left) {
+        push_row(&mut changes, alloc, placers, ranges, &row, &mut near, walks)?;
     }
     Ok(changes)
 }

@@ -1,9 +1,10 @@
 -- Lemmas on the generated script: lines after lines, and what is left of a loop over lines.
-use Rattle.std.proofs.Common.{◌≡◌, ℕ, suc, ◌+◌, ◌-◌, ◌*◌, ◌%◌, ◌^◌, ℤ, ◌<◌, ◌≤◌, true, false, cond, List, [], ◌∷◌, ◌++◌, length, map, codes, drop, get_or, Result, Ok, Err, OnOk, refl, sym, ap, ◌∙◌, append_assoc, append-nil, arith}
+use Rattle.std.proofs.Common.{◌≡◌, ℕ, zero, suc, ◌+◌, ◌-◌, ◌*◌, ◌%◌, ◌^◌, ℤ, ◌<◌, ◌≤◌, ◌==◌, true, false, cond, filter, List, [], ◌∷◌, ◌++◌, length, map, codes, drop, get_or, Result, Ok, Err, OnOk, refl, sym, ap, ◌∙◌, append_assoc, append-nil, arith}
 use Rattle.std.proofs.lemmas.List.{at_drop_all, at_drop_more}
-use Rattle.tcm_session.specs.Generated.{after_line, after_lines, begins, generation_of, kind_of, nothing_generated, refusals, refused_kind, refused_line, refused_lines}
+use Rattle.tcm_session.specs.Generated.{after_line, after_lines, begins, generation_of, is_refused, kind_of, nothing_generated, refusals, refused_kind, refused_line, refused_lines}
 use Rattle.tcm_session.specs.GeneratedLines.{commit_line, deliver_line, deliveries, delivers, drawn, drawn_token, each, join_line, join_lines, keyspace_lines, on_node, opening_lines, register_words, register_line, register_lines, round_commits, round_lines, rounds_lines, step_lines, step_words, with_token}
 use Rattle.tcm_session.specs.Machine.{SessionState, session_after}
+use Rattle.tcm_session.specs.RefusedKinds.{is_refusal}
 use Rattle.tcm_session.specs.declared.generated.kinds.AnswerKind.{AnswerKind}
 use Rattle.tcm_session.specs.declared.generated.kinds.AnswerKind.TheVariants.{Accepted, Other, Refused}
 use Rattle.tcm_session.specs.declared.generated.generation.Generation.{Generation}
@@ -181,6 +182,19 @@ pub rounds_all : (g : Generation) (s rounds : ℕ) → after_lines g (rounds_lin
 rounds_all g s rounds = (let same : rounds ≡ rounds + 1 - 1 = omega arith in ap (λ n. after_lines g (rounds_lines g.session s 1 n)) same)
 
 -- ---- refusals
+
+-- the refusals with a number stand among the refused commits
+refusals_kept : (number : ℕ) (kinds : List AnswerKind) → filter (is_refused number) (filter is_refusal kinds) ≡ filter (is_refused number) kinds
+refusals_kept number [] = refl
+refusals_kept number (Accepted ∷ kinds) = refusals_kept number kinds
+refusals_kept number (Other ∷ kinds) = refusals_kept number kinds
+refusals_kept number (Refused n ∷ kinds) = ap (λ ks. cond (n == number) (Refused n ∷ ks) ks) (refusals_kept number kinds)
+
+pub lines_of_refusals : (kinds : List AnswerKind) (number count : ℕ) → refused_lines (filter is_refusal kinds) number count ≡ refused_lines kinds number count
+unfolding refused_lines
+lines_of_refusals kinds number zero = refl
+lines_of_refusals kinds number (suc count) =
+    rw (refusals_kept number kinds, lines_of_refusals kinds (number + 1) count) refl
 
 pub refused-next : (kinds : List AnswerKind) (number last : ℕ) (out out' : List ℕ) → number ≤ last → out' ≡ out ++ refused_line kinds number
     → out ++ refused_lines kinds number (last + 1 - number) ≡ out' ++ refused_lines kinds (number + 1) (last + 1 - (number + 1))

@@ -73,7 +73,7 @@ pub fn add_follower(
 
 /// Adds the answer to what a follower took. Fails only if memory runs out; then `out` still begins with its old
 /// content.
-fn took_text(took: Took, out: &mut ByteText) -> Result<(), Memory>
+pub fn took_text(took: Took, out: &mut ByteText) -> Result<(), Memory>
     ensures text { OnOk result (out.new ≡ out.old ++ handed_text (Ok took)) }
     ensures kept { take (length out.old) out.new ≡ out.old }
 {

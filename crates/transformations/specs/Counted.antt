@@ -1,22 +1,25 @@
--- Groups of replicas, if the nodes with tokens are counted once for all groups.
+-- Groups of replicas, by the datacenter that they stand for.
 -- Of the code: no promise rests on these.
-use Rattle.std.specs.Prelude.{ℕ, Bool, ◌&&◌, List, filter, length, is_some, nat_eq, nat_le, ◌≡◌}
-use Rattle.std.specs.List.{list_any}
-use Rattle.std.specs.Set.{distinct_count}
-use Rattle.cluster_terms.specs.Group.{Group}
-use Rattle.cluster_terms.specs.Replication.{groups_of}
+use Rattle.std.specs.Prelude.{ℕ, Bool, List, is_some, Option, Some, None}
+use Rattle.cluster_terms.specs.Group.{Group, node_count}
+use Rattle.cluster_terms.specs.Replication.{datacenter_group, whole_group}
 use Rattle.cluster_terms.specs.declared.node.NodeRow.{NodeRow}
-use Rattle.transformations.specs.declared.keyspace.KeyspaceRow.{KeyspaceRow}
+use Rattle.transformations.specs.Refusals.{is_short}
+use Rattle.transformations.specs.declared.image.Image.{Image}
 
--- ids are the nodes, each once: for each test, the number of ids that pass it is the number of different nodes that
--- pass it
-abbrev pub IsOnce : List ℕ → List ℕ → Type 0
-IsOnce ids nodes = (test : ℕ → Bool) → length (filter test ids) ≡ distinct_count nat_eq (filter test nodes)
+-- the group of a datacenter's nodes, or that of all nodes
+abbrev pub group_at : List NodeRow → Option (List ℕ) → ℕ → Group
+group_at nodes None rf = whole_group rf
+group_at nodes (Some dc) rf = datacenter_group nodes (dc, rf)
 
--- whether a group has node n, and no more of the ids than it is to have replicas; and whether a keyspace has such a
--- group
-abbrev pub is_short_of : List ℕ → ℕ → Group → Bool
-is_short_of ids n g = is_some (g.rack_of n) && nat_le (length (filter (λ m. is_some (g.rack_of m)) ids)) g.rf
+-- whether a node is in this group, and how many distinct nodes of the group are among some nodes; its factor is of no
+-- matter to either
+abbrev pub is_in_group : List NodeRow → Option (List ℕ) → ℕ → Bool
+is_in_group nodes dc n = is_some ((group_at nodes dc 0).rack_of n)
 
-abbrev pub is_few_of : List NodeRow → List ℕ → ℕ → KeyspaceRow → Bool
-is_few_of nodes ids n k = list_any (is_short_of ids n) (groups_of nodes k.replication)
+abbrev pub different_in : List NodeRow → Option (List ℕ) → List ℕ → ℕ
+different_in nodes dc ns = node_count (group_at nodes dc 0) ns
+
+-- whether the group has node n, and no more nodes with tokens than it is to have replicas
+abbrev pub is_short_at : Image → ℕ → Option (List ℕ) → ℕ → Bool
+is_short_at image n dc rf = is_short image n (group_at image.nodes dc rf)

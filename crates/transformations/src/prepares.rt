@@ -1,22 +1,22 @@
 //! Refusals of commands that prepare movements.
 
-ghost use Rattle.std.specs.Prelude.{◌≡◌, ◌==◌, filter, find, is_some, length, nat_lt, IfOk};
+ghost use Rattle.std.specs.Prelude.{◌≡◌, ◌≤◌, ◌==◌, Some, filter, find, length, map, nat_eq, nat_lt, IfOk};
 ghost use Rattle.std.specs.List.{list_any};
+ghost use Rattle.std.specs.List.Sorted.{IsStrictlyIncreasing};
 ghost use Rattle.std.specs.Option.{option_copied};
+ghost use Rattle.std.specs.Set.{is_member};
 ghost use Rattle.cluster_terms.specs.Group.{nodes_of};
-ghost use Rattle.cluster_terms.specs.NodeRow.{row_of};
-ghost use Rattle.cluster_terms.specs.Quorum.{within};
-ghost use Rattle.cluster_terms.specs.Replication.{datacenter_group, rack_within};
-ghost use Rattle.transformations.specs.Counted.{IsOnce, is_few_of, is_short_of};
-ghost use Rattle.transformations.specs.Refusals.{no_tokens, not_one_token, other_rack, same_place, too_few_nodes};
+ghost use Rattle.transformations.specs.Counted.{different_in, is_in_group, is_short_at};
+ghost use Rattle.transformations.specs.Refusals.{is_too_few, no_tokens, not_one_token, other_rack, same_place, too_few_nodes};
+ghost use Rattle.transformations.specs.Valid.{IsSound};
 
 use crate::image::Image;
 use crate::keyspace::KeyspaceRow;
+use crate::node_search::row_among;
 use crate::refusal::Refusal;
 use crate::refusals::refused_if;
 use crate::state::{has_pair, row_of};
-use cluster_terms::{Memory, Name, NodeId, NodeRow, Pair, Replication, Rf, TryCopy};
-use std::alloc::Global;
+use cluster_terms::{Few, Memory, Name, NodeId, NodeRow, Pair, Replication, Rf, TryCopy};
 
 /// `NoTokens` if the node that is to be replaced has no token.
 pub(crate) fn no_tokens(image: &Image, gone: NodeId) -> Option<Refusal>
@@ -73,92 +73,93 @@ pub(crate) fn other_rack(image: &Image, n: NodeId, gone: NodeId) -> Result<Optio
     Ok(Some(Refusal::OtherRack(dc, rack)))
 }
 
-/// The nodes of these pairs, in their order.
-fn nodes_of(alloc: Global, pairs: &[Pair]) -> Result<Vec<NodeId>, Memory>
-    ensures { IfOk result (λ nodes. nodes.items ≡ nodes_of pairs.now) }
+/// Whether a node is in a group: that of the nodes registered in this datacenter, or that of all nodes if it is `None`.
+/// The cost is a binary search.
+fn is_in(nodes: &[NodeRow], dc: Option<&Name>, n: NodeId) -> bool
+    requires { IsStrictlyIncreasing (map (λ row. row.id) nodes.now) }
+    ensures { result ≡ is_in_group nodes.now (option_copied dc.entry) n }
 {
-    Ok(pairs.iter().map(|pair| pair.node).collect(alloc)?)
+    match dc {
+        None => true,
+        Some(dc) => { row_among(nodes, n).is_some_and(|row| row.dc.as_str() == dc.as_str()) }
+    }
 }
 
-/// These nodes in ascending order, each once.
-fn each_once(mut nodes: Vec<NodeId>) -> Vec<NodeId>
-    ensures { IsOnce result.items nodes.items }
+/// Whether a node is in a list.
+fn has_node(found: &[NodeId], n: NodeId) -> bool
+    ensures { result ≡ is_member nat_eq found.now n }
 {
-    nodes.sort_unstable();
-    nodes.dedup();
-    nodes
+    found.iter().any(|other| n == *other)
 }
 
-/// Whether a node is registered in a datacenter.
-fn is_in(nodes: &[NodeRow], dc: &Name, n: NodeId) -> bool
-    ensures { result ≡ is_some (rack_within dc.now (row_of nodes.now n)) }
+/// Whether more than `most` nodes of a group have tokens; `most` is at most 16. Ends at the pair that shows it, and
+/// takes no memory. The cost is a binary search for each pair before, unless its node is found already.
+fn has_more_in(nodes: &[NodeRow], dc: Option<&Name>, pairs: &[Pair], most: usize) -> bool
+    requires nodes { IsStrictlyIncreasing (map (λ row. row.id) nodes.now) }
+    requires most { most ≤ 16 }
+    ensures { result ≡ nat_lt most (different_in nodes.now (option_copied dc.entry) (nodes_of pairs.now)) }
 {
-    row_of(nodes, n).is_some_and(|row| row.dc.as_str() == dc.as_str())
-}
-
-/// Whether more than `most` of these nodes are registered in a datacenter. Looks no further than needed.
-fn has_more_in(nodes: &[NodeRow], dc: &Name, ids: &[NodeId], most: usize) -> bool
-    ensures { result ≡ nat_lt most (length (within nodes.now dc.now ids.now)) }
-{
-    let mut count = 0;
-    for n in ids {
-        if is_in(nodes, dc, *n) {
-            if count == most {
-                return true;
-            }
-            count += 1;
+    let mut found: Few<NodeId, 16> = Few::of(NodeId(0));
+    for pair in pairs {
+        if has_node(found.as_slice(), pair.node) || !is_in(nodes, dc, pair.node) {
+            continue;
         }
+        if found.len() == most {
+            return true;
+        }
+        found.push(pair.node);
     }
     false
 }
 
-/// Whether a datacenter is that of node `n`, and has no more nodes of `ids` than it is to have replicas.
-fn is_short_in(nodes: &[NodeRow], ids: &[NodeId], n: NodeId, row: &(Name, Rf)) -> bool
-    ensures { result ≡ is_short_of ids.now n (datacenter_group nodes.now row.now) }
+/// Whether node `n` is in a group that has no more nodes with tokens than it is to have replicas.
+fn is_short_in(image: &Image, n: NodeId, dc: Option<&Name>, rf: Rf) -> bool
+    requires { IsSound image.now }
+    ensures { result ≡ is_short_at image.now n (option_copied dc.entry) rf }
 {
-    is_in(nodes, &row.0, n) && !has_more_in(nodes, &row.0, ids, usize::from(row.1.value()))
+    let nodes = image.nodes.as_slice();
+    is_in(nodes, dc, n) && !has_more_in(nodes, dc, image.tokens.as_slice(), usize::from(rf.value()))
 }
 
 /// Whether `is_short_in` holds for any of these datacenters.
-fn is_short_in_any(nodes: &[NodeRow], ids: &[NodeId], n: NodeId, rows: &[(Name, Rf)]) -> bool
-    ensures { result ≡ list_any (λ row. is_short_of ids.now n (datacenter_group nodes.now row)) rows.now }
+fn is_short_in_any(image: &Image, n: NodeId, rows: &[(Name, Rf)]) -> bool
+    requires { IsSound image.now }
+    ensures { result ≡ list_any (λ row. is_short_at image.now n (Some row.0) row.1) rows.now }
 {
-    rows.iter().any(|row| is_short_in(nodes, ids, n, row))
+    rows.iter()
+        .any(|row| is_short_in(image, n, Some(&row.0), row.1))
 }
 
-/// Whether, under a keyspace, a group of node `n` has no more nodes of `ids` than it is to have replicas.
+/// Whether, under a keyspace, `is_short_in` holds for any of its groups.
 #[tactic(auto, using(crate::proofs::commands::CountedLemmas::few_simple, crate::proofs::commands::CountedLemmas::few_topology))]
-fn is_few(nodes: &[NodeRow], ids: &[NodeId], n: NodeId, row: &KeyspaceRow) -> bool
-    ensures { result ≡ is_few_of nodes.now ids.now n row.now }
+fn is_too_few(image: &Image, n: NodeId, row: &KeyspaceRow) -> bool
+    requires { IsSound image.now }
+    ensures { result ≡ is_too_few image.now n row.now }
 {
     match &row.replication {
-        Replication::Simple(rf) => ids.len() <= usize::from(rf.value()),
-        Replication::Topology(factors) => is_short_in_any(nodes, ids, n, factors.rows()),
+        Replication::Simple(rf) => is_short_in(image, n, None, *rf),
+        Replication::Topology(factors) => is_short_in_any(image, n, factors.rows()),
     }
 }
 
-/// The first keyspace for which `is_few` holds.
-fn first_few<'a>(image: &'a Image, ids: &[NodeId], n: NodeId) -> Option<&'a KeyspaceRow>
-    ensures { option_copied result ≡ find (is_few_of image.now.nodes ids.now n) image.now.keyspaces }
+/// The first keyspace for which `is_too_few` holds.
+fn first_too_few(image: &Image, n: NodeId) -> Option<&KeyspaceRow>
+    requires { IsSound image.now }
+    ensures { option_copied result ≡ find (is_too_few image.now n) image.now.keyspaces }
 {
-    let nodes = image.nodes.as_slice();
     let keyspaces = image.keyspaces.as_slice();
-    keyspaces.iter().find(|row| is_few(nodes, ids, n, row))
+    keyspaces.iter().find(|row| is_too_few(image, n, row))
 }
 
 /// `TooFewNodes` with the first keyspace under which a group of the node has no more nodes with tokens than it is to
-/// have replicas. Sorts the nodes of the ring once. Each of them then costs one pass over the rows for each keyspace
-/// that names the datacenter of the node.
+/// have replicas. For each group of the node, the cost is a binary search for each pair of the ring up to the one that
+/// shows that it has more, unless the pair's node is found already.
 #[tactic(auto, using(crate::proofs::commands::CountedLemmas::too_few_found, crate::proofs::commands::CountedLemmas::too_few_none))]
-pub(crate) fn too_few_nodes(
-    alloc: Global,
-    image: &Image,
-    n: NodeId,
-) -> Result<Option<Refusal>, Memory>
+pub(crate) fn too_few_nodes(image: &Image, n: NodeId) -> Result<Option<Refusal>, Memory>
+    requires { IsSound image.now }
     ensures { IfOk result (λ found. found ≡ too_few_nodes image.now n) }
 {
-    let ids = each_once(nodes_of(alloc, image.tokens.as_slice())?);
-    let Some(row) = first_few(image, &ids, n) else {
+    let Some(row) = first_too_few(image, n) else {
         return Ok(None);
     };
     Ok(Some(Refusal::TooFewNodes(row.name.copy()?)))

@@ -400,14 +400,14 @@ fn prepare_move(
 
 /// The first refusal of `PrepareLeave`, apart from `Locked`.
 #[tactic(auto, unfolding(crate::specs::Refusals::early_refusal_of))]
-fn prepare_leave(alloc: Global, image: &Image, node: NodeId) -> Result<Option<Refusal>, Memory>
+fn prepare_leave(image: &Image, node: NodeId) -> Result<Option<Refusal>, Memory>
     requires { IsSound image.now }
     ensures { IfOk result (λ found. found ≡ early_refusal_of image.now (command.PrepareLeave node)) }
 {
     if let Some(refusal) = not_settled(image, node) {
         return Ok(Some(refusal));
     }
-    too_few_nodes(alloc, image, node)
+    too_few_nodes(image, node)
 }
 
 /// The first refusal of `PrepareReplace`, apart from `Locked`.
@@ -432,15 +432,16 @@ fn prepare_replace(image: &Image, node: NodeId, gone: NodeId) -> Result<Option<R
 /// such refusal. The refusals of a command have an order, and those after the first are not looked for. The image is
 /// sound, so its nodes and its tokens ascend.
 ///
-/// `Err` means that memory ran out while tokens or nodes were counted, or while the names of a refusal were copied. It
+/// `Err` means that memory ran out while tokens were counted, or while the names of a refusal were copied. It
 /// also stands for the move of a node with 2^32 tokens or more, but a sound image has no such node.
 ///
 /// Cost: a node is found by a binary search, a name and a keyspace by a pass over the rows, and a movement by a pass
 /// over the movements. The state of a node and the number of its tokens cost a pass over the ring. `PrepareReplace`
 /// compares the places of its nodes by two passes over the rows. For k tokens of a command, the search for a token that
 /// is taken is k binary searches in the ring, and k passes over the pairs that movements bring. All tokens are sorted
-/// and counted only if there may be more than 16,384. `PrepareLeave` sorts the nodes with tokens once. Each of them
-/// costs one pass over the rows for each keyspace that names the datacenter of the node that is to leave.
+/// and counted only if there may be more than 16,384. `PrepareLeave` goes over the pairs of the ring for each group of the
+/// node, until it has found one node more than the group is to have replicas; a pair's node costs a binary search unless
+/// it is found already.
 #[tactic(auto, unfolding(crate::specs::Refusals::early_refusal_of))]
 pub fn early_refusal(
     alloc: Global,
@@ -460,7 +461,7 @@ pub fn early_refusal(
             prepare_join(alloc, image, *node, tokens.as_slice())
         }
         Command::PrepareMove { node, token } => prepare_move(alloc, image, *node, *token),
-        Command::PrepareLeave { node } => prepare_leave(alloc, image, *node),
+        Command::PrepareLeave { node } => prepare_leave(image, *node),
         Command::PrepareReplace { node, gone } => prepare_replace(image, *node, *gone),
         Command::Cancel { node } => Ok(cancel(image, *node)),
         Command::Step { goal, kind, node } => Ok(step(image, *goal, *kind, *node)),

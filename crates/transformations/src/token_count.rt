@@ -35,7 +35,7 @@ pub(crate) fn tokens_with(alloc: Global, image: &Image, tokens: &[Token]) -> Res
     ensures { IfOk result (λ count. count ≡ tokens_with image.now tokens.now) }
 {
     let pairs = widest(image)?;
-    let mut all = tokens_of(alloc, pairs.as_slice())?;
+    let mut all = tokens_of(alloc, pairs.as_slice(), 0)?;
     all.extend_from_slice(tokens)?;
     Ok(distinct(all))
 }

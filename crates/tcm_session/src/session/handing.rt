@@ -7,7 +7,7 @@ ghost use Rattle.transformations.specs.Log.{commands_of};
 ghost use Rattle.tcm_session.specs.Machine.{deliver_to, follower_named, follower_reply, image_at, on_follower, snapshot_to};
 ghost use Rattle.tcm_session.specs.Steps.{Alone};
 
-use super::handing_over::hand_over;
+use super::handing_over::hand_on;
 use super::{Session, past_last, refuse_line};
 use crate::fault::StepFault;
 use crate::followers::{MOST_FOLLOWERS, add_follower, answer_handed, place_of};
@@ -50,10 +50,7 @@ impl Session {
             return past_last(self.log.last_epoch(), out);
         };
         let named = &mut self.followers[place];
-        answer_handed(
-            hand_over(&self.log, &self.metadata, &mut named.follower, entry),
-            out,
-        )
+        hand_on(&self.log, &self.metadata, &mut named.follower, entry, out)
     }
 
     /// Hands the image of an epoch to the follower with this name, and answers what became of it.

@@ -7,9 +7,13 @@ ghost use Rattle.follower_log.specs.declared.took.Took.TheVariants as Took;
 ghost use Rattle.follower_log.specs.Prefix.{StandsAfter, StandsFor, Taken, with_entry};
 ghost use Rattle.transformations.specs.History.{empty_image, image_after, is_command, most_epochs};
 ghost use Rattle.transformations.specs.Log.{IsLog, commands_of};
+ghost use Rattle.tcm_session.specs.HandOn.{HandsOn};
 ghost use Rattle.tcm_session.specs.Steps.{FollowsLog};
 
+use crate::fault::StepFault;
+use crate::followers::{answer_handed, took_text};
 use cluster_metadata::Metadata;
+use cluster_terms::ByteText;
 use epoch_log::Log;
 use follower_log::{Follower, FollowerFault, Took};
 use transformations::{Entry, Image};
@@ -79,4 +83,29 @@ pub fn hand_over(
         return Ok(Took::At(metadata.epoch()));
     }
     follower.deliver(entry)
+}
+
+/// Hands an entry of a log to a follower of this log, as `hand_over` does, and answers what became of it. Most entries
+/// only wait, and need no more than `Follower::hold`.
+#[inline(always)]
+pub fn hand_on(
+    log: &Log,
+    metadata: &Metadata,
+    follower: &mut Follower,
+    entry: &Entry,
+    out: &mut ByteText,
+) -> Result<(), StepFault>
+    requires log { IsLog log.now }
+    requires last { metadata.now ≡ image_after empty_image (commands_of log.now) }
+    requires among { Contains log.now entry.now }
+    requires formed { IsTrue (is_command entry.now.cmd) }
+    requires epoch { entry.now.epoch ≤ most_epochs }
+    requires follows { FollowsLog log.now follower.old }
+    ensures { HandsOn log.now entry.now follower.old follower.new out.old out.new result }
+{
+    if let Some(took) = follower.hold(entry)? {
+        took_text(took, out)?;
+        return Ok(());
+    }
+    answer_handed(hand_over(log, metadata, follower, entry), out)
 }

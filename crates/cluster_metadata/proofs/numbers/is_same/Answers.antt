@@ -1,4 +1,4 @@
-use Rattle.std.proofs.Common.{true, sym, ◌∙◌}
+use Rattle.std.proofs.Common.{sym, ◌∙◌}
 use Rattle.cluster_metadata.proofs.NumberLemmas.{same_keyspace}
 use Rattle.cluster_metadata.proofs.numbers.is_same.Goals as goal
 

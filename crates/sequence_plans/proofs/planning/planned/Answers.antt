@@ -11,16 +11,16 @@ use Rattle.sequence_plans.proofs.planning.planned.Goals as goal
 
 pub book_of-requires-clause-within : goal.book_of-requires-clause-within
 book_of-requires-clause-within g c =
-    let image : c.in_ok-basis.basis.image.now ≡ with_movement c.args.image.now c.args.row.now = c.in_ok-basis.ensures.image ∙ c.in_ok-wide.ensures in
+    let image : c.in_ok-basis.basis.image.now ≡ with_movement c.args.image.now c.args.row.now = c.in_ok-basis.ensures.image ∙ c.in_ok-with_row.ensures in
     subst (λ (wide : Image). MovesWithin wide c.args.row.now) (sym image) (own_within c.args.image.now c.args.row.now c.requires.sound)
 
 pub deltas_of-requires-clause-moves : goal.deltas_of-requires-clause-moves
 deltas_of-requires-clause-moves g c =
-    let image : c.in_ok-basis.basis.image.now ≡ with_movement c.args.image.now c.args.row.now = c.in_ok-basis.ensures.image ∙ c.in_ok-wide.ensures in
+    let image : c.in_ok-basis.basis.image.now ≡ with_movement c.args.image.now c.args.row.now = c.in_ok-basis.ensures.image ∙ c.in_ok-with_row.ensures in
     subst (λ (wide : Image). Contains wide.sequences c.args.row.now) (sym image) (own_contained c.args.row.now c.args.image.now.sequences)
 
 pub deltas_of-requires-clause-known : goal.deltas_of-requires-clause-known
 deltas_of-requires-clause-known g c =
-    let image : c.in_ok-basis.basis.image.now ≡ with_movement c.args.image.now c.args.row.now = c.in_ok-basis.ensures.image ∙ c.in_ok-wide.ensures in
+    let image : c.in_ok-basis.basis.image.now ≡ with_movement c.args.image.now c.args.row.now = c.in_ok-basis.ensures.image ∙ c.in_ok-with_row.ensures in
     some_weaker c.args.known (λ maps. ShowLow c.args.image.now maps.now) (λ maps. ShowLow c.in_ok-basis.basis.image.now maps.now)
     (λ maps show. subst (λ (wide : Image). ShowLow wide maps.now) (sym image) (with_more c.args.image.now c.args.row.now maps.now show)) c.requires.known

@@ -17,14 +17,14 @@ loop-token-preserved c =
     let i = c.loop-token.token-index in
     let in_i : i < length tokens = omega arith in
     let inv = c.loop-token.invariant in
-    let more = part_more course tokens i c.loop-token.windows.items c.push.new.self.items c.loop-token.left c.token-item.result c.part.result in_i c.token-item.is inv.left inv.rights inv.parts c.part.ensures.reach c.in_ok-push.ensures.items in
+    let more = part_more course tokens i c.loop-token.windows c.push.new.self c.loop-token.left c.token-item.result c.part.result in_i c.token-item.is inv.left inv.rights inv.parts c.part.ensures.reach c.in_ok-push.ensures in
     record { asks = c.part.ensures.asks; left = more.left; rights = more.rights; parts = more.parts }
 
 pub returns-clause-reach : goal.returns-clause-reach
 returns-clause-reach c x =
     let course = course_of c.args.self.now in
     let tokens = c.as_slice-tokens.result.now in
-    let ws = c.loop-token.windows.items in
+    let ws = c.loop-token.windows in
     let inv = c.loop-token.invariant in
     let up = subst (IsStrictlySortedBy int_cmp) (sym c.as_slice-tokens.ensures.tokens) c.as_slice-tokens.ensures.ascend in
     let all : length tokens ≤ c.loop-token.token-index = omega arith in
@@ -38,4 +38,4 @@ returns-clause-bounds c =
     let tokens = c.as_slice-tokens.result.now in
     subst (λ (ts : List ℤ). AreTokensAmong (window_bounds c.from_ascending.result) (tokens_of course.fixed ++ ts)) c.as_slice-tokens.ensures.tokens
     (subst (λ (ws : List Window). AreTokensAmong (window_bounds ws) (tokens_of course.fixed ++ tokens)) (sym c.from_ascending.ensures)
-    (all_parts-among course tokens c.loop-token.windows.items c.loop-token.invariant.parts))
+    (all_parts-among course tokens c.loop-token.windows c.loop-token.invariant.parts))

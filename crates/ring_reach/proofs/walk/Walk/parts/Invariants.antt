@@ -12,6 +12,6 @@ abbrev pub invariant-loop-token : goal.invariant-loop-token
 invariant-loop-token l = record {
   asks : AsksAs (course_of l.self) l.tally;
   left : is_member int_eq l.tokens l.left ≡ true;
-  rights : rights_of l.windows.items ≡ take l.token-index l.tokens;
-  parts : All (IsPartOf (course_of l.self) l.tokens) l.windows.items;
+  rights : rights_of l.windows ≡ take l.token-index l.tokens;
+  parts : All (IsPartOf (course_of l.self) l.tokens) l.windows;
 }

@@ -2,7 +2,7 @@ use Rattle.std.proofs.Common.{sym, ap, subst, arith}
 use Rattle.follower_log.proofs.KeptLemmas.{can_wait-put}
 use Rattle.follower_log.specs.Follower.{FollowerState}
 use Rattle.follower_log.specs.Kept.{CanWait, CanWaitAt}
-use Rattle.follower_log.proofs.follower.Follower.take.Goals as goal
+use Rattle.follower_log.proofs.follower.Follower.keep.Goals as goal
 
 pub invariant_of-self-2 : goal.invariant_of-self-2
 invariant_of-self-2 c =
