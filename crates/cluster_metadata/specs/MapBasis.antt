@@ -1,5 +1,5 @@
 -- The values from which the placement maps of an image are made. Of the code: no promise rests on these.
-use Rattle.std.specs.Prelude.{◌≡◌, List}
+use Rattle.std.specs.Prelude.{◌≡◌, List, [], ◌∷◌}
 use Rattle.std.specs.List.{AllByRecursion}
 use Rattle.std.specs.List.Sorted.{IsPermutation}
 use Rattle.std.specs.Ordering.{nat_cmp}
@@ -9,6 +9,7 @@ use Rattle.cluster_terms.specs.Row.{last_token, rows_between}
 use Rattle.cluster_terms.specs.declared.node.NodeRow.{NodeRow}
 use Rattle.cluster_terms.specs.declared.replication.Replication.{Replication}
 use Rattle.cluster_terms.specs.declared.row.TokenRange.{TokenRange}
+use Rattle.cluster_terms.specs.declared.token.RightEnd.TheVariants.{Max}
 use Rattle.range_placements.specs.declared.placement_row.PlacementRow.{PlacementRow}
 use Rattle.sequence_plans.specs.Placers.{PlacesOn, placed_by}
 use Rattle.sequence_plans.specs.declared.placer.Placer.{Placer}
@@ -40,6 +41,10 @@ pub record PlaceOnRings (rings : Rings) (nodes : List NodeRow) (replication : Re
 -- a range, with the nodes that one placer gives at its last token as the reads and as the writes
 abbrev pub row_placed_once : Placer → TokenRange → PlacementRow
 row_placed_once placer range = let nodes = placed_by placer (last_token range.right) in record { right = range.right; reads = nodes; writes = nodes }
+
+-- all tokens in one row, without nodes
+abbrev pub one_row_without_nodes : List PlacementRow
+one_row_without_nodes = record { right = Max; reads = []; writes = [] } ∷ []
 
 -- a range, with the nodes that the placers give at its last token
 abbrev pub row_placed : Placers → TokenRange → PlacementRow

@@ -1,15 +1,16 @@
 //! The placement maps of images without movements: the same nodes are read and written, and each row is placed once.
 
-ghost use Rattle.std.specs.Prelude.{◌≡◌, [], map, IfOk, OnOk};
+ghost use Rattle.std.specs.Prelude.{◌≡◌, [], map, IfOk, IsTrue, OnOk};
 ghost use Rattle.std.specs.List.{AllByRecursion};
 ghost use Rattle.cluster_terms.specs.Arc.{IsToken};
 ghost use Rattle.transformations.specs.Rings as rings;
 ghost use Rattle.transformations.specs.Valid.{IsValid};
-ghost use Rattle.cluster_metadata.specs.MapBasis.{row_placed_once};
+ghost use Rattle.cluster_metadata.specs.MapBasis.{one_row_without_nodes, row_placed_once};
 ghost use Rattle.cluster_metadata.specs.Maps.{placement_rows};
 
-use cluster_terms::{Memory, Replication, Steps, TokenRange, TryCopy, rows_between};
+use cluster_terms::{Memory, Replication, RightEnd, Steps, TokenRange, TryCopy, rows_between};
 use node_directory::Directory;
+use node_sets::NodeSet;
 use range_placements::{PlacementMap, PlacementRow, PlacementRows, rows_with_room};
 use sequence_plans::Placer;
 use std::alloc::Global;
@@ -50,8 +51,30 @@ fn rows_once<L: Ledger>(
     Ok(rows)
 }
 
+/// Whether no node has a token.
+fn has_no_tokens(image: &Image) -> bool
+    ensures { IsTrue result → image.now.tokens ≡ [] }
+{
+    image.tokens.as_slice().is_empty()
+}
+
+/// The placement map of a ring without tokens: all tokens are in one row, and no node is read or written. Fails only if
+/// memory runs out.
+fn map_without_nodes(alloc: Global) -> Result<PlacementMap, Memory>
+    ensures { IfOk result (λ map. map ≡ one_row_without_nodes) }
+{
+    let mut rows = rows_with_room(alloc, 1)?;
+    rows.push(PlacementRow {
+        right: RightEnd::Max,
+        reads: NodeSet::empty(alloc),
+        writes: NodeSet::empty(alloc),
+    })?;
+    Ok(PlacementMap::from_rows(rows))
+}
+
 /// The placement map of a replication in an image without movements. The directory must hold the nodes of the image.
-/// Fails only if memory runs out. Cost: a copy of the ring, its cuts, and one walk for each row between cuts.
+/// Fails only if memory runs out. Cost: a copy of the ring, its cuts, and one walk for each row between cuts; without
+/// tokens, one row.
 #[tactic(auto, using(crate::proofs::ImageRings::low_tokens))]
 pub fn idle_map<L: Ledger>(
     alloc: Global,
@@ -66,6 +89,9 @@ pub fn idle_map<L: Ledger>(
     ensures map { IfOk result (λ map. map ≡ placement_rows image.now replication.now) }
     ensures tokens { OnOk result (AllByRecursion IsToken (rings.cuts image.now)) }
 {
+    if has_no_tokens(image) {
+        return map_without_nodes(alloc);
+    }
     let cuts = cuts(alloc, image)?;
     let ranges = rows_between(alloc, cuts.as_slice())?;
     let tokens = image.tokens.copy_with_room(0)?;

@@ -24,6 +24,13 @@ impl<T: Drop> OnHeap<T> {
         let item = Box::new(alloc, item)?;
         Ok(OnHeap { item })
     }
+
+    /// Moves another value to the same memory, and drops the one before.
+    pub fn put(&mut self, item: T)
+        ensures { self.new ≡ item }
+    {
+        let _before = Box::replace(&mut self.item, item);
+    }
 }
 
 impl<T> OnHeap<T> {

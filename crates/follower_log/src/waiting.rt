@@ -1,6 +1,6 @@
 //! The entries that wait, by epoch.
 
-ghost use Rattle.std.specs.Prelude.{◌≡◌, ◌<◌, ◌≤◌, [], drop, filter, length, nat_lt, OnErr, OnOk};
+ghost use Rattle.std.specs.Prelude.{◌≡◌, ◌<◌, ◌≤◌, [], drop, filter, length, nat_lt, IfOk, OnErr, OnOk};
 ghost use Rattle.std.specs.List.Sorted.{IsPartitionPoint};
 ghost use Rattle.std.specs.Option.{option_copied};
 ghost use Rattle.cluster_terms.specs.Ascending.{put};
@@ -23,11 +23,14 @@ pub enum Slot<'a> {
     Free(usize),
 }
 
-/// Entries that ascend by epoch, no two at one epoch. Each is on the heap, so that an entry that comes or goes moves
-/// pointers alone.
+/// Entries that ascend by epoch, no two at one epoch. Each has a place on the heap, so that an entry that comes or goes
+/// moves pointers alone.
 #[derive(Drop)]
 pub struct Waiting {
     entries: VecDeque<OnHeap<Entry>>,
+    /// The places of entries that no longer wait, for entries to come. The old entry is dropped when its place is taken.
+    /// There are never more places, these and those of `entries`, than entries have waited at one time.
+    spare: VecDeque<OnHeap<Entry>>,
 }
 
 impl Model for Waiting {
@@ -43,6 +46,26 @@ impl Model for Waiting {
     ghost invariant = { λ waiting. IsStrictlySortedBy by_epoch waiting.entries.items };
 }
 
+/// A place with this entry: one of the spare ones, or a new one if there is none. Fails only if memory runs out.
+fn place_for(spare: &mut VecDeque<OnHeap<Entry>>, entry: Entry) -> Result<OnHeap<Entry>, Memory>
+    ensures { IfOk result (λ place. place ≡ entry) }
+{
+    match spare.pop_back() {
+        Some(mut place) => {
+            place.put(entry);
+            Ok(place)
+        }
+        None => OnHeap::new(*spare.allocator(), entry),
+    }
+}
+
+/// Keeps a place, if there is one, for an entry to come. If memory runs out, it is dropped.
+fn keep_place(spare: &mut VecDeque<OnHeap<Entry>>, place: Option<OnHeap<Entry>>) {
+    if let Some(place) = place {
+        let _kept = spare.push_back(place);
+    }
+}
+
 impl Waiting {
     /// No entry. Takes no memory.
     pub fn empty(alloc: Global) -> Waiting
@@ -50,6 +73,7 @@ impl Waiting {
     {
         Waiting {
             entries: VecDeque::new(alloc),
+            spare: VecDeque::new(alloc),
         }
     }
 
@@ -66,7 +90,7 @@ impl Waiting {
         ensures split { IsPartitionPoint (λ entry. entry.epoch < epoch) (λ entry. epoch ≤ entry.epoch) self.now result }
     {
         self.entries
-            .partition_point(|entry| entry.get().epoch < epoch)
+            .partition_point(|place| place.get().epoch < epoch)
     }
 
     /// Where an epoch belongs. The cost is a binary search.
@@ -74,10 +98,10 @@ impl Waiting {
         ensures { IsSlot self.now epoch result }
     {
         let below = self.count_below(epoch);
-        let Some(entry) = self.entries.get(below) else {
+        let Some(place) = self.entries.get(below) else {
             return Slot::Free(below);
         };
-        let entry = entry.get();
+        let entry = place.get();
         if entry.epoch == epoch {
             Slot::Taken(entry)
         } else {
@@ -100,7 +124,7 @@ impl Waiting {
         ensures { option_copied result ≡ first_entry self.now }
     {
         match self.entries.front() {
-            Some(entry) => Some(entry.get()),
+            Some(place) => Some(place.get()),
             None => None,
         }
     }
@@ -112,30 +136,32 @@ impl Waiting {
         ensures ok { OnOk result (self.new ≡ put by_epoch entry.now self.old) }
         ensures err { OnErr result (self.new ≡ self.old) }
     {
-        let alloc = *self.entries.allocator();
-        let entry = OnHeap::new(alloc, entry.copy()?)?;
-        self.entries.insert(at, entry)?;
+        let place = place_for(&mut self.spare, entry.copy()?)?;
+        self.entries.insert(at, place)?;
         Ok(())
     }
 
-    /// Drops the entry of the least epoch, if there is one. Takes no memory.
+    /// Removes the entry of the least epoch, if there is one. Its place is kept, unless memory runs out.
     pub fn drop_first(&mut self)
         ensures others { self.new ≡ drop 1 self.old }
         ensures above { AreAbove (first_entry self.old) self.new }
     {
-        let _first = self.entries.pop_front();
+        let first = self.entries.pop_front();
+        keep_place(&mut self.spare, first);
     }
 
     /// Drops the entries whose epoch is at most this one. Takes no memory.
     pub fn drop_to(&mut self, epoch: u64)
         ensures { self.new ≡ filter (λ entry. nat_lt epoch entry.epoch) self.old }
     {
-        self.entries.retain(|entry| entry.get().epoch > epoch);
+        self.entries.retain(|place| place.get().epoch > epoch);
     }
-    /// Drops all entries, and keeps their memory for others. Takes no memory.
+
+    /// Removes all entries. Their places are kept, unless memory runs out.
     pub fn clear(&mut self)
         ensures { self.new ≡ [] }
     {
+        let _kept = self.spare.append(&mut self.entries);
         self.entries.clear();
     }
 }

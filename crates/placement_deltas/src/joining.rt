@@ -82,6 +82,7 @@ fn end_at(rows: &mut Vec<DeltaRow>, right: RightEnd)
 
 /// Adds a row, or lets the last row end where this one ends if it has the same change.
 #[tactic(auto, using(crate::proofs::SoFar::row_more, crate::proofs::SoFar::row_continued))]
+#[inline(always)]
 pub(crate) fn push_joined(rows: &mut Vec<DeltaRow>, row: DeltaRow) -> Result<(), Memory>
     ensures { OnOk result (AreWithRow (so_far rows.old.items) row (so_far rows.new.items)) }
 {

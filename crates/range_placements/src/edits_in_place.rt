@@ -45,7 +45,7 @@ fn open_gap(rows: &mut PlacementRows, from: usize, count: usize) -> Gap
     }
 }
 
-/// Moves the `count` rows before `from` up to `to`, the last one first.
+/// Moves the `count` rows before `from` up to `to`. The rows between come before them.
 fn move_up(rows: &mut [PlacementRow], from: usize, to: usize, count: usize)
     requires count { count ≤ from }
     requires order { from ≤ to }
@@ -53,12 +53,7 @@ fn move_up(rows: &mut [PlacementRow], from: usize, to: usize, count: usize)
     ensures before { take (from - count) rows.new ≡ take (from - count) rows.old }
     ensures after { drop (to - count) rows.new ≡ drop (from - count) (take from rows.old) ++ drop to rows.old }
 {
-    if from == to {
-        return;
-    }
-    for done in 0..count {
-        rows.swap(from - 1 - done, to - 1 - done);
-    }
+    rows[from - count..to].rotate_right(to - from);
 }
 
 /// Keeps the `count` rows before the gap.

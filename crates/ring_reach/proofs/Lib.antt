@@ -1,3 +1,4 @@
+pub mod AlikeLemmas
 pub mod ChangeLemmas
 pub mod MappedItems
 pub mod PartLemmas

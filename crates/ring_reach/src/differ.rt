@@ -38,8 +38,9 @@ fn differs_in_datacenters(
 /// Whether a node is in a group of the replication whose shape isn't settled: the fixed ring and the widest set of
 /// pairs differ in how many replicas the group wants, or in how many of them may stand in a rack that already has one.
 ///
-/// Costs one pass over the fixed and the widest pairs for each group that the node is in. A pair costs a look at no
-/// more nodes and racks than there are to be replicas, and in a datacenter a look-up in the directory. Takes no memory.
+/// Costs at most two passes over the fixed pairs, and one over the widest pairs, for each group that the node is in. A
+/// pair costs a look at no more nodes and racks than there are to be replicas, and in a datacenter a look-up in the
+/// directory. Takes no memory.
 pub fn shape_differs(
     fixed: &Ring,
     widest: &[Pair],

@@ -25,9 +25,9 @@ use token_ring::{RangeList, Ring};
 /// and the widest set of pairs place a token alike if they differ only in moved pairs.
 ///
 /// For `k` moved pairs, a group costs `k` look-ups. If one of these pairs has a node of the group, it also costs up to
-/// one pass over the fixed and the widest pairs, to compare the shapes, and about `k log k` to put the tokens in order.
-/// Each moved token then costs a search in the ring, and a step for each fixed pair on the way back to where enough
-/// replicas are met, or to the moved token before it. The memory taken is about `k`.
+/// two passes over the fixed pairs and one over the widest pairs, to compare the shapes, and about `k log k` to put the
+/// tokens in order. Each moved token then costs a search in the ring, and a step for each fixed pair on the way back to
+/// where enough replicas are met, or to the moved token before it. The memory taken is about `k`.
 pub fn reached(
     alloc: Global,
     fixed: &Ring,

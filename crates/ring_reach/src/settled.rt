@@ -32,7 +32,8 @@ fn any_differs(fixed: &Ring, widest: &[Pair], dir: &Directory, factors: &[(Name,
 /// Whether the shape of any group of the replication differs between the fixed ring and the widest set of pairs: how many
 /// replicas the group wants, or how many of them may stand in a rack that already has one.
 ///
-/// The cost for each group is that of `node_directory::shape_of`, twice. Takes no memory.
+/// The cost for each group is one pass over the pairs with which both begin, up to where these have enough nodes and
+/// racks. If they have too few, it is also that of `node_directory::shape_of`, twice. Takes no memory.
 pub fn any_shape_differs(
     fixed: &Ring,
     widest: &[Pair],

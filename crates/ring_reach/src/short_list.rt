@@ -76,7 +76,7 @@ impl<T: Copy + Drop, const N: usize> ShortList<T, N> {
     }
 
     /// Adds an item at the end. Takes memory only if the items no longer fit inline.
-    #[inline]
+    #[inline(always)]
     pub fn push(&mut self, item: T) -> Result<(), Memory>
         ensures { OnOk result (self.new ≡ self.old ++ item ∷ []) }
     {

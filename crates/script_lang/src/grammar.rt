@@ -67,8 +67,10 @@ fn commit_line(alloc: Global, words: &[&[u8]]) -> Result<Option<ScriptLine>, Mem
     let Some(id) = number_of(id) else {
         return Ok(None);
     };
-    let command = command_of(alloc, command)?;
-    Ok(command.map(|command| ScriptLine::Commit(id, command)))
+    let Some(command) = command_of(alloc, command)? else {
+        return Ok(None);
+    };
+    Ok(Some(ScriptLine::Commit(id, command)))
 }
 
 /// The line `follower F`, from the words after the first. Returns `None` for other words.
@@ -96,8 +98,10 @@ fn deliver_line(alloc: Global, words: &[&[u8]]) -> Result<Option<ScriptLine>, Me
     let Some(epoch) = number_of(epoch) else {
         return Ok(None);
     };
-    let name = Name::from_bytes(alloc, name)?;
-    Ok(name.map(|name| ScriptLine::Deliver(name, epoch)))
+    let Some(name) = Name::from_bytes(alloc, name)? else {
+        return Ok(None);
+    };
+    Ok(Some(ScriptLine::Deliver(name, epoch)))
 }
 
 /// The line `snapshot F E`, from the words after the first. Returns `None` for other words.

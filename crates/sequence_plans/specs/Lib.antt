@@ -11,3 +11,4 @@ pub mod Placers
 pub mod Plan
 pub mod Replications
 pub mod RowChanges
+pub mod WideImage

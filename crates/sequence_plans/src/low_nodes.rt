@@ -9,12 +9,10 @@ ghost use Rattle.sequence_plans.specs.Replications.{replications_of};
 
 use crate::placer::Placer;
 use crate::wide_image::WideImage;
-use cluster_terms::{Memory, Replication, Steps, Token, TryCopy};
+use cluster_terms::{Memory, Replication};
 use node_directory::Directory;
-use node_sets::NodeSet;
 use range_placements::{MapRow, PlacementMap};
 use std::alloc::Global;
-use std::sync::ledger::Ledger;
 use token_ring::Ring;
 
 /// The low ring of an image, or what shows the replicas on it.
@@ -85,25 +83,6 @@ impl<'k> Low<'k> {
                 tokens,
             )?)),
             Low::Maps(maps) => Ok(LowNodes::Read(nth_map(maps, at))),
-        }
-    }
-}
-
-impl<'a> LowNodes<'a> {
-    /// The replicas at a token. `near` is where a map was looked at last. A placer makes one walk. Fails only if memory
-    /// runs out.
-    pub fn place<L: Ledger>(
-        &self,
-        alloc: Global,
-        at: Token,
-        near: &mut usize,
-        walks: &mut Steps<L>,
-    ) -> Result<NodeSet, Memory>
-        ensures { IfOk result (λ nodes. nodes ≡ nodes_by self.now at) }
-    {
-        match self {
-            LowNodes::Placed(placer) => placer.place(alloc, at, walks),
-            LowNodes::Read(map) => map.at_near(at, near).0.copy(),
         }
     }
 }

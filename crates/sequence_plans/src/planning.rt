@@ -178,10 +178,11 @@ pub fn plan<L: Ledger>(
 
 /// The plan that `plan` makes, for a caller that has a directory with the nodes of the image.
 ///
-/// Cost: copies the movements, and makes the fixed ring, the widest set of pairs and the two rings of the movement
-/// once. The cuts cost what `cuts_among` says. For m movements with the new one and r replications, `reached` is
-/// called m·r times. Under each replication two walks are counted for each row between cuts that is in the movement's
-/// ranges, and none elsewhere. Outside the ranges the deltas cost two binary searches in the cuts for each range.
+/// Cost: copies the movements if there are others, and makes the fixed ring, the widest set of pairs and the two rings of
+/// the movement once. The cuts cost what `cuts_among` says. For m movements with the new one and r replications,
+/// `reached` is called m·r times. Under each replication two walks are counted for each row between cuts that is in the
+/// movement's ranges, and none elsewhere. Outside the ranges the deltas cost two binary searches in the cuts for each
+/// range.
 pub fn plan_in<L: Ledger>(
     alloc: Global,
     image: &Image,

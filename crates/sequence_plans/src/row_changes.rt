@@ -6,16 +6,42 @@ ghost use Rattle.std.specs.Option.{option_to_list};
 ghost use Rattle.cluster_terms.specs.Arc.{IsToken};
 ghost use Rattle.cluster_terms.specs.Row.{rows_between, rows_from};
 ghost use Rattle.placement_deltas.specs.Changes.{AreJoined, AreWithRow};
+ghost use Rattle.placement_deltas.specs.Joining.{change_row};
 ghost use Rattle.sequence_plans.specs.LowNodes.{nodes_by};
 ghost use Rattle.sequence_plans.specs.Placers.{placed_by};
 ghost use Rattle.sequence_plans.specs.RowChanges.{change_at};
 
+use crate::low_nodes::LowNodes;
 use crate::movement_rings::MovementPlacers;
 use cluster_terms::{Memory, RightEnd, Steps, Token, TokenRange, TryCopy};
 use placement_deltas::Changes;
 use std::alloc::Global;
 use std::sync::ledger::Ledger;
 use token_ring::RangeList;
+
+/// Adds what changes in a row up to a right end, between the nodes that the placers give at a token. `near` is where a
+/// map was looked at last. The set of a map isn't copied.
+fn push_change<L: Ledger>(
+    changes: &mut Changes,
+    alloc: Global,
+    placers: &MovementPlacers,
+    right: RightEnd,
+    at: Token,
+    near: &mut usize,
+    walks: &mut Steps<L>,
+) -> Result<(), Memory>
+    ensures { OnOk result (AreWithRow changes.old
+        (change_row right (nodes_by placers.now.before at) (placed_by placers.now.after at)) changes.new) }
+{
+    let after = placers.after.place(alloc, at, walks)?;
+    match &placers.before {
+        LowNodes::Placed(placer) => {
+            let before = placer.place(alloc, at, walks)?;
+            changes.push(right, &before, &after)
+        }
+        LowNodes::Read(map) => changes.push(right, map.at_near(at, near).0, &after),
+    }
+}
 
 /// Adds what changes in a row: between the nodes that the placers give at its last token, if the ranges contain it, and
 /// nothing otherwise. `near` is where a map was looked at last.
@@ -34,9 +60,7 @@ fn push_row<L: Ledger>(
 {
     let last = row.last_token();
     if ranges.contains(last) {
-        let before = placers.before.place(alloc, last, near, walks)?;
-        let after = placers.after.place(alloc, last, walks)?;
-        changes.push(row.right, &before, &after)
+        push_change(changes, alloc, placers, row.right, last, near, walks)
     } else {
         changes.push_unchanged(row.right)
     }

@@ -80,6 +80,7 @@ impl<'a> Walk<'a> {
     }
 
     /// Passes a node: meets it if it is in the group. There must be room for a node.
+    #[inline(always)]
     fn pass(&mut self, members: &Members<'a>, node: NodeId)
         requires { length self.old.taken < 16 }
         ensures { self.new ≡ spec.passed (group_of members.now) node self.old }

@@ -11,7 +11,7 @@ made : (c : goal.In_ok-insert) → c.insert.new.self.items ≡ put by_epoch c.ar
 made c =
     let entry = c.args.entry.now in
     c.in_ok-insert.ensures.items
-    ∙ ap (λ e. insert c.self.inside.entries.items c.args.at e) (c.in_ok-entry.ensures ∙ c.in_ok-copy.ensures)
+    ∙ ap (λ e. insert c.self.inside.entries.items c.args.at e) (c.in_ok-place.ensures ∙ c.in_ok-copy.ensures)
     ∙ ap (λ l. insert l c.args.at entry) c.self.view_is
     ∙ put_there c.args.self.now c.args.at entry c.requires.split c.requires.bound c.requires.none
 
