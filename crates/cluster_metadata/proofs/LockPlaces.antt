@@ -165,11 +165,6 @@ last_closed front m table are = (last front are.locks, record { distinct = fewer
     left [] d all = tt
     left (r ∷ front) d all = (left_named (moving_node m) table (moving_node r) (ends_apart (moving_node r) front d.0).1 all.0, left front d.1 all.1)
 
--- a lock that is added, and removed again
-pub added_named : (table : List LockRow) (l : LockRow) → has_row (table ++ l ∷ []) l.node ≡ true
-added_named [] l = ap (λ b. b || false) (is_own l.node)
-added_named (k ∷ table) l = or_true (nat_eq l.node k.node) (has_row (table ++ l ∷ []) l.node) (added_named table l)
-
 flipped : (a b : ℕ) → nat_eq a b ≡ false → (b == a) ≡ false
 flipped a b h = grind (arith, nat_tests)
 

@@ -105,9 +105,6 @@ may_lock image c _ table permitted valid are = tt
 pub lock_of_book : (image : Image) (s : SeqRow) (ranges : List RangeRow) → IsBook image s ranges → IsLockOf image s (lock_row s.node ranges)
 lock_of_book image s ranges book = record { node = refl; rows = book.rows; ranges = book.ranges }
 
-pub lock_of_plan : (image : Image) (s : SeqRow) (plan : Plan) → IsPlan image s plan → IsLockOf image s (plan_lock plan)
-lock_of_plan image s plan is = record { node = ap (λ (q : SeqRow). q.node) is.row; rows = is.ranges.rows; ranges = is.ranges.ranges }
-
 -- ---- wider ranges beside a new movement
 
 module _ (image : Image) (j : SeqRow) (new : AllByRecursion (λ (s : SeqRow). (s.node == j.node) ≡ false) image.sequences) where

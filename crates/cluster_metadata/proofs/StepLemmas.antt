@@ -26,7 +26,7 @@ use Rattle.transformations.specs.declared.sequence.Phase.TheVariants as phase
 use Rattle.transformations.specs.declared.sequence.SeqRow.{SeqRow}
 use Rattle.cluster_metadata.proofs.PlanLemmas.{deltas_elsewhere}
 use Rattle.cluster_metadata.proofs.MovementPlaces.{at_index, others_at, stepped_at}
-use Rattle.cluster_metadata.specs.Change.{Begins, HasCuts, IsChange, StandsAt, phased, plan_lock}
+use Rattle.cluster_metadata.specs.Change.{Begins, IsChange, StandsAt, phased, plan_lock}
 use Rattle.sequence_plans.specs.Locks.{IsLockOf}
 use Rattle.cluster_metadata.proofs.LocksKept.{lock_later}
 use Rattle.cluster_metadata.specs.Nodes.{IsLeftRow, nodes_left}
@@ -51,8 +51,8 @@ facts image g kind n h =
 
 pub begins : (image : Image) (at : ℕ) (plan : Plan) (after : List SeqRow) → plan.row.phase ≡ phase.Prepared → at ≤ length image.sequences → after ≡ insert image.sequences at plan.row
     → put by_node plan.row image.sequences ≡ insert image.sequences at plan.row → HasDeltas image plan → IsLockOf (with_movement image plan.row) plan.row (plan_lock plan)
-    → HasCuts (with_movement image plan.row) plan → Begins image plan.row (Begun at plan after)
-begins image at plan after prepared within made place deltas lock own_cuts =
+    → Begins image plan.row (Begun at plan after)
+begins image at plan after prepared within made place deltas lock =
     let with_rows : List SeqRow → Image = λ rows. record image { epoch = image.epoch + 1; sequences = rows } in
     let later = lock_later (with_movement image plan.row) (image.epoch + 1) plan.row (plan_lock plan) lock in
     record {
@@ -61,7 +61,6 @@ begins image at plan after prepared within made place deltas lock own_cuts =
       plan = (
         deltas_elsewhere image (image.epoch + 1) after plan deltas,
         subst (λ rows. IsLockOf (with_rows rows) plan.row (plan_lock plan)) (place ∙ sym made) later,
-        (own_cuts.0 ∙ ap (cuts_among image.tokens) (place ∙ sym made), own_cuts.1),
       );
       begins = refl;
     }

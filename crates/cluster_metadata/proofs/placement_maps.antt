@@ -7,9 +7,7 @@ pub mod EditedMaps
 pub mod ExchangedMaps
 pub mod IdleMaps
 pub mod ImageMaps
-pub mod KeptCuts
 pub mod KeptRows
-pub mod LowReads
 pub mod MapBooks
 pub mod RevisedBooks
 pub mod TurnedMaps

@@ -82,16 +82,11 @@ FitsNodes image _ = Unit {0}
 abbrev pub plan_lock : Plan → LockRow
 plan_lock plan = lock_row plan.row.node plan.ranges
 
--- a plan has the cuts of an image
-abbrev pub HasCuts : Image → Plan → Type 0
-HasCuts image plan = (plan.cuts ≡ cuts image) × AllByRecursion IsToken plan.cuts
-
--- the plan of a new movement has its deltas, its ranges and the cuts, in the image that the change leads to
+-- the plan of a new movement has its deltas and its ranges, in the image that the change leads to
 abbrev pub BringsPlan : Image → Change → Type 0
 BringsPlan image (Begun at plan after) =
     HasDeltas (changed image (Begun at plan after)) plan
     × IsLockOf (changed image (Begun at plan after)) plan.row (plan_lock plan)
-    × HasCuts (changed image (Begun at plan after)) plan
 BringsPlan image _ = Unit {0}
 
 -- the movement of a node stands at this position

@@ -1,5 +1,5 @@
 -- How changes move the placements. Of the code: no promise rests on these.
-use Rattle.std.specs.Prelude.{◌≡◌, ℕ, ℤ, List, [], Some}
+use Rattle.std.specs.Prelude.{◌≡◌, ℕ, ℤ, List, Some}
 use Rattle.std.specs.List.{AllByRecursion, slice_get}
 use Rattle.cluster_terms.specs.Arc.{IsToken}
 use Rattle.cluster_terms.specs.declared.replication.Replication.{Replication}
@@ -39,21 +39,14 @@ pub record MovesAt (before after : Image) (at : ℕ) (delta : List ℕ → List 
 abbrev pub Stays : Image → Image → Type 0
 Stays before after = MovesBy before after no_deltas × (cuts after ≡ cuts before)
 
--- the cuts stay if the movement at this position takes no pair out
-abbrev pub StaysWithout : Image → Image → ℕ → Type 0
-StaysWithout before after at = (s : SeqRow) → slice_get before.sequences at ≡ Some s → s.out_pairs ≡ [] → cuts after ≡ cuts before
-
--- how a change moves the placements, and which changes keep the cuts: of those that begin a movement, the ones that
--- bring no pair in, and of those that finish one, the ones that take none out
+-- how a change moves the placements; a change of nodes, a start, a step half way and a cancel half way keep the cuts
 abbrev pub MapSteps : Image → Change → Type 0
 MapSteps image (Registered node) = Stays image (changed image (Registered node))
 MapSteps image (Unregistered n) = Stays image (changed image (Unregistered n))
-MapSteps image (Begun at plan after) =
-    MovesBy image (changed image (Begun at plan after)) no_deltas × (plan.row.in_pairs ≡ [] → cuts (changed image (Begun at plan after)) ≡ cuts image)
+MapSteps image (Begun at plan after) = MovesBy image (changed image (Begun at plan after)) no_deltas
 MapSteps image (Started at) = MovesAt image (changed image (Started at)) at (step_delta goal.Start)
 MapSteps image (Mid at) = MovesAt image (changed image (Mid at)) at (step_delta goal.Mid)
 MapSteps image (BroughtBack at) = MovesAt image (changed image (BroughtBack at)) at (cancel_delta phase.Mid)
-MapSteps image (Finished at left tokens) =
-    MovesOf image (changed image (Finished at left tokens)) at (λ s. step_delta goal.Finish) × StaysWithout image (changed image (Finished at left tokens)) at
+MapSteps image (Finished at left tokens) = MovesOf image (changed image (Finished at left tokens)) at (λ s. step_delta goal.Finish)
 MapSteps image (Ended at) = MovesOf image (changed image (Ended at)) at (λ s. cancel_delta s.phase)
 MapSteps image _ = Unit {0}

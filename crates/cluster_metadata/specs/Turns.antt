@@ -77,10 +77,6 @@ recut_rows turn ranges rows delta = map (row_with (turned_at turn rows delta)) r
 abbrev pub Keeps : Turn → List DeltaRow → List PlacementRow → Type 0
 Keeps turn delta rows = turned_rows turn rows delta ≡ rows
 
--- the map of a row has the right ends of these ranges
-abbrev pub HasEnds : List TokenRange → MapRow → Type 0
-HasEnds ranges row = IsPlacementMap row.map × (right_ends row.map ≡ map (λ range. range.right) ranges)
-
 -- edits make these rows more of the rows of a map
 abbrev pub AddsRows : List PlacementRow → List PlacementRow → Edits → Edits → Type 0
 AddsRows rows more before after = edited after rows ≡ edited before rows ++ more

@@ -10,7 +10,6 @@ ghost use Rattle.transformations.specs.Valid.{IsSound};
 ghost use Rattle.transformations.specs.declared.command.Command.TheVariants as command;
 ghost use Rattle.cluster_metadata.specs.Change.{IsChange};
 ghost use Rattle.sequence_plans.specs.Locks.{AreLocksOf};
-ghost use Rattle.cluster_metadata.specs.Maps.{AreMaps};
 ghost use Rattle.cluster_metadata.specs.Served.{keyspace_of};
 ghost use Rattle.cluster_metadata.specs.Permission.{AdmitsUnless};
 
@@ -26,7 +25,6 @@ use crate::stepping::step;
 use cluster_terms::{Memory, Name, NodeId, Replication, Steps, TokenList, TryCopy};
 use locked_ranges::LockTable;
 use node_directory::Directory;
-use range_placements::MapRow;
 use sequence_rows::pairs_with;
 use std::alloc::Global;
 use std::sync::ledger::Ledger;
@@ -145,7 +143,6 @@ pub fn change_of<L: Ledger>(
     alloc: Global,
     image: &Image,
     directory: &Directory,
-    maps: &[MapRow],
     locks: &LockTable,
     cmd: &Command,
     walks: &mut Steps<L>,
@@ -153,7 +150,6 @@ pub fn change_of<L: Ledger>(
     requires next { image.now.next < 2 ^ 32 - 1 }
     requires sound { IsSound image.now }
     requires nodes { directory.now.rows ≡ image.now.nodes }
-    requires maps { AreMaps image.now maps.now }
     requires locks { AreLocksOf image.now image.now.sequences locks.now }
     requires formed { is_command cmd.now ≡ true }
     requires early { early_refusal_of image.now cmd.now ≡ None }
@@ -163,7 +159,7 @@ pub fn change_of<L: Ledger>(
     ensures uncounted { prepared_by image.now.tokens cmd.now ≡ None → walks.new ≡ walks.old }
 {
     if let Some(row) = row_prepared(alloc, image, cmd)? {
-        return prepare(alloc, image, directory, maps, locks, row, walks);
+        return prepare(alloc, image, directory, locks, row, walks);
     }
     Ok(settled(alloc, image, cmd)?)
 }

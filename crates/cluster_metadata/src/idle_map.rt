@@ -97,7 +97,7 @@ pub fn idle_map<L: Ledger>(
     let tokens = image.tokens.copy_with_room(0)?;
     let ring = Ring::from_list(tokens)?;
     let ranges = ranges.as_slice();
-    let placer = Placer::new(alloc, &ring, directory, replication, ranges.len())?;
+    let placer = Placer::new(alloc, &ring, directory, replication)?;
     let rows = rows_once(alloc, &placer, ranges, walks)?;
     Ok(PlacementMap::from_rows(rows))
 }

@@ -55,13 +55,7 @@ impl<'a> MapBasis<'a> {
         ensures { IfOk result (λ map. map ≡ placement_rows self.now.image.now replication.now) }
     {
         let ranges = self.ranges.as_slice();
-        let placers = Placers::new(
-            self.alloc,
-            &self.rings,
-            self.directory,
-            replication,
-            ranges.len(),
-        )?;
+        let placers = Placers::new(self.alloc, &self.rings, self.directory, replication)?;
         let rows = placers.rows(self.alloc, ranges, walks)?;
         Ok(PlacementMap::from_rows(rows))
     }

@@ -220,27 +220,23 @@ impl Metadata {
     ///
     /// Cost: a copy of each list that the command changes. The nodes aren't copied: a register, an unregister and a
     /// finish change one row of the image and of the directory. A register takes memory for the nodes once more, and
-    /// for the directory at each 64th id alone; it stays unused if they have memory to spare. A step and a cancel copy
+    /// for the directory at each 64th id alone; it stays unused if they have memory to spare. A finish and a cancel copy
     /// the movements only to find the cuts of the next image: the list is changed in place. A command that prepares no
     /// movement counts no walk.
     ///
-    /// If the command prepares a movement, its plan is made: the movements are copied, and the ranges of the new one are
-    /// found. If it may change the ranges of the others, these are found anew: for m movements with the new one and r
-    /// replications, `ring_reach::reached` is then called m·r times, and else r times. Under each replication, one walk
-    /// is counted for each row between cuts that is in the ranges of the new movement, or two if a movement is at `Mid`:
-    /// the reads of the maps are else the nodes before the movement. See `sequence_plans::plan_beside`. `Locked` is the
-    /// only refusal that comes after walks.
+    /// If the command prepares a movement, its plan is made, as `sequence_plans::plan_in` makes it: the movements are
+    /// copied, and for m movements with the new one and r replications, `ring_reach::reached` is called m·r times. Under
+    /// each replication, two walks are counted for each row between cuts that is in the ranges of the new movement.
+    /// `Locked` is the only refusal that comes after walks.
     ///
     /// The placement maps stay if a node is registered or unregistered. A start, the step half way and a cancel half
-    /// way make new sets for the rows that the deltas of the movement change, and search the delta for each row. So does
-    /// a finish of a movement that takes no pair out, and the maps stay if a movement that brings no pair in begins. Any
-    /// other beginning or end of a movement needs the cuts of the next image: those of the plan, or one pass over the
-    /// tokens. Under each replication one pass over the rows between these makes the rows that are new or change, and
-    /// takes memory for all rows, which stays unused if the map has memory to spare. An unsafe join places the maps
-    /// anew: under each replication, one walk for each row between the cuts of the next image, which `walks` doesn't
-    /// count. A command on keyspaces places that of a new replication, and keeps the others. It takes memory for the
-    /// list of the maps, and none for the rows of those that stay. A keyspace that is given the replication that it has
-    /// costs nothing but the look for it.
+    /// way make new sets for the rows that the deltas of the movement change, and search the delta for each row. If a
+    /// movement begins or ends, the cuts of the next image are made, by one pass over the tokens. Under each replication
+    /// one pass over the rows between these makes the rows that are new or change, and takes memory for all rows, which
+    /// stays unused if the map has memory to spare. An unsafe join places the maps anew: under each replication, one walk
+    /// for each row between the cuts of the next image, which `walks` doesn't count. A command on keyspaces places the
+    /// map of a new replication, and keeps the others. It takes memory for the list of the maps, and none for the rows of
+    /// those that stay. A keyspace that is given the replication that it has costs nothing but the look for it.
     ///
     /// Under each keyspace, a token is in the ranges of at most one movement. Whichever movements are done or given up,
     /// the placement at a token depends only on the movements that have it in their ranges. Reads and writes are

@@ -132,7 +132,7 @@ pub(crate) fn permit_for<L: Ledger>(
     if let Some(refusal) = first_refusal(alloc, image, directory, cmd)? {
         return Err(AdmitFault::Refused(refusal));
     }
-    let change = change_of(alloc, image, directory, maps.as_slice(), locks, cmd, walks)?;
+    let change = change_of(alloc, image, directory, locks, cmd, walks)?;
     let maps = maps_for(alloc, image, directory, maps, running, &change)?;
     let count = grown_to(&change);
     let lock = Room::for_items(alloc, count)?;

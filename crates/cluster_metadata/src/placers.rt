@@ -18,20 +18,19 @@ pub struct Placers<'a> {
 }
 
 impl<'a> Placers<'a> {
-    /// The placers of a replication on these rings, for a number of tokens. Fails only if memory runs out.
+    /// The placers of a replication on these rings. Fails only if memory runs out.
     pub fn new(
         alloc: Global,
         rings: &'a Rings,
         dir: &'a Directory,
         replication: &'a Replication,
-        tokens: usize,
     ) -> Result<Placers<'a>, Memory>
         ensures { IfOk result (PlaceOnRings rings.now dir.now.rows replication.now) }
     {
         Ok(Placers {
-            low: Placer::new(alloc, &rings.low, dir, replication, tokens)?,
-            read: Placer::new(alloc, &rings.read, dir, replication, tokens)?,
-            high: Placer::new(alloc, &rings.high, dir, replication, tokens)?,
+            low: Placer::new(alloc, &rings.low, dir, replication)?,
+            read: Placer::new(alloc, &rings.read, dir, replication)?,
+            high: Placer::new(alloc, &rings.high, dir, replication)?,
         })
     }
 

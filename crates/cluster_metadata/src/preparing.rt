@@ -7,28 +7,23 @@ ghost use Rattle.cluster_terms.specs.Ascending.{put};
 ghost use Rattle.transformations.specs.History.{is_command};
 ghost use Rattle.transformations.specs.Orders.{by_node};
 ghost use Rattle.transformations.specs.Refusals.{early_refusal_of, locked, prepared_by, with_movement};
-ghost use Rattle.transformations.specs.Rings as rings;
 ghost use Rattle.transformations.specs.Valid.{IsSound};
 ghost use Rattle.transformations.specs.declared.sequence.Phase.TheVariants as phase;
 ghost use Rattle.transformations.specs.declared.sequence.SeqRow.{SeqRow};
 ghost use Rattle.sequence_plans.specs.Deltas.{HasDeltas};
 ghost use Rattle.cluster_metadata.specs.Change.{Begins};
 ghost use Rattle.sequence_plans.specs.Locks.{AreLocksOf, IsLockOf};
-ghost use Rattle.sequence_plans.specs.LowMaps.{ShowLow};
-ghost use Rattle.cluster_metadata.specs.Change.{HasCuts, plan_lock};
-ghost use Rattle.cluster_metadata.specs.Maps.{AreMaps};
+ghost use Rattle.cluster_metadata.specs.Change.{plan_lock};
 ghost use Rattle.cluster_metadata.specs.Permission.{AdmitsUnless};
 
 use crate::admit_fault::AdmitFault;
-use crate::cancelling::is_mid;
 use crate::change::Change;
 use crate::on_heap::OnHeap;
 use cluster_terms::{Memory, NodeId, Steps, TryCopy};
 use locked_ranges::LockTable;
 use node_directory::Directory;
 use placement_deltas::Plan;
-use range_placements::MapRow;
-use sequence_plans::plan_beside;
+use sequence_plans::plan_in;
 use sequence_rows::{join_row, leave_row, move_row, replace_row};
 use std::alloc::Global;
 use std::sync::ledger::Ledger;
@@ -65,7 +60,6 @@ fn begun(alloc: Global, image: &Image, plan: Plan) -> Result<Change, Memory>
     requires new { AllByRecursion (λ s. (s.node == plan.row.node) ≡ false) image.now.sequences }
     requires deltas { HasDeltas image.now plan }
     requires ranges { IsLockOf (with_movement image.now plan.row) plan.row (plan_lock plan) }
-    requires cuts { HasCuts (with_movement image.now plan.row) plan }
     ensures { IfOk result (Begins image.now plan.row) }
 {
     let row = &plan.row;
@@ -99,26 +93,6 @@ pub fn row_prepared(alloc: Global, image: &Image, cmd: &Command) -> Result<Optio
     Ok(Some(row))
 }
 
-/// Whether a movement is at `Mid`.
-fn any_mid(sequences: &[SeqRow]) -> bool
-    ensures { result ≡ list_any (λ s. rings.is_mid s.phase) sequences.now }
-{
-    sequences.iter().any(|row| is_mid(row.phase))
-}
-
-/// The maps of an image, if no movement is at `Mid`: their reads are then the replicas on the low ring.
-#[tactic(auto, using(crate::proofs::placement_maps::LowReads::maps_low))]
-fn low_maps<'a>(image: &Image, maps: &'a [MapRow]) -> Option<&'a [MapRow]>
-    requires { AreMaps image.now maps.now }
-    ensures { IfSome result (λ rows. ShowLow image.now rows.now) }
-{
-    if any_mid(image.sequences.as_slice()) {
-        None
-    } else {
-        Some(maps)
-    }
-}
-
 /// The change that begins the movement of a node that has none. The directory must hold the nodes of the image.
 ///
 /// Errors: `Refused` if its ranges are locked: they share a token with the ranges of a movement in flight, under the
@@ -127,7 +101,6 @@ pub fn prepare<L: Ledger>(
     alloc: Global,
     image: &Image,
     directory: &Directory,
-    maps: &[MapRow],
     locks: &LockTable,
     row: SeqRow,
     walks: &mut Steps<L>,
@@ -137,13 +110,11 @@ pub fn prepare<L: Ledger>(
     requires sound { IsSound (with_movement image.now row) }
     requires movements { IsStrictlySortedBy by_node image.now.sequences }
     requires nodes { directory.now.rows ≡ image.now.nodes }
-    requires maps { AreMaps image.now maps.now }
     requires locks { AreLocksOf image.now image.now.sequences locks.now }
     ensures change { IfOk result (Begins image.now row) }
     ensures refusal { AdmitsUnless (locked (with_movement image.now row) row) result }
 {
-    let known = low_maps(image, maps);
-    let plan = match plan_beside(alloc, image, directory, locks.rows(), known, row, walks) {
+    let plan = match plan_in(alloc, image, directory, row, walks) {
         Ok(plan) => plan,
         Err((_row, memory)) => return Err(AdmitFault::from(memory)),
     };

@@ -219,7 +219,7 @@ fn is_ahead(edits: &RowEdits, map: &PlacementMap, at: usize) -> bool
 }
 
 /// How many of these rows, from the first one on, have the right ends of these ranges.
-pub fn count_same(rows: &[PlacementRow], ranges: &[TokenRange]) -> usize
+fn count_same(rows: &[PlacementRow], ranges: &[TokenRange]) -> usize
     ensures rows { result ≤ length rows.now }
     ensures ranges { result ≤ length ranges.now }
     ensures same { right_ends (take result rows.now) ≡ map (λ range. range.right) (take result ranges.now) }

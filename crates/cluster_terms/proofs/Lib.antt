@@ -32,4 +32,3 @@ pub mod RingRows
 pub mod RoundTrip
 pub mod RowLemmas
 pub mod SettledLemmas
-pub mod StretchMerge

@@ -4,6 +4,7 @@ pub mod Factors
 pub mod Group
 pub mod Name
 pub mod NodeRow
+pub mod NodeSets
 pub mod Pair
 pub mod Quorum
 pub mod Reach

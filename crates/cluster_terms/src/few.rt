@@ -21,7 +21,6 @@ impl<T, const N: usize> Model for Few<T, N> {
 
 impl<T: Copy, const N: usize> Few<T, N> {
     /// No item. The places without an item hold `blank`.
-    #[inline]
     pub fn of(blank: T) -> Few<T, N>
         ensures { result ≡ [] }
     {
@@ -32,7 +31,6 @@ impl<T: Copy, const N: usize> Few<T, N> {
     }
 
     /// The items, in order.
-    #[inline]
     pub fn as_slice(&self) -> &[T]
         ensures items { result.now ≡ self.now }
         ensures fits { length self.now ≤ N }
@@ -41,7 +39,6 @@ impl<T: Copy, const N: usize> Few<T, N> {
     }
 
     /// The number of items.
-    #[inline]
     pub fn len(&self) -> usize
         ensures len { result ≡ length self.now }
         ensures fits { length self.now ≤ N }
@@ -50,7 +47,6 @@ impl<T: Copy, const N: usize> Few<T, N> {
     }
 
     /// Whether there is no room for another item.
-    #[inline]
     pub fn is_full(&self) -> bool
         ensures full { result ≡ (length self.now == N) }
         ensures fits { length self.now ≤ N }
@@ -59,7 +55,6 @@ impl<T: Copy, const N: usize> Few<T, N> {
     }
 
     /// Adds an item at the end. There must be room.
-    #[inline]
     pub fn push(&mut self, item: T)
         requires { length self.old < N }
         ensures { self.new ≡ self.old ++ item ∷ [] }
@@ -70,7 +65,6 @@ impl<T: Copy, const N: usize> Few<T, N> {
     }
 
     /// Removes all items.
-    #[inline]
     pub fn clear(&mut self)
         ensures { self.new ≡ [] }
     {

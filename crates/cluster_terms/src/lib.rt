@@ -18,7 +18,7 @@ pub mod steps;
 pub mod token;
 pub mod validity;
 
-pub use ascending::{Ordered, put_in_order};
+pub use ascending::{Ordered, merged, position_of, put_in_order};
 pub use factors::Factors;
 pub use few::Few;
 pub use list::{ByteText, PairList, SmallList, TokenList, TryCopy};

@@ -6,7 +6,7 @@ use crate::name::Name;
 use std::marker::Model;
 
 /// The id of a node. Ids count up from 1 in order of registration and are never used again.
-#[derive(Clone, Copy, Debug, PartialEq, Eq, PartialOrd, Ord)]
+#[derive(Clone, Copy, Debug, Default, PartialEq, Eq, PartialOrd, Ord)]
 pub struct NodeId(pub u32);
 
 impl Model for NodeId {

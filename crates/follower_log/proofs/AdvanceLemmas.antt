@@ -1,24 +1,17 @@
 -- How an advance goes: what one entry leads to, and where it ends among the entries of a log.
-use Rattle.std.proofs.Common.{nat_le, ◌≡◌, ℕ, ◌+◌, ◌<◌, ◌≤◌, Bool, true, false, ◌==◌, if◌then◌else◌, List, [], ◌∷◌, drop, Option, Some, None, Result, Ok, Err, true≢false, refl, sym, ap, ◌∙◌, subst, eq-eqb, arith}
+use Rattle.std.proofs.Common.{◌≡◌, ℕ, ◌+◌, ◌≤◌, Bool, true, false, ◌==◌, if◌then◌else◌, List, [], ◌∷◌, drop, Some, None, Result, Ok, Err, true≢false, refl, sym, ap, ◌∙◌, subst, eq-eqb, arith}
 use Rattle.std.proofs.lemmas.Bool.{and_parts, eqb-true, ne_eqb}
-use Rattle.std.proofs.lemmas.Bool.Decides.{nat_tests}
 use Rattle.std.proofs.lemmas.Option.{none-some}
 use Rattle.transformations.proofs.commands.SameLemmas.{same_command_tells}
 use Rattle.transformations.proofs.histories.HistoryLemmas.{next-epoch}
 use Rattle.transformations.specs.History.{next_image}
-use Rattle.transformations.specs.ImageRules.{bad_of}
 use Rattle.transformations.specs.Refusals.{refusal_of}
 use Rattle.transformations.specs.Same.{same_command}
-use Rattle.transformations.specs.declared.command.Command.{Command}
 use Rattle.transformations.specs.declared.entry.Entry.{Entry}
 use Rattle.transformations.specs.declared.image.Image.{Image}
-use Rattle.transformations.specs.declared.image_rules.BadImage.{BadImage as BadRule}
 use Rattle.transformations.specs.declared.refusal.Refusal.{Refusal}
-use Rattle.follower_log.specs.Follower.{Performs, FollowerState, IsAdvance, IsCutFrom, IsCutPast, advanced, cut_first, hand_above, hand_entry, hand_image, hand_valid, is_full, is_next, is_same, stays, Handed, unless_bad, waiting_at}
+use Rattle.follower_log.specs.Follower.{Performs, FollowerState, IsAdvance, advanced, cut_first, hand_above, is_next, is_same, stays}
 use Rattle.follower_log.specs.Kept.{Advances, ComesFirst, Leads, first_entry}
-use Rattle.cluster_metadata.specs.Permission.{ShowsRefusal}
-use Rattle.cluster_metadata.specs.declared.admit_fault.AdmitFault.{AdmitFault}
-use Rattle.cluster_metadata.specs.declared.admit_fault.AdmitFault.TheVariants as admit
 use Rattle.follower_log.specs.declared.fault.FollowerFault.{FollowerFault}
 use Rattle.follower_log.specs.declared.fault.FollowerFault.TheVariants.{Fork, Refused, BadImage, Memory, MemoryAt}
 use Rattle.follower_log.specs.declared.took.Took.{Took}
@@ -52,24 +45,13 @@ compared_same f held came same =
 pub compared_other : (f : FollowerState) (held came : Entry) → held.epoch ≡ came.epoch → (held ≡ came → ⊥) → hand_above f came (Some held) ≡ stays f (Err (Fork came.epoch held came))
 compared_other f held came epochs apart = by (is_same held came) refl
   where
-    equal : held.id ≡ came.id → held.epoch ≡ came.epoch → held.cmd ≡ came.cmd → held ≡ came
-    equal ids same cmds =
-        let by_id : ℕ → Entry = λ i. record { id = i; epoch = held.epoch; cmd = held.cmd } in
-        let by_epoch : ℕ → Entry = λ e. record { id = came.id; epoch = e; cmd = held.cmd } in
-        let by_cmd : Command → Entry = λ c. record { id = came.id; epoch = came.epoch; cmd = c } in
-        ap by_id ids ∙ ap by_epoch same ∙ ap by_cmd cmds
-
     by : (b : Bool) → is_same held came ≡ b → hand_above f came (Some held) ≡ stays f (Err (Fork came.epoch held came))
     by true is =
         let parts = and_parts (held.id == came.id) (same_command held.cmd came.cmd) is in
         let ids : held.id ≡ came.id = eqb-true held.id came.id parts.0 in
         let cmds : held.cmd ≡ came.cmd = (same_command_tells held.cmd came.cmd).0 parts.1 in
-        absurd (apart (equal ids epochs cmds))
+        absurd (apart (λ i. record { id = ids i; epoch = epochs i; cmd = cmds i }))
     by false is = rw is refl
-
--- the fault that names a refusal shows it
-pub shows_refused : (first : Option Refusal) (fault : AdmitFault) (refusal : Refusal) → fault ≡ admit.Refused refusal → ShowsRefusal first fault → first ≡ Some refusal
-shows_refused first fault refusal is shows = subst (ShowsRefusal first) is shows
 
 -- ---- one entry more is applied
 
@@ -137,84 +119,3 @@ any_before before other end (Ok (Full e)) (comes, low) = absurd low
 any_before before other end (Err Memory) (comes, low) = absurd low
 any_before before other end (Err (Fork e held came)) (comes, low) = absurd low
 any_before before other end (Err (BadImage bad)) (comes, low) = absurd low
-
-pub cut_past : (epoch low : ℕ) (result : Result Took FollowerFault) → epoch < low → IsAdvance low result → IsCutPast epoch result
-cut_past epoch low (Err (MemoryAt e)) past up = omega (arith, past, up)
-cut_past epoch low (Ok t) past up = tt
-cut_past epoch low (Err (Refused e r)) past up = tt
-cut_past epoch low (Err (BadImage bad)) past up = tt
-cut_past epoch low (Err Memory) past up = tt
-cut_past epoch low (Err (Fork e held came)) past up = tt
-
--- a step that changes nothing isn't cut
-pub stay_past : (epoch : ℕ) (before after : FollowerState) (answer result : Result Took FollowerFault) → Performs before (stays before answer) result after → IsCutPast epoch result
-stay_past epoch before after answer (Err (MemoryAt e)) cut = absurd (none-some after cut)
-stay_past epoch before after answer (Ok t) cut = tt
-stay_past epoch before after answer (Err (Refused e r)) cut = tt
-stay_past epoch before after answer (Err Memory) cut = tt
-stay_past epoch before after answer (Err (Fork e held came)) cut = tt
-stay_past epoch before after answer (Err (BadImage bad)) cut = tt
-
--- and neither is one that compares two entries of an epoch
-pub compared_past : (epoch : ℕ) (f : FollowerState) (held came : Entry) (result : Result Took FollowerFault) → Performs f (hand_above f came (Some held)) result f → IsCutPast epoch result
-compared_past epoch f held came result comes = stay_past epoch f f _ result comes
-
--- ---- where a step can be cut
-
-cut_low : (image : Image) (waiting : List Entry) (epoch : ℕ) (after : FollowerState) → (advanced image waiting).cut epoch ≡ Some after → image.epoch ≤ epoch
-cut_low image [] epoch after cut = absurd (none-some after cut)
-cut_low image (entry ∷ waiting) epoch after cut = by (cut_low (next_image image entry.cmd) waiting epoch after) (is_next image entry) refl (refusal_of image entry.cmd) refl
-  where
-    here : (step : Handed) → (step.cut epoch ≡ Some after → image.epoch ≤ epoch) → (cut_first image (entry ∷ waiting) step).cut epoch ≡ Some after → image.epoch ≤ epoch
-    here step later cut = at (image.epoch == epoch) refl cut
-      where
-        at : (b : Bool) → (image.epoch == epoch) ≡ b → (if b then Some (record { image = image; waiting = entry ∷ waiting }) else step.cut epoch) ≡ Some after → image.epoch ≤ epoch
-        at true same cut = omega (arith, eqb-true image.epoch epoch same)
-        at false other cut = later cut
-
-    by : ((advanced (next_image image entry.cmd) waiting).cut epoch ≡ Some after → (next_image image entry.cmd).epoch ≤ epoch) → (b : Bool) → is_next image entry ≡ b → (o : Option Refusal) → refusal_of image entry.cmd ≡ o → image.epoch ≤ epoch
-    by later false gap o is = absurd (none-some after (subst (λ (h : Handed). h.cut epoch ≡ Some after) (advanced_stays image entry waiting gap) cut))
-    by later true next (Some refusal) is = here (stays (record { image = image; waiting = waiting }) (Err (Refused entry.epoch refusal))) (λ e. absurd (none-some after e)) (subst (λ (h : Handed). h.cut epoch ≡ Some after) (advanced_refused image entry waiting refusal next is) cut)
-    by later true next None is =
-        here (advanced (next_image image entry.cmd) waiting) (λ e. omega (arith, later e, next-epoch image entry.cmd)) (subst (λ (h : Handed). h.cut epoch ≡ Some after) (advanced_on image entry waiting next is) cut)
-
--- a call that comes to an advance from an image is cut no further back than there, and neither is one that changes
--- nothing
-pub cut_from_advance : (epoch : ℕ) (image : Image) (waiting : List Entry) (before after : FollowerState) (result : Result Took FollowerFault) → epoch ≤ image.epoch → Performs before (advanced image waiting) result after → IsCutFrom epoch result
-cut_from_advance epoch image waiting before after (Err (MemoryAt e)) up cut = omega (arith, up, cut_low image waiting e after cut)
-cut_from_advance epoch image waiting before after (Ok t) up comes = tt
-cut_from_advance epoch image waiting before after (Err (Refused e r)) up comes = tt
-cut_from_advance epoch image waiting before after (Err Memory) up comes = tt
-cut_from_advance epoch image waiting before after (Err (Fork e held came)) up comes = tt
-cut_from_advance epoch image waiting before after (Err (BadImage bad)) up comes = tt
-
-cut_from_stay : (epoch : ℕ) (before after : FollowerState) (answer result : Result Took FollowerFault) → Performs before (stays before answer) result after → IsCutFrom epoch result
-cut_from_stay epoch before after answer (Err (MemoryAt e)) cut = absurd (none-some after cut)
-cut_from_stay epoch before after answer (Ok t) comes = tt
-cut_from_stay epoch before after answer (Err (Refused e r)) comes = tt
-cut_from_stay epoch before after answer (Err Memory) comes = tt
-cut_from_stay epoch before after answer (Err (Fork e held came)) comes = tt
-cut_from_stay epoch before after answer (Err (BadImage bad)) comes = tt
-
-pub cut_from_entry : (f g : FollowerState) (entry : Entry) (result : Result Took FollowerFault) → Performs f (hand_entry f entry) result g → IsCutFrom f.image.epoch result
-cut_from_entry f g entry result comes = by (nat_le entry.epoch f.image.epoch) refl (waiting_at f.waiting entry.epoch) refl (is_full f entry) refl
-  where
-    by : (low : Bool) → nat_le entry.epoch f.image.epoch ≡ low → (held : Option Entry) → waiting_at f.waiting entry.epoch ≡ held → (full : Bool) → is_full f entry ≡ full → IsCutFrom f.image.epoch result
-    by true e held is full many = cut_from_stay f.image.epoch f g _ result (rw e at comes)
-    by false e (Some held) is full many = cut_from_stay f.image.epoch f g _ result (rw (e, is) at comes)
-    by false e None is true many = cut_from_stay f.image.epoch f g _ result (rw (e, is, many) at comes)
-    by false e None is false many = cut_from_advance f.image.epoch f.image _ f g result (omega arith) (rw (e, is, many) at comes)
-
-cut_from_valid : (f g : FollowerState) (image : Image) (result : Result Took FollowerFault) → Performs f (hand_valid f image) result g → IsCutFrom f.image.epoch result
-cut_from_valid f g image result comes = by (nat_le image.epoch f.image.epoch) refl
-  where
-    by : (low : Bool) → nat_le image.epoch f.image.epoch ≡ low → IsCutFrom f.image.epoch result
-    by true e = cut_from_stay f.image.epoch f g _ result (rw e at comes)
-    by false e = (let past : f.image.epoch < image.epoch = grind (arith, nat_tests) in cut_from_advance f.image.epoch image _ f g result (omega (arith, past)) (rw e at comes))
-
-pub cut_from_image : (f g : FollowerState) (image : Image) (result : Result Took FollowerFault) → Performs f (hand_image f image) result g → IsCutFrom f.image.epoch result
-cut_from_image f g image result comes = by (bad_of image) comes
-  where
-    by : (bad : Option BadRule) → Performs f (unless_bad bad f (hand_valid f image)) result g → IsCutFrom f.image.epoch result
-    by None comes = cut_from_valid f g image result comes
-    by (Some bad) comes = cut_from_stay f.image.epoch f g _ result comes

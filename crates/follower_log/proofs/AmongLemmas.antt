@@ -3,13 +3,15 @@ use Rattle.std.proofs.Common.{◌≡◌, ℕ, zero, suc, ◌+◌, ◌<◌, ◌�
 use Rattle.std.proofs.lemmas.Bool.{and_parts, eqb-true, ne_eqb}
 use Rattle.std.proofs.lemmas.Bool.Decides.{nat_tests}
 use Rattle.std.specs.Cmp.{nat_cmp_is}
-use Rattle.std.specs.List.{Contains}
+use Rattle.std.specs.List.{AllByRecursion, Contains}
 use Rattle.std.specs.Ordering.{nat_cmp}
-use Rattle.std.specs.declared.cmp.Ordering.TheVariants.{Less, Greater}
+use Rattle.std.specs.declared.cmp.Ordering.TheVariants.{Greater}
 use Rattle.cluster_terms.specs.Ascending.{put}
+use Rattle.transformations.proofs.lists.ListLemmas.{all_filter, all_weaker, filter_all, find_none}
 use Rattle.transformations.specs.Log.{are_numbered}
 use Rattle.transformations.specs.declared.entry.Entry.{Entry}
-use Rattle.follower_log.proofs.PrefixLemmas.{among}
+use Rattle.follower_log.proofs.KeptLemmas.{put_first}
+use Rattle.follower_log.proofs.PrefixLemmas.{among, numbered_from}
 use Rattle.follower_log.specs.Follower.{by_epoch, waiting_at}
 
 -- ---- an entry among entries that are numbered
@@ -75,6 +77,10 @@ among_yes test first rest is = rw is refl
 pub among_no : (test : ℕ → Bool) (first : Entry) (rest : List Entry) → test first.epoch ≡ false → among test (first ∷ rest) ≡ among test rest
 among_no test first rest is = rw is refl
 
+-- what holds of each entry from an epoch on holds of those among entries that are numbered from there
+among_from : (test : ℕ → Bool) (m : ℕ) (rest : List Entry) → are_numbered m rest ≡ true → (P : Entry → Type 0) → ((e : Entry) → m ≤ e.epoch → P e) → AllByRecursion P (among test rest)
+among_from test m rest all P holds = all_filter (λ (e : Entry). test e.epoch) P rest (all_weaker (λ (e : Entry). m ≤ e.epoch) (λ e. test e.epoch ≡ true → P e) (λ e up is. holds e up) rest (numbered_from m rest all))
+
 -- two tests that agree from an epoch on find the same entries
 pub among_alike : (test other : ℕ → Bool) (m : ℕ) (rest : List Entry) → are_numbered m rest ≡ true → ((e : ℕ) → m ≤ e → test e ≡ other e) → among test rest ≡ among other rest
 among_alike test other m [] all alike = refl
@@ -101,10 +107,7 @@ passes test epoch first rest other = by (test first.epoch) refl
     by false e = rw e refl
 
 none_below : (test : ℕ → Bool) (epoch m : ℕ) (rest : List Entry) → are_numbered m rest ≡ true → epoch < m → waiting_at (among test rest) epoch ≡ None
-none_below test epoch m [] all low = refl
-none_below test epoch m (first ∷ rest) all low =
-    let is = numbered_first m first rest all in
-    passes test epoch first rest (ne_eqb epoch first.epoch (λ same. omega (arith, same, is.own, low))) ∙ none_below test epoch (m + 1) rest is.others (omega (arith, low))
+none_below test epoch m rest all low = find_none (λ (e : Entry). epoch == e.epoch) (among test rest) (among_from test m rest all (λ e. (epoch == e.epoch) ≡ false) (λ e up. ne_eqb epoch e.epoch (λ same. omega (arith, same, low, up))))
 
 pub found_among : (test : ℕ → Bool) (m : ℕ) (rest : List Entry) (entry : Entry) → are_numbered m rest ≡ true → Contains rest entry → waiting_at (among test rest) entry.epoch ≡ found (test entry.epoch) entry
 found_among test m [] entry all in_it = absurd (nowhere entry in_it)
@@ -125,16 +128,7 @@ found_among test m (first ∷ rest) entry all in_it =
 
 -- an entry that is put among them is one more epoch that is tested
 pub put_before : (test : ℕ → Bool) (entry : Entry) (m : ℕ) (rest : List Entry) → are_numbered m rest ≡ true → entry.epoch < m → put by_epoch entry (among test rest) ≡ entry ∷ among test rest
-put_before test entry m [] all low = refl
-put_before test entry m (first ∷ rest) all low =
-    let is = numbered_first m first rest all in
-    by is (put_before test entry (m + 1) rest is.others (omega (arith, low))) (test first.epoch) refl
-  where
-    by : IsNumbered m first rest → put by_epoch entry (among test rest) ≡ entry ∷ among test rest → (b : Bool) → test first.epoch ≡ b → put by_epoch entry (among test (first ∷ rest)) ≡ entry ∷ among test (first ∷ rest)
-    by is others true e =
-        let less : nat_cmp entry.epoch first.epoch ≡ Less = sym (nat_cmp_is entry.epoch first.epoch Less (omega (arith, is.own, low))) in
-        rw (e, less) refl
-    by is others false e = rw e others
+put_before test entry m rest all low = put_first entry (among test rest) (among_from test m rest all (λ e. entry.epoch < e.epoch) (λ e up. omega (arith, low, up)))
 
 pub record OneMore (test more : ℕ → Bool) (epoch : ℕ) : Type 0 where
   pub has : more epoch ≡ true
@@ -172,19 +166,11 @@ put_among test more m (first ∷ rest) entry all in_it one new =
 abbrev above : ℕ → List Entry → List Entry
 above b rest = filter (λ (e : Entry). nat_lt b e.epoch) rest
 
-filter_all : (test : ℕ → Bool) (b m : ℕ) (rest : List Entry) → are_numbered m rest ≡ true → b < m → above b (among test rest) ≡ among test rest
-filter_all test b m [] all low = refl
-filter_all test b m (first ∷ rest) all low =
-    let is = numbered_first m first rest all in
-    let own : first.epoch ≡ m = is.own in
-    by (filter_all test b (m + 1) rest is.others (omega (arith, low))) (grind (arith, nat_tests)) (test first.epoch) refl
-  where
-    by : above b (among test rest) ≡ among test rest → nat_lt b first.epoch ≡ true → (t : Bool) → test first.epoch ≡ t → above b (among test (first ∷ rest)) ≡ among test (first ∷ rest)
-    by others high true e = rw (e, high) (ap (λ l. first ∷ l) others)
-    by others high false e = rw e others
+none_dropped : (test : ℕ → Bool) (b m : ℕ) (rest : List Entry) → are_numbered m rest ≡ true → b < m → above b (among test rest) ≡ among test rest
+none_dropped test b m rest all low = filter_all (λ (e : Entry). nat_lt b e.epoch) (among test rest) (among_from test m rest all (λ e. nat_lt b e.epoch ≡ true) (λ e up. grind (arith, nat_tests, low, up)))
 
 pub filter_above : (test : ℕ → Bool) (n b m : ℕ) (rest : List Entry) → are_numbered m rest ≡ true → b + 1 ≡ m + n → above b (among test rest) ≡ among test (drop n rest)
-filter_above test zero b m rest all at = filter_all test b m rest all (omega (arith, at))
+filter_above test zero b m rest all at = none_dropped test b m rest all (omega (arith, at))
 filter_above test (suc n) b m [] all at = refl
 filter_above test (suc n) b m (first ∷ rest) all at =
     let is = numbered_first m first rest all in

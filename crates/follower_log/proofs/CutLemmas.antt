@@ -1,5 +1,6 @@
 -- Where memory that runs out cuts a step: between where the follower was and where the step leads it.
 use Rattle.std.proofs.Common.{nat_le, ◌≡◌, ℕ, ◌<◌, ◌≤◌, Bool, true, false, ◌==◌, if◌then◌else◌, List, [], ◌∷◌, filter, nat_lt, Option, Some, None, Result, Ok, Err, refl, sym, subst, arith}
+use Rattle.std.proofs.lemmas.Bool.{eqb-true}
 use Rattle.std.proofs.lemmas.Bool.Decides.{nat_tests}
 use Rattle.std.proofs.lemmas.Option.{none-some}
 use Rattle.cluster_terms.specs.Ascending.{put}
@@ -11,17 +12,17 @@ use Rattle.transformations.specs.declared.entry.Entry.{Entry}
 use Rattle.transformations.specs.declared.image.Image.{Image}
 use Rattle.transformations.specs.declared.image_rules.BadImage.{BadImage as BadRule}
 use Rattle.transformations.specs.declared.refusal.Refusal.{Refusal}
-use Rattle.follower_log.specs.Follower.{FollowerState, Handed, advanced, by_epoch, cut_first, hand_entry, hand_image, hand_valid, is_full, is_next, is_same, stays, unless_bad, waiting_at}
+use Rattle.follower_log.specs.Follower.{FollowerState, Handed, IsCutFrom, Performs, advanced, by_epoch, cut_first, hand_entry, hand_image, hand_valid, is_full, is_next, is_same, stays, unless_bad, waiting_at}
 use Rattle.follower_log.specs.declared.fault.FollowerFault.{FollowerFault}
-use Rattle.follower_log.specs.declared.fault.FollowerFault.TheVariants.{Fork, Refused, BadImage}
+use Rattle.follower_log.specs.declared.fault.FollowerFault.TheVariants.{Fork, Refused, BadImage, Memory, MemoryAt}
 use Rattle.follower_log.specs.declared.took.Took.{Took}
 use Rattle.follower_log.specs.declared.took.Took.TheVariants.{At, Old, Held, Full}
 use Rattle.follower_log.proofs.AdvanceLemmas.{advanced_on, advanced_refused, advanced_stays}
 
--- a step from an epoch leads no further back, and so does each cut of it, which goes no further on than the step
+-- a step from an epoch leads no further back, and neither does a cut of it, which goes no further on than the step
 pub record CutsFrom (low : ℕ) (step : Handed) : Type 0 where
   pub up : low ≤ step.after.image.epoch
-  pub cuts : (epoch : ℕ) (at : FollowerState) → step.cut epoch ≡ Some at → (low ≤ at.image.epoch) × (at.image.epoch ≤ step.after.image.epoch)
+  pub cuts : (epoch : ℕ) (at : FollowerState) → step.cut epoch ≡ Some at → (low ≤ at.image.epoch) × (at.image.epoch ≤ step.after.image.epoch) × (at.image.epoch ≡ epoch)
 
 stays_from : (low : ℕ) (f : FollowerState) (answer : Result Took FollowerFault) → low ≤ f.image.epoch → CutsFrom low (stays f answer)
 stays_from low f answer up = record { up = up; cuts = λ epoch at cut. absurd (none-some at cut) }
@@ -29,18 +30,18 @@ stays_from low f answer up = record { up = up; cuts = λ epoch at cut. absurd (n
 lower : (low high : ℕ) (step : Handed) → low ≤ high → CutsFrom high step → CutsFrom low step
 lower low high step down is = record {
   up = omega (arith, down, is.up);
-  cuts = λ epoch at cut. (omega (arith, down, (is.cuts epoch at cut).0), (is.cuts epoch at cut).1);
+  cuts = λ epoch at cut. (let parts = is.cuts epoch at cut in (omega (arith, down, parts.0), parts.1, parts.2));
 }
 
 first_from : (image : Image) (waiting : List Entry) (step : Handed) → CutsFrom image.epoch step → CutsFrom image.epoch (cut_first image waiting step)
-first_from image waiting step is = record { up = is.up; cuts = λ epoch at cut. by epoch at (image.epoch == epoch) cut }
+first_from image waiting step is = record { up = is.up; cuts = λ epoch at cut. by epoch at (image.epoch == epoch) refl cut }
   where
-    by : (epoch : ℕ) (at : FollowerState) (b : Bool) → (if b then Some (record { image = image; waiting = waiting }) else step.cut epoch) ≡ Some at → (image.epoch ≤ at.image.epoch) × (at.image.epoch ≤ step.after.image.epoch)
-    by epoch at true cut =
+    by : (epoch : ℕ) (at : FollowerState) (b : Bool) → (image.epoch == epoch) ≡ b → (if b then Some (record { image = image; waiting = waiting }) else step.cut epoch) ≡ Some at → (image.epoch ≤ at.image.epoch) × (at.image.epoch ≤ step.after.image.epoch) × (at.image.epoch ≡ epoch)
+    by epoch at true first cut =
         let here : FollowerState = record { image = image; waiting = waiting } in
         let same : here ≡ at = cc in
-        subst (λ (f : FollowerState). (image.epoch ≤ f.image.epoch) × (f.image.epoch ≤ step.after.image.epoch)) same (omega arith, is.up)
-    by epoch at false cut = is.cuts epoch at cut
+        subst (λ (f : FollowerState). (image.epoch ≤ f.image.epoch) × (f.image.epoch ≤ step.after.image.epoch) × (f.image.epoch ≡ epoch)) same (omega arith, is.up, eqb-true image.epoch epoch first)
+    by epoch at false later cut = is.cuts epoch at cut
 
 pub advanced_from : (image : Image) (waiting : List Entry) → CutsFrom image.epoch (advanced image waiting)
 advanced_from image [] = stays_from image.epoch (record { image = image; waiting = [] }) (Ok (At image.epoch)) (omega arith)
@@ -84,3 +85,12 @@ image_from f image = by (bad_of image)
     by : (bad : Option BadRule) → CutsFrom f.image.epoch (unless_bad bad f (hand_valid f image))
     by None = valid_from f image
     by (Some bad) = stays_from f.image.epoch f (Err (BadImage bad)) (omega arith)
+
+-- so memory runs out no further back
+pub cut_low : (low : ℕ) (f g : FollowerState) (step : Handed) (result : Result Took FollowerFault) → CutsFrom low step → Performs f step result g → IsCutFrom low result
+cut_low low f g step (Err (MemoryAt e)) is cut = (let at = is.cuts e g cut in omega (arith, at.0, at.2))
+cut_low low f g step (Ok t) is comes = tt
+cut_low low f g step (Err (Refused e r)) is comes = tt
+cut_low low f g step (Err Memory) is comes = tt
+cut_low low f g step (Err (Fork e held came)) is comes = tt
+cut_low low f g step (Err (BadImage bad)) is comes = tt

@@ -5,6 +5,7 @@ use Rattle.std.proofs.lemmas.Bool.{and_parts, eqb-true}
 use Rattle.std.proofs.lemmas.Bool.Decides.{nat_tests}
 use Rattle.std.specs.List.{Contains}
 use Rattle.cluster_terms.specs.Ascending.{put}
+use Rattle.transformations.proofs.lists.ListLemmas.{all_each, filter_all, part_filter, part_length}
 use Rattle.transformations.specs.History.{state_after}
 use Rattle.transformations.specs.Log.{IsLog, are_numbered, commands_of}
 use Rattle.transformations.specs.declared.entry.Entry.{Entry}
@@ -18,14 +19,6 @@ use Rattle.follower_log.specs.declared.took.Took.TheVariants.{At, Full, Old}
 
 -- ---- as many entries as there are
 
-few : (test : ℕ → Bool) (rest : List Entry) → length (among test rest) ≤ length rest
-few test [] = omega arith
-few test (first ∷ rest) = by (few test rest) (test first.epoch) refl
-  where
-    by : length (among test rest) ≤ length rest → (b : Bool) → test first.epoch ≡ b → length (among test (first ∷ rest)) ≤ length (first ∷ rest)
-    by less true is = rw is (omega (arith, less))
-    by less false is = rw is (omega (arith, less))
-
 whole : (test : ℕ → Bool) (rest : List Entry) → length (among test rest) ≡ length rest → among test rest ≡ rest
 whole test [] same = refl
 whole test (first ∷ rest) same = by (whole test rest) (test first.epoch) refl
@@ -36,11 +29,10 @@ whole test (first ∷ rest) same = by (whole test rest) (test first.epoch) refl
         among_yes test first rest is ∙ ap (λ (l : List Entry). first ∷ l) (others (omega (arith, long)))
     by others false is =
         let long = ap length (sym (among_no test first rest is)) ∙ same in
-        absurd (omega (arith, long, few test rest))
+        absurd (omega (arith, long, part_length (part_filter (λ (e : Entry). test e.epoch) rest)))
 
 everything : (rest : List Entry) → among (λ _. true) rest ≡ rest
-everything [] = refl
-everything (first ∷ rest) = ap (λ (l : List Entry). first ∷ l) (everything rest)
+everything rest = filter_all (λ _. true) rest (all_each (λ _. true ≡ true) (λ _. refl) rest)
 
 -- ---- the entry that is lacking, put among those that wait
 

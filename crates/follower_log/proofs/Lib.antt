@@ -3,7 +3,6 @@ pub mod AmongLemmas
 pub mod CutLemmas
 pub mod EndLemmas
 pub mod GrowthLemmas
-pub mod HoldLemmas
 pub mod KeptLemmas
 pub mod PrefixLemmas
 pub mod ShowsLemmas

@@ -1,5 +1,5 @@
 -- The follower machine: what a follower shows, and what it makes of each entry and image that it is handed.
-use Rattle.std.specs.Prelude.{◌≡◌, ℕ, ◌+◌, ◌<◌, ◌≤◌, Bool, true, false, ◌&&◌, ◌||◌, ◌==◌, if◌then◌else◌, List, [], ◌∷◌, filter, find, is_none, is_some, length, Option, Some, None, Result, Ok, Err, nat_le, nat_lt}
+use Rattle.std.specs.Prelude.{◌≡◌, ℕ, ◌+◌, ◌<◌, ◌≤◌, Bool, ◌&&◌, ◌==◌, if◌then◌else◌, List, [], ◌∷◌, filter, find, is_none, length, Option, Some, None, Result, Ok, Err, nat_le, nat_lt}
 use Rattle.std.specs.Ordering.{nat_cmp}
 use Rattle.std.specs.declared.cmp.Ordering.{Ordering}
 use Rattle.cluster_terms.specs.Ascending.{put}
@@ -124,23 +124,6 @@ Performs before step (Err Memory) after = after ≡ before
 Performs before step (Err (MemoryAt epoch)) after = step.cut epoch ≡ Some after
 Performs before step result after = (result ≡ step.answer) × (after ≡ step.after)
 
--- whether the first waiting entry is the next one
-abbrev pub leads : Image → List Entry → Bool
-leads image [] = false
-leads image (entry ∷ waiting) = is_next image entry
-
--- whether entries may be compared or applied for an entry: it is above the follower's epoch, and it or the first waiting
--- entry is the next one, or an entry of its epoch waits
-abbrev pub is_due : FollowerState → Entry → Bool
-is_due follower entry =
-    nat_lt follower.image.epoch entry.epoch
-    && (is_next follower.image entry || (leads follower.image follower.waiting || is_some (waiting_at follower.waiting entry.epoch)))
-
--- an entry is handed over if none is compared or applied for it
-abbrev pub Holds : FollowerState → Entry → Option Took → FollowerState → Type 0
-Holds before entry None after = (is_due before entry ≡ true) × (after ≡ before)
-Holds before entry (Some took) after = (is_due before entry ≡ false) × Performs before (hand_entry before entry) (Ok took) after
-
 -- the answers of an advance from an epoch: it comes no further back. If memory runs out, it tells where the advance is
 -- cut
 abbrev pub IsAdvance : ℕ → Result Took FollowerFault → Type 0
@@ -149,11 +132,7 @@ IsAdvance epoch (Err (Refused next refusal)) = epoch < next
 IsAdvance epoch (Err (MemoryAt reached)) = epoch ≤ reached
 IsAdvance epoch result = ⊥
 
--- if memory runs out on the way, the follower is at this epoch or a later one; or at a later one
+-- if memory runs out on the way, the follower is at this epoch or a later one
 abbrev pub IsCutFrom : ℕ → Result Took FollowerFault → Type 0
 IsCutFrom epoch (Err (MemoryAt cut)) = epoch ≤ cut
 IsCutFrom epoch result = Unit {0}
-
-abbrev pub IsCutPast : ℕ → Result Took FollowerFault → Type 0
-IsCutPast epoch (Err (MemoryAt cut)) = epoch < cut
-IsCutPast epoch result = Unit {0}

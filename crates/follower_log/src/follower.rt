@@ -1,19 +1,16 @@
-ghost use Rattle.std.specs.Prelude.{◌≡◌, ◌+◌, ◌<◌, ◌≤◌, ◌∷◌, ◌↔◌, true, List, [], Ok, Some, None, length, IfOk, IsFalse, IsTrue, OnErr};
-ghost use Rattle.std.specs.Option.{IfSome};
+ghost use Rattle.std.specs.Prelude.{◌≡◌, ◌+◌, ◌<◌, ◌≤◌, ◌↔◌, true, ℕ, List, [], Ok, Some, None, length, IfOk, IsFalse, IsTrue, OnErr};
 ghost use Rattle.cluster_terms.specs.Ascending.{put};
 ghost use Rattle.transformations.specs.History.{is_command, most_epochs, state_after};
 ghost use Rattle.transformations.specs.Log.{IsLog, commands_of};
 ghost use Rattle.transformations.specs.declared.entry.Entry.{Entry as LogEntry};
-ghost use Rattle.follower_log.specs.Follower.{Holds, Performs, FollowerState, IsAdvance, IsCutFrom, IsCutPast, advanced, by_epoch, empty_follower, hand_above, hand_entry, hand_image, hand_new, hand_valid, is_next, lacks_only, leads, waiting_at};
-ghost use Rattle.follower_log.specs.Kept.{Advances, ComesFirst, IsFree};
-ghost use Rattle.follower_log.specs.Kept as spec;
+ghost use Rattle.follower_log.specs.Follower.{Performs, FollowerState, IsAdvance, IsCutFrom, advanced, by_epoch, empty_follower, hand_above, hand_entry, hand_image, hand_new, hand_valid, is_next, lacks_only, waiting_at};
+ghost use Rattle.follower_log.specs.Kept.{Advances, ComesFirst};
 ghost use Rattle.follower_log.specs.declared.took.Took.{Took};
 ghost use Rattle.follower_log.specs.Prefix.{IsEntryOf, IsImageOf, StandsAfter, StandsFor, Taken, nothing_taken, with_entry, with_image};
 
-use crate::apply_fault::ApplyFault;
 use crate::fault::FollowerFault;
 use crate::took::Took;
-use crate::waiting::{Slot, Waiting};
+use crate::waiting::Waiting;
 use cluster_metadata::{AdmitFault, ImageFault, Metadata};
 use cluster_terms::{Memory, TryCopy};
 use std::alloc::Global;
@@ -48,8 +45,9 @@ impl Model for Follower {
 
 /// Compares an entry that came with the one of its epoch that waits, at a follower of this epoch.
 fn compared(held: &Entry, came: &Entry, epoch: u64) -> Result<Took, FollowerFault>
-    ensures { (f : FollowerState) → f.image.epoch ≡ epoch → held.now.epoch ≡ came.now.epoch
+    ensures step { (f : FollowerState) → f.image.epoch ≡ epoch → held.now.epoch ≡ came.now.epoch
         → Performs f (hand_above f came.now (Some held.now)) result f }
+    ensures uncut { (least : ℕ) → IsCutFrom least result }
 {
     if held.same(came) {
         Ok(Took::Held(epoch))
@@ -109,82 +107,30 @@ impl Follower {
         requires formed { IsTrue (is_command entry.now.cmd) }
         requires epoch { entry.now.epoch ≤ most_epochs }
         ensures step { Performs self.old (hand_entry self.old entry.now) result self.new }
-        ensures next { is_next self.old.image entry.now ≡ true → IsCutPast self.old.image.epoch result }
+        ensures next { is_next self.old.image entry.now ≡ true → IsCutFrom (self.old.image.epoch + 1) result }
         ensures least { IsCutFrom self.old.image.epoch result }
         ensures shows { (log : List LogEntry) (taken : Taken) → IsLog log → IsEntryOf log entry.now
             → StandsFor log taken self.old
             → StandsAfter log taken (with_entry taken entry.now.epoch) result self.new }
     {
-        if let Some(took) = self.hold(entry)? {
-            return Ok(took);
-        }
-        match self.waiting.slot(entry.epoch) {
-            Slot::Taken(held) => compared(held, entry, self.epoch()),
-            Slot::Free(at) => Ok(self.take(at, entry)?),
-        }
+        self.hand_over(entry)
     }
 
-    /// Hands over an entry, whose epoch is at most 65,536, if no entries are compared or applied for it. Then it comes to
-    /// the same as `deliver`; the result is smaller. Returns `None` and changes nothing if the entry is the next one, or
-    /// past it where an entry of its epoch waits, or where the first entry that waits is the next one. Fails only if
-    /// memory runs out, and then changes nothing.
-    ///
-    /// Cost: a search among the waiting entries.
-    pub fn hold(&mut self, entry: &Entry) -> Result<Option<Took>, Memory>
+    /// Hands over an entry, as `deliver` does.
+    fn hand_over(&mut self, entry: &Entry) -> Result<Took, FollowerFault>
         requires formed { IsTrue (is_command entry.now.cmd) }
         requires epoch { entry.now.epoch ≤ most_epochs }
-        ensures step { IfOk result (λ held. Holds self.old entry.now held self.new) }
-        ensures unchanged { OnErr result (self.new ≡ self.old) }
-        ensures shows { (log : List LogEntry) (taken : Taken) → IsLog log → IsEntryOf log entry.now
-            → StandsFor log taken self.old
-            → IfOk result (λ held. IfSome held
-            (λ took. StandsAfter log taken (with_entry taken entry.now.epoch) (Ok took) self.new)) }
+        ensures step { Performs self.old (hand_entry self.old entry.now) result self.new }
+        ensures next { is_next self.old.image entry.now ≡ true → IsCutFrom (self.old.image.epoch + 1) result }
     {
         let epoch = self.epoch();
         if entry.epoch <= epoch {
-            return Ok(Some(Took::Old(epoch)));
+            return Ok(Took::Old(epoch));
         }
-        if entry.epoch - epoch == 1 || self.leads() {
-            return Ok(None);
+        match self.waiting.at(entry.epoch) {
+            Some(held) => compared(held, entry, epoch),
+            None => self.take(entry),
         }
-        match self.waiting.slot(entry.epoch) {
-            Slot::Taken(_) => Ok(None),
-            Slot::Free(at) => {
-                if self.keep(at, entry)? {
-                    Ok(Some(Took::At(epoch)))
-                } else {
-                    Ok(Some(Took::Full(epoch)))
-                }
-            }
-        }
-    }
-
-    /// Whether the first waiting entry is the next one.
-    fn leads(&self) -> bool
-        ensures { result ≡ leads self.now.image self.now.waiting }
-    {
-        match self.waiting.first() {
-            Some(first) => first.epoch - self.metadata.epoch() == 1,
-            None => false,
-        }
-    }
-
-    /// Lets an entry above the follower's epoch wait, unless too many wait, and returns whether it does. None waits at its
-    /// epoch, and `at` is its free slot.
-    #[inline(always)]
-    fn keep(&mut self, at: usize, entry: &Entry) -> Result<bool, Memory>
-        requires formed { IsTrue (is_command entry.now.cmd) }
-        requires above { self.old.image.epoch < entry.now.epoch }
-        requires epoch { entry.now.epoch ≤ most_epochs }
-        requires free { IsFree self.old.waiting entry.now.epoch at }
-        ensures ok { IfOk result (λ kept. spec.Keeps self.old entry.now kept self.new) }
-        ensures err { OnErr result (self.new ≡ self.old) }
-    {
-        if self.waiting.len() >= MOST_WAITING {
-            return Ok(false);
-        }
-        self.waiting.insert(at, entry)?;
-        Ok(true)
     }
 
     /// Whether the follower lacks the entry of this epoch alone, of all up to the epoch `last`: it is the next one, it
@@ -224,39 +170,40 @@ impl Follower {
         Ok(true)
     }
 
-    /// Takes an entry above the follower's epoch, at whose epoch none waits, unless too many wait. `at` is its free slot.
-    fn take(&mut self, at: usize, entry: &Entry) -> Result<Took, ApplyFault>
+    /// Takes an entry above the follower's epoch, at whose epoch none waits, unless too many wait.
+    fn take(&mut self, entry: &Entry) -> Result<Took, FollowerFault>
         requires formed { IsTrue (is_command entry.now.cmd) }
         requires above { self.old.image.epoch < entry.now.epoch }
         requires epoch { entry.now.epoch ≤ most_epochs }
-        requires free { IsFree self.old.waiting entry.now.epoch at }
-        ensures step { Performs self.old (hand_new self.old entry.now) (spec.widened result) self.new }
-        ensures next { is_next self.old.image entry.now ≡ true → IsCutPast self.old.image.epoch (spec.widened result) }
+        requires none { waiting_at self.old.waiting entry.now.epoch ≡ None }
+        ensures step { Performs self.old (hand_new self.old entry.now) result self.new }
+        ensures next { is_next self.old.image entry.now ≡ true → IsCutFrom (self.old.image.epoch + 1) result }
     {
         let epoch = self.epoch();
         if entry.epoch == epoch + 1 {
             return self.take_next(entry);
         }
-        if !self.keep(at, entry)? {
+        if self.waiting.len() >= MOST_WAITING {
             return Ok(Took::Full(epoch));
         }
+        self.waiting.insert(entry)?;
         self.apply_waiting()
     }
 
     /// Applies the entry of the next epoch, and then the waiting ones that come to be the next.
-    fn take_next(&mut self, entry: &Entry) -> Result<Took, ApplyFault>
+    fn take_next(&mut self, entry: &Entry) -> Result<Took, FollowerFault>
         requires formed { IsTrue (is_command entry.now.cmd) }
         requires next { entry.now.epoch ≡ self.old.image.epoch + 1 }
         requires epoch { entry.now.epoch ≤ most_epochs }
         requires none { waiting_at self.old.waiting entry.now.epoch ≡ None }
         ensures step { Performs self.old
-            (advanced self.old.image (put by_epoch entry.now self.old.waiting)) (spec.widened result) self.new }
-        ensures past { IsCutPast self.old.image.epoch (spec.widened result) }
+            (advanced self.old.image (put by_epoch entry.now self.old.waiting)) result self.new }
+        ensures past { IsCutFrom (self.old.image.epoch + 1) result }
     {
         match self.metadata.apply(&entry.cmd) {
             Ok(()) => self.apply_waiting(),
-            Err(AdmitFault::Refused(refusal)) => Err(ApplyFault::Refused(entry.epoch, refusal)),
-            Err(AdmitFault::Memory) => Err(ApplyFault::Memory),
+            Err(AdmitFault::Refused(refusal)) => Err(FollowerFault::Refused(entry.epoch, refusal)),
+            Err(AdmitFault::Memory) => Err(FollowerFault::Memory),
         }
     }
 
@@ -284,7 +231,7 @@ impl Follower {
         ensures { Performs self.old (hand_image self.old image) result self.new }
     {
         match Metadata::from_image(self.alloc, image) {
-            Ok(metadata) => Ok(self.take_image(metadata)?),
+            Ok(metadata) => self.take_image(metadata),
             Err((_image, fault)) => match fault {
                 ImageFault::Bad(bad) => Err(FollowerFault::BadImage(bad)),
                 ImageFault::Memory => Err(FollowerFault::Memory),
@@ -293,8 +240,8 @@ impl Follower {
     }
 
     /// Hands over the metadata of an image.
-    fn take_image(&mut self, metadata: Metadata) -> Result<Took, ApplyFault>
-        ensures { Performs self.old (hand_valid self.old metadata) (spec.widened result) self.new }
+    fn take_image(&mut self, metadata: Metadata) -> Result<Took, FollowerFault>
+        ensures { Performs self.old (hand_valid self.old metadata) result self.new }
     {
         let epoch = self.epoch();
         if metadata.epoch() <= epoch {
@@ -316,12 +263,12 @@ impl Follower {
         ensures shows { (log : List LogEntry) (taken : Taken) → IsLog log
             → StandsFor log taken self.old → StandsAfter log taken taken result self.new }
     {
-        Ok(self.apply_waiting()?)
+        self.apply_waiting()
     }
 
     /// Applies the waiting entries, as `advance` does.
-    fn apply_waiting(&mut self) -> Result<Took, ApplyFault>
-        ensures { Advances self.old (spec.widened result) self.new }
+    fn apply_waiting(&mut self) -> Result<Took, FollowerFault>
+        ensures { Advances self.old result self.new }
     {
         loop {
             match self.apply_first() {
@@ -333,7 +280,7 @@ impl Follower {
     }
 
     /// Applies the first waiting entry if it is the next one, and returns whether it is.
-    fn apply_first(&mut self) -> Result<bool, ApplyFault>
+    fn apply_first(&mut self) -> Result<bool, FollowerFault>
         ensures { ComesFirst self.old result self.new }
     {
         let epoch = self.metadata.epoch();
@@ -345,9 +292,9 @@ impl Follower {
                 }
                 Err(AdmitFault::Refused(refusal)) => {
                     self.waiting.drop_first();
-                    Err(ApplyFault::Refused(epoch + 1, refusal))
+                    Err(FollowerFault::Refused(epoch + 1, refusal))
                 }
-                Err(AdmitFault::Memory) => Err(ApplyFault::MemoryAt(epoch)),
+                Err(AdmitFault::Memory) => Err(FollowerFault::MemoryAt(epoch)),
             },
             _ => Ok(false),
         }

@@ -1,7 +1,6 @@
 //! Followers of a log: nodes that are handed its entries and images in any order, lost and repeated.
 #![tactic(auto)]
 
-mod apply_fault;
 mod fault;
 mod follower;
 mod took;

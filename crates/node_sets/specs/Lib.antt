@@ -1,2 +1,1 @@
 pub mod NodeSets
-pub mod IdLists

@@ -1,16 +1,2 @@
--- Sets of nodes: lists of ids, each below the next.
-use Rattle.std.specs.Prelude.{ℕ, Bool, not, List, filter, nat_eq}
-use Rattle.std.specs.List.Sorted.{IsStrictlyIncreasing}
-use Rattle.std.specs.Set.{is_member}
-
--- each id is below the next
-abbrev pub IsNodeSet : List ℕ → Type 0
-IsNodeSet ids = IsStrictlyIncreasing ids
-
--- whether a node is in a set
-abbrev pub has_node : List ℕ → ℕ → Bool
-has_node ids n = is_member nat_eq ids n
-
--- the nodes of one set that are not in another
-abbrev pub without : List ℕ → List ℕ → List ℕ
-without ids others = filter (λ n. not (has_node others n)) ids
+-- Sets of nodes, as the crates above cite them.
+pub use Rattle.cluster_terms.specs.NodeSets.{IsNodeSet, has_node, without, with_change}

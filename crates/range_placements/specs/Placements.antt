@@ -1,13 +1,12 @@
 -- Placements: the nodes that are read and the nodes that are written at each token.
 use Rattle.std.specs.Prelude.{◌≡◌, Bool, true, if◌then◌else◌, ℕ, ℤ, pos, ◌+ℤ◌, int_lt, int_le, List, [], ◌∷◌, ◌++◌, map, filter_map, Option, Some, None}
-use Rattle.std.specs.Ordering.{int_eq, nat_cmp}
+use Rattle.std.specs.Ordering.{int_eq}
 use Rattle.std.specs.Set.{is_member}
 use Rattle.cluster_terms.specs.Arc.{greatest_token}
-use Rattle.cluster_terms.specs.Ascending.{put_all}
 use Rattle.cluster_terms.specs.Row.{CoverRing, last_token}
 use Rattle.cluster_terms.specs.declared.token.RightEnd.{RightEnd}
 use Rattle.cluster_terms.specs.declared.token.RightEnd.TheVariants.{At, Max}
-use Rattle.node_sets.specs.NodeSets.{without}
+pub use Rattle.node_sets.specs.NodeSets.{with_change}
 use Rattle.range_placements.specs.declared.placement_row.PlacementRow.{PlacementRow}
 
 -- the reads and the writes of a row
@@ -64,10 +63,6 @@ merged_rows (row ∷ rows) t = if int_lt (last_token row.right) t then row ∷ m
 -- a token and the token after it, if there is one, have the same reads and the same writes
 abbrev pub HasSameSides : List PlacementRow → ℤ → Type 0
 HasSameSides rows t = int_lt t greatest_token ≡ true → map_at rows t ≡ map_at rows (t +ℤ pos 1)
-
--- a set of nodes without the nodes that it loses and with those that it gains
-abbrev pub with_change : List ℕ → List ℕ → List ℕ → List ℕ
-with_change set gained lost = put_all nat_cmp gained (without set lost)
 
 -- the reads and the writes where the reads change, and where the writes change, by nodes gained and nodes lost
 abbrev pub reads_changed : List ℕ × List ℕ → List ℕ × List ℕ → List ℕ × List ℕ

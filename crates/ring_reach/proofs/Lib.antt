@@ -1,4 +1,3 @@
-pub mod AlikeLemmas
 pub mod ChangeLemmas
 pub mod MappedItems
 pub mod PartLemmas

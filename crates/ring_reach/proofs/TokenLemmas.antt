@@ -1,14 +1,10 @@
 -- Tokens among tokens.
-use Rattle.std.proofs.Common.{◌≡◌, ℕ, ◌<◌, Bool, true, false, ◌||◌, IsTrue, ℤ, int_lt, pos, List, [], ◌∷◌, ◌++◌, length, get_or, Some, refl, sym, ap, ◌∙◌, subst, arith}
-use Rattle.std.proofs.lemmas.Bool.{false≢true, true≢false, or_left, or_right}
+use Rattle.std.proofs.Common.{◌≡◌, ℕ, ◌<◌, Bool, true, false, ◌||◌, ℤ, List, [], ◌∷◌, ◌++◌, length, get_or, Some, refl, sym, ap, ◌∙◌, subst}
+use Rattle.std.proofs.lemmas.Bool.{false≢true, or_left, or_right}
 use Rattle.std.proofs.lemmas.Bool.Decides.{Decides-int_eq}
-use Rattle.std.proofs.lemmas.Cmp.{int_cmp_total}
-use Rattle.std.proofs.lemmas.Int.{ints}
 use Rattle.std.proofs.lemmas.List.Folds.{list_any-append, list_any_at}
-use Rattle.std.proofs.lemmas.Map.Keys.{sorted_from_all_adjacent}
-use Rattle.std.specs.List.{AllByRecursion, IsAllAdjacentAnswer, list_any, slice_get}
-use Rattle.std.specs.List.Sorted.{IsStrictlySortedBy}
-use Rattle.std.specs.Ordering.{int_cmp, int_eq}
+use Rattle.std.specs.List.{AllByRecursion, list_any, slice_get}
+use Rattle.std.specs.Ordering.{int_eq}
 use Rattle.std.specs.Set.{is_member}
 use Rattle.ring_reach.specs.Moved.{AreTokensAmong}
 
@@ -51,8 +47,3 @@ pub all_among : (P : ℤ → Type 0) (ts us : List ℤ) → AreTokensAmong ts us
 all_among P [] us among all = tt
 all_among P (t ∷ ts) us among all =
     (at_member P us t all (among t (itself t ts)), all_among P ts us (λ u h. among u (or_right (int_eq u t) (is_member int_eq ts u) h)) all)
-
--- whether each token is below the next one tells that the tokens ascend
-pub ascend-from_answer : (ts : List ℤ) (r : Bool) → IsAllAdjacentAnswer (λ t u b. b ≡ int_lt t u) ts r → IsTrue r → IsStrictlySortedBy int_cmp ts
-ascend-from_answer ts true answer up = sorted_from_all_adjacent int_cmp_total ts (pos 0) (λ k in_k. (let less = answer k (pos 0) in_k in grind (arith, ints, less)))
-ascend-from_answer ts false answer up = absurd (true≢false (sym up))

@@ -1,6 +1,5 @@
 pub mod Change
 pub mod Moved
 pub mod Settled
-pub mod ShortLists
 pub mod Walk
 pub mod Windows

@@ -1,14 +1,15 @@
 ghost use Rattle.std.specs.Prelude.{◌≡◌, ℤ, IfOk};
+ghost use Rattle.std.specs.List.Sorted.{IsStrictlySortedBy};
+ghost use Rattle.std.specs.Ordering.{int_cmp};
 ghost use Rattle.node_directory.specs.Members.{group_of};
 ghost use Rattle.ring_reach.specs.Change.{reaches_in, tokens_of_both};
 ghost use Rattle.ring_reach.specs.Moved.{AreTokensAmong, HaveSameTokens, tokens_in};
 ghost use Rattle.ring_reach.specs.Windows.{window_bounds, have};
 
 use crate::shape::common_shape;
-use crate::token_set::{TokenList, TokenSet};
 use crate::walk::Walk;
 use crate::windows::Windows;
-use cluster_terms::{Memory, Pair, Token};
+use cluster_terms::{Memory, Pair, Token, put_in_order};
 use node_directory::Members;
 use std::alloc::Global;
 use token_ring::Ring;
@@ -21,17 +22,20 @@ pub struct Change<'a> {
     pub moved: &'a [Pair],
 }
 
-/// The tokens of those pairs whose node is in the group.
-fn tokens_of(alloc: Global, members: &Members, pairs: &[Pair]) -> Result<TokenSet, Memory>
-    ensures { IfOk result (λ set. HaveSameTokens set (tokens_in (group_of members.now) pairs.now)) }
+/// The tokens of those pairs whose node is in the group, in ascending order, each once.
+fn tokens_of(alloc: Global, members: &Members, pairs: &[Pair]) -> Result<Vec<Token>, Memory>
+    ensures tokens { IfOk result (λ tokens.
+        HaveSameTokens tokens.items (tokens_in (group_of members.now) pairs.now)) }
+    ensures ascending { IfOk result (λ tokens. IsStrictlySortedBy int_cmp tokens.items) }
 {
-    let mut tokens = TokenList::empty(alloc, Token::new(0));
+    let mut tokens = Vec::new(alloc);
     for pair in pairs {
         if members.rack_of(pair.node).is_some() {
             tokens.push(pair.token)?;
         }
     }
-    TokenSet::from_tokens(alloc, tokens)
+    put_in_order(&mut tokens);
+    Ok(tokens)
 }
 
 impl<'a> Change<'a> {
@@ -45,7 +49,7 @@ impl<'a> Change<'a> {
         ensures bounds { IfOk result (λ windows. AreTokensAmong (window_bounds windows) (tokens_of_both self.now)) }
     {
         let moved = tokens_of(alloc, members, self.moved)?;
-        let Some(first) = moved.as_slice().first() else {
+        let Some(first) = moved.first() else {
             return Ok(Windows::empty(alloc));
         };
         match common_shape(members, self.fixed.pairs(), self.widest) {

@@ -6,13 +6,9 @@ mod differ;
 mod groups;
 mod reach;
 mod rows;
-mod settled;
 mod shape;
-mod short_list;
-mod token_set;
 mod walk;
 mod windows;
 
 pub use differ::shape_differs;
 pub use reach::reached;
-pub use settled::any_shape_differs;

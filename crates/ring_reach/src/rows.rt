@@ -1,18 +1,19 @@
 ghost use Rattle.std.specs.Prelude.{◌≡◌, ◌++◌, IfOk, OnOk};
 ghost use Rattle.std.specs.List.{flat_map};
+ghost use Rattle.std.specs.List.Sorted.{IsStrictlySortedBy};
+ghost use Rattle.std.specs.Ordering.{int_cmp};
 ghost use Rattle.token_ring.specs.Ranges.{AreCutOut, HaveTokens};
 ghost use Rattle.ring_reach.specs.Moved.{HaveSameTokens};
 ghost use Rattle.ring_reach.specs.Windows.{any_have, window_bounds};
 
-use crate::token_set::{TokenList, TokenSet};
 use crate::windows::{Window, Windows};
-use cluster_terms::{Memory, Token};
+use cluster_terms::{Memory, Token, put_in_order};
 use std::alloc::Global;
 use token_ring::RangeList;
 
 /// Adds the tokens at which windows begin and end.
-fn push_bounds(bounds: &mut TokenList, windows: &[Window]) -> Result<(), Memory>
-    ensures { OnOk result (bounds.new ≡ bounds.old ++ window_bounds windows.now) }
+fn push_bounds(bounds: &mut Vec<Token>, windows: &[Window]) -> Result<(), Memory>
+    ensures { OnOk result (bounds.new.items ≡ bounds.old.items ++ window_bounds windows.now) }
 {
     for window in windows {
         bounds.push(window.left)?;
@@ -21,15 +22,17 @@ fn push_bounds(bounds: &mut TokenList, windows: &[Window]) -> Result<(), Memory>
     Ok(())
 }
 
-/// The tokens at which windows begin and end.
-pub fn cuts_of(alloc: Global, groups: &[Windows]) -> Result<TokenSet, Memory>
-    ensures { IfOk result (λ cuts. HaveSameTokens cuts (flat_map window_bounds groups.now)) }
+/// The tokens at which windows begin and end, in ascending order, each once.
+fn cuts_of(alloc: Global, groups: &[Windows]) -> Result<Vec<Token>, Memory>
+    ensures tokens { IfOk result (λ cuts. HaveSameTokens cuts.items (flat_map window_bounds groups.now)) }
+    ensures ascending { IfOk result (λ cuts. IsStrictlySortedBy int_cmp cuts.items) }
 {
-    let mut bounds = TokenList::empty(alloc, Token::new(0));
+    let mut bounds = Vec::new(alloc);
     for windows in groups {
         push_bounds(&mut bounds, windows.as_slice())?;
     }
-    TokenSet::from_tokens(alloc, bounds)
+    put_in_order(&mut bounds);
+    Ok(bounds)
 }
 
 /// Whether the windows of any group have a token.
@@ -45,5 +48,5 @@ pub fn ranges_of(alloc: Global, groups: &[Windows]) -> Result<RangeList, Memory>
     ensures bounds { IfOk result (AreCutOut (flat_map window_bounds groups.now)) }
 {
     let cuts = cuts_of(alloc, groups)?;
-    RangeList::of_rows(alloc, cuts.as_slice(), |t| is_reached(groups, t))
+    RangeList::of_rows(alloc, &cuts, |t| is_reached(groups, t))
 }

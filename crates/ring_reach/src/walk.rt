@@ -1,12 +1,13 @@
 ghost use Rattle.std.specs.Prelude.{◌≡◌, ◌≤◌, ℤ, None, ◌++◌, IfOk};
 ghost use Rattle.std.specs.List.{list_any};
+ghost use Rattle.std.specs.List.Sorted.{IsStrictlySortedBy};
+ghost use Rattle.std.specs.Ordering.{int_cmp};
 ghost use Rattle.cluster_terms.specs.Pair.{tokens_of};
 ghost use Rattle.ring_reach.specs.Moved.{AreTokensAmong};
 ghost use Rattle.ring_reach.specs.Walk as spec;
 ghost use Rattle.ring_reach.specs.Windows.{window_bounds, have};
 
-use crate::token_set::TokenSet;
-use crate::windows::{Window, WindowList, Windows};
+use crate::windows::{Window, Windows};
 use cluster_terms::{Memory, Pair, Token};
 use node_directory::{Members, Shape, Tally};
 use std::alloc::Global;
@@ -28,7 +29,6 @@ impl<'a> Walk<'a> {
     /// Walks back over the pairs from the last to the first, and meets their nodes. Returns where the walk ends: at the
     /// token at which the tally lacks nothing more, or at the left end of the span if a pair is past it. Returns `None`
     /// if the walk goes on.
-    #[inline(always)]
     fn back(&self, span: &Window, pairs: &[Pair], tally: &mut Tally<'a>) -> Option<Token>
         ensures left { result ≡ spec.back (spec.course_of self.now) span.now pairs.now tally.old }
         ensures tally { result ≡ None
@@ -71,23 +71,22 @@ impl<'a> Walk<'a> {
     fn parts(
         &self,
         alloc: Global,
-        moved: &TokenSet,
+        moved: &[Token],
         tally: &mut Tally<'a>,
     ) -> Result<Windows, Memory>
-        requires { spec.AsksAs (spec.course_of self.now) tally.old }
+        requires asks { spec.AsksAs (spec.course_of self.now) tally.old }
+        requires ascending { IsStrictlySortedBy int_cmp moved.now }
         ensures reach { IfOk result (λ windows. (x : ℤ)
             → have windows x ≡ list_any (spec.leaves (spec.course_of self.now) x) moved.now) }
         ensures bounds { IfOk result (λ windows.
             AreTokensAmong (window_bounds windows) (tokens_of self.now.fixed.now ++ moved.now)) }
     {
-        let tokens = moved.as_slice();
-        let Some(last) = tokens.last() else {
+        let Some(last) = moved.last() else {
             return Ok(Windows::empty(alloc));
         };
         let mut left = *last;
-        let blank = Window { left, right: left };
-        let mut windows = WindowList::with_room(alloc, blank, tokens.len())?;
-        for token in tokens {
+        let mut windows = Vec::with_capacity(alloc, moved.len())?;
+        for token in moved {
             let right = *token;
             windows.push(self.part(Window { left, right }, tally))?;
             left = right;
@@ -101,8 +100,9 @@ impl<'a> Walk<'a> {
     /// A moved token costs a search in the ring. The walk back from it ends where enough nodes and racks are met, or at
     /// the moved token before it. A pair on the way costs a look-up in the directory, and a look at no more nodes and
     /// racks than there are to be replicas.
-    pub fn windows(&self, alloc: Global, moved: &TokenSet) -> Result<Windows, Memory>
-        requires { self.now.shape.wanted ≤ 16 }
+    pub fn windows(&self, alloc: Global, moved: &[Token]) -> Result<Windows, Memory>
+        requires bound { self.now.shape.wanted ≤ 16 }
+        requires ascending { IsStrictlySortedBy int_cmp moved.now }
         ensures reach { IfOk result (λ windows. (x : ℤ)
             → have windows x ≡ list_any (spec.leaves (spec.course_of self.now) x) moved.now) }
         ensures bounds { IfOk result (λ windows.

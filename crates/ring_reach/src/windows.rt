@@ -3,7 +3,6 @@ ghost use Rattle.std.specs.List.Sorted.{IsPartitionPoint, IsStrictlySortedBy};
 ghost use Rattle.std.specs.Ordering.{int_cmp};
 ghost use Rattle.ring_reach.specs.Windows as spec;
 
-use crate::short_list::ShortList;
 use cluster_terms::{Memory, Token};
 use std::alloc::Global;
 use std::marker::Model;
@@ -29,14 +28,11 @@ impl Window {
     }
 }
 
-/// A list of windows. Up to 2 windows take no memory.
-pub type WindowList = ShortList<Window, 2>;
-
 /// Windows of the ring, in ascending order of their right ends. They have a token if the nearest window has it: the one
 /// that ends first at or after the token, in ring order.
 #[derive(Drop)]
 pub struct Windows {
-    windows: WindowList,
+    windows: Vec<Window>,
 }
 
 impl Model for Windows {
@@ -48,9 +44,9 @@ impl Model for Windows {
 
     ghost Value = { List Window };
 
-    ghost view = { λ list. list.windows };
+    ghost view = { λ list. list.windows.items };
 
-    ghost invariant = { λ list. IsStrictlySortedBy int_cmp (rights_of list.windows) };
+    ghost invariant = { λ list. IsStrictlySortedBy int_cmp (rights_of list.windows.items) };
 }
 
 /// How many windows end before a token.
@@ -68,13 +64,8 @@ impl Windows {
     pub fn empty(alloc: Global) -> Windows
         ensures { result ≡ [] }
     {
-        let zero = Token::new(0);
-        let blank = Window {
-            left: zero,
-            right: zero,
-        };
         Windows {
-            windows: WindowList::empty(alloc, blank),
+            windows: Vec::new(alloc),
         }
     }
 
@@ -86,14 +77,14 @@ impl Windows {
             left: token,
             right: token,
         };
-        let windows = WindowList::of_one(alloc, window)?;
+        let windows = Vec::from_slice(alloc, &[window])?;
         Ok(Windows { windows })
     }
 
     /// These windows, given in ascending order of their right ends.
-    pub fn from_ascending(windows: WindowList) -> Windows
-        requires { IsStrictlySortedBy int_cmp (spec.rights_of windows) }
-        ensures { result ≡ windows }
+    pub fn from_ascending(windows: Vec<Window>) -> Windows
+        requires { IsStrictlySortedBy int_cmp (spec.rights_of windows.items) }
+        ensures { result ≡ windows.items }
     {
         Windows { windows }
     }

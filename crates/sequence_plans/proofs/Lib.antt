@@ -1,8 +1,6 @@
 pub mod BasisLemmas
 pub mod BookLemmas
 pub mod DeltaBookLemmas
-pub mod KeptLocks
-pub mod LowMaps
 pub mod NearCuts
 pub mod NearRows
 pub mod PersistLemmas

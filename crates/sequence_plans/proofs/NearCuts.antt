@@ -2,7 +2,7 @@
 use Rattle.std.proofs.Common.{◌≡◌, ℕ, zero, suc, ◌+◌, ◌<◌, ◌≤◌, Bool, true, false, true≢false, cond, ◌||◌, ℤ, ◌<ℤ◌, ◌≤ℤ◌, int_lt, int_le, List, [], ◌∷◌, ◌++◌, length, get_or, take, drop, filter, Option, Some, None, refl, sym, ap, ◌∙◌, subst, ◌⊎◌, inl, inr, arith}
 use Rattle.std.proofs.lemmas.Bool.{and_parts, and_right, cases_lt, false≢true}
 use Rattle.std.proofs.lemmas.Int.{ints}
-use Rattle.std.proofs.lemmas.List.{get_or_default, take_all, take_more}
+use Rattle.std.proofs.lemmas.List.{get_or_default, take_more}
 use Rattle.std.proofs.lemmas.List.Folds.{list_any-append}
 use Rattle.std.proofs.lemmas.List.Kept.{IsStrictlySortedBy-filter}
 use Rattle.std.proofs.lemmas.Map.Keys.{sorted_head, sorted_tail}
@@ -140,10 +140,5 @@ near_more cuts ranges i range up list within is =
     alone false = refl
 
 -- the cuts near ranges ascend
--- those near one range are next to each other
-pub near_one : (cuts : List ℤ) (ranges : List TokenRange) (range : TokenRange) → IsStrictlySortedBy int_cmp cuts → IsRangeList ranges → length ranges ≡ 1 → range ≡ get_or ranges 0 range → near_cuts cuts ranges ≡ filter (touches range) cuts
-near_one cuts ranges range up list one is =
-    ap (near_cuts cuts) (sym (take_all 1 ranges (omega arith))) ∙ near_more cuts ranges 0 range up list (omega arith) is ∙ ap (λ (l : List ℤ). l ++ filter (touches range) cuts) (near_none cuts)
-
 pub near_ascend : (cuts : List ℤ) (ranges : List TokenRange) (near : List ℤ) → near ≡ near_cuts cuts ranges → IsStrictlySortedBy int_cmp cuts → IsStrictlySortedBy int_cmp near
 near_ascend cuts ranges near is up = subst (IsStrictlySortedBy int_cmp) (sym is) (IsStrictlySortedBy-filter int_cmp (is_near ranges) cuts up)

@@ -31,8 +31,7 @@ use Rattle.transformations.specs.declared.sequence.SeqRow.{SeqRow}
 use Rattle.sequence_plans.proofs.NearCuts.{near_ascend}
 use Rattle.sequence_plans.proofs.NearRows.{IsNearRow, near_rows}
 use Rattle.sequence_plans.specs.Deltas.{IsExact, gained_by, lost_by}
-use Rattle.sequence_plans.specs.LowNodes.{nodes_by}
-use Rattle.sequence_plans.specs.MovementPlacers.{PlacesMovement}
+use Rattle.sequence_plans.specs.MovementRings.{PlacesMovement}
 use Rattle.sequence_plans.specs.NearCuts.{near_cuts}
 use Rattle.sequence_plans.specs.Placers.{placed_by}
 use Rattle.sequence_plans.specs.RowChanges.{change_at}
@@ -47,7 +46,7 @@ module _ (image : Image) (s : SeqRow) (r : Replication) (h : IsSound image) (the
     (placers : MovementPlacers) (places : PlacesMovement image s r placers) where
   -- the nodes before the movement and after it, and those that are gained and lost
   abbrev before : ℤ → List ℕ
-  before = inside ranges (nodes_by placers.before)
+  before = inside ranges (placed_by placers.before)
 
   abbrev after : ℤ → List ℕ
   after = inside ranges (placed_by placers.after)
@@ -61,15 +60,15 @@ module _ (image : Image) (s : SeqRow) (r : Replication) (h : IsSound image) (the
   gained_is : (x : ℤ) → IsToken x → gained x ≡ gained_at image r s x
   gained_is x token = by (have_token ranges x) refl
     where
-      by : (b : Bool) → have_token ranges x ≡ b → without (if b then placed_by placers.after x else []) (if b then nodes_by placers.before x else []) ≡ gained_at image r s x
-      by true e = λ i. without (places.after x i) (places.before x token i)
+      by : (b : Bool) → have_token ranges x ≡ b → without (if b then placed_by placers.after x else []) (if b then placed_by placers.before x else []) ≡ gained_at image r s x
+      by true e = λ i. without (places.after x i) (places.before x i)
       by false e = sym (none_outside image r s x h there (sym (have x token) ∙ e)).0
 
   lost_is : (x : ℤ) → IsToken x → lost x ≡ lost_at image r s x
   lost_is x token = by (have_token ranges x) refl
     where
-      by : (b : Bool) → have_token ranges x ≡ b → without (if b then nodes_by placers.before x else []) (if b then placed_by placers.after x else []) ≡ lost_at image r s x
-      by true e = λ i. without (places.before x token i) (places.after x i)
+      by : (b : Bool) → have_token ranges x ≡ b → without (if b then placed_by placers.before x else []) (if b then placed_by placers.after x else []) ≡ lost_at image r s x
+      by true e = λ i. without (places.before x i) (places.after x i)
       by false e = sym (none_outside image r s x h there (sym (have x token) ∙ e)).1
 
   -- ---- they are the same at all tokens of a row
@@ -92,7 +91,7 @@ module _ (image : Image) (s : SeqRow) (r : Replication) (h : IsSound image) (the
       by x w one other false e upto = refl
 
   before_stands : StandInRows before (rows_between near)
-  before_stands = stands (nodes_by placers.before) (λ x w one other u. places.before x one ∙ before-between image x w u.upto u.clear r ∙ sym (places.before w other))
+  before_stands = stands (placed_by placers.before) (λ x w one other u. places.before x ∙ before-between image x w u.upto u.clear r ∙ sym (places.before w))
 
   after_stands : StandInRows after (rows_between near)
   after_stands =
@@ -102,26 +101,25 @@ module _ (image : Image) (s : SeqRow) (r : Replication) (h : IsSound image) (the
   -- ---- so the delta is exact
 
   abbrev change : TokenRange → DeltaRow
-  change = change_at ranges (nodes_by placers.before) (placed_by placers.after)
+  change = change_at ranges (placed_by placers.before) (placed_by placers.after)
 
   changes_are : (rows : List TokenRange) → map change rows ≡ change_rows rows (at_ends before rows) (at_ends after rows)
   changes_are [] = refl
   changes_are (row ∷ rows) = ap (λ more. change row ∷ more) (changes_are rows)
 
-  module _ (rows : List TokenRange) (rows_is : rows ≡ rows_between near) where
-    joined_is : joined_from None (map change rows) ≡ joined_from None (change_rows (rows_between near) (at_ends before (rows_between near)) (at_ends after (rows_between near)))
-    joined_is = ap (joined_from None) (ap (map change) rows_is ∙ changes_are (rows_between near))
+  joined_is : joined_from None (map change (rows_between near)) ≡ joined_from None (change_rows (rows_between near) (at_ends before (rows_between near)) (at_ends after (rows_between near)))
+  joined_is = ap (joined_from None) (changes_are (rows_between near))
 
-    pub swap_is : IsDelta (joined_from None (map change rows))
-    swap_is =
-        subst IsDelta (sym joined_is)
-        (between_is near (at_ends before (rows_between near)) (at_ends after (rows_between near)) up tokens (length-map (rows_between near) _) (length-map (rows_between near) _))
+  pub swap_is : IsDelta (joined_from None (map change (rows_between near)))
+  swap_is =
+      subst IsDelta (sym joined_is)
+      (between_is near (at_ends before (rows_between near)) (at_ends after (rows_between near)) up tokens (length-map (rows_between near) _) (length-map (rows_between near) _))
 
-    pub swap_found : (delta : List DeltaRow) → delta ≡ joined_from None (map change rows) → IsExact (gained_by image s r) (lost_by image s r) delta
-    swap_found delta delta_is x token =
-        let one = at_ends before (rows_between near) in
-        let other = at_ends after (rows_between near) in
-        let shows : ShowsChanges (rows_between near) one other delta =
-        subst (ShowsChanges (rows_between near) one other) (sym (delta_is ∙ joined_is)) (between_shows near one other up tokens (length-map (rows_between near) _) (length-map (rows_between near) _)) in
-        shown_at near one other delta before after up tokens shows refl refl before_stands after_stands x token
-        ∙ (λ i. (gained_is x token i, lost_is x token i))
+  pub swap_found : (delta : List DeltaRow) → delta ≡ joined_from None (map change (rows_between near)) → IsExact (gained_by image s r) (lost_by image s r) delta
+  swap_found delta delta_is x token =
+      let one = at_ends before (rows_between near) in
+      let other = at_ends after (rows_between near) in
+      let shows : ShowsChanges (rows_between near) one other delta =
+      subst (ShowsChanges (rows_between near) one other) (sym (delta_is ∙ joined_is)) (between_shows near one other up tokens (length-map (rows_between near) _) (length-map (rows_between near) _)) in
+      shown_at near one other delta before after up tokens shows refl refl before_stands after_stands x token
+      ∙ (λ i. (gained_is x token i, lost_is x token i))

@@ -1,14 +1,10 @@
 pub mod Basis
 pub mod DeltaParts
 pub mod Deltas
-pub mod KeptLocks
 pub mod Locks
-pub mod LowMaps
-pub mod LowNodes
-pub mod MovementPlacers
+pub mod MovementRings
 pub mod NearCuts
 pub mod Placers
 pub mod Plan
 pub mod Replications
 pub mod RowChanges
-pub mod WideImage

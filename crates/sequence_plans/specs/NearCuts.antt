@@ -3,8 +3,6 @@ use Rattle.std.specs.Prelude.{Bool, true, ◌&&◌, ℤ, int_le, List, filter, O
 use Rattle.std.specs.List.{list_any}
 use Rattle.cluster_terms.specs.Row.{last_token}
 use Rattle.cluster_terms.specs.declared.row.TokenRange.{TokenRange}
-use Rattle.sequence_plans.specs.declared.near_cuts.NearCuts.{NearCuts}
-use Rattle.sequence_plans.specs.declared.near_cuts.NearCuts.TheVariants.{List as Copied, Part}
 
 -- whether a token is past a left end or at it
 abbrev pub is_from : Option ℤ → ℤ → Bool
@@ -21,8 +19,3 @@ is_near ranges t = list_any (λ range. touches range t) ranges
 
 abbrev pub near_cuts : List ℤ → List TokenRange → List ℤ
 near_cuts cuts ranges = filter (is_near ranges) cuts
-
--- the cuts, as they are held
-abbrev pub tokens_in : NearCuts → List ℤ
-tokens_in (Part cuts) = cuts.now
-tokens_in (Copied cuts) = cuts.items

@@ -7,13 +7,12 @@ use Rattle.cluster_terms.specs.declared.replication.Replication.{Replication}
 use Rattle.cluster_terms.specs.declared.token.Pair.{Pair}
 use Rattle.topology_strategy.specs.GroupedRing.{placement_at}
 use Rattle.sequence_plans.specs.declared.placer.Placer.{Placer}
-use Rattle.sequence_plans.specs.declared.placer.Placer.TheVariants.{Simple, Topology, Divided}
+use Rattle.sequence_plans.specs.declared.placer.Placer.TheVariants.{Simple, Topology}
 
 -- the replicas that a placer gives at a token
 abbrev pub placed_by : Placer → ℤ → List ℕ
 placed_by (Simple ring rf) x = place (whole_group rf ∷ []) x ring.now
-placed_by (Topology counted) x = placement_at counted x
-placed_by (Divided divided) x = placement_at divided x
+placed_by (Topology divided) x = placement_at divided x
 
 -- a placer gives the replicas of a replication on a ring
 abbrev pub PlacesOn : List Pair → List NodeRow → Replication → Placer → Type 0

@@ -3,8 +3,6 @@
 
 mod basis;
 mod deltas;
-mod kept_locks;
-mod low_nodes;
 mod movement_rings;
 mod near_cuts;
 pub mod placer;
@@ -14,4 +12,4 @@ mod row_changes;
 mod wide_image;
 
 pub use placer::Placer;
-pub use planning::{plan, plan_beside, plan_in};
+pub use planning::{plan, plan_in};

@@ -4,7 +4,7 @@ ghost use Rattle.std.specs.Prelude.{◌≡◌, int_le, filter, IfOk};
 ghost use Rattle.std.specs.List.Sorted.{IsStrictlySortedBy};
 ghost use Rattle.std.specs.Ordering.{int_cmp};
 ghost use Rattle.token_ring.specs.Ranges.{IsRangeList};
-ghost use Rattle.sequence_plans.specs.NearCuts.{is_from, near_cuts, tokens_in, touches};
+ghost use Rattle.sequence_plans.specs.NearCuts.{is_from, near_cuts, touches};
 
 use cluster_terms::{Memory, Token, TokenRange};
 use std::alloc::Global;
@@ -40,29 +40,9 @@ fn cuts_near<'a>(cuts: &'a [Token], range: &TokenRange) -> &'a [Token]
     cuts_up_to(cuts_from(cuts, &range.left), range.last_token())
 }
 
-/// The cuts near ranges.
-#[derive(Drop)]
-pub enum NearCuts<'a> {
-    /// Those near one range, which stand together among the cuts.
-    Part(&'a [Token]),
-    /// Those near several ranges, copied.
-    List(Vec<Token>),
-}
-
-impl<'a> NearCuts<'a> {
-    /// The cuts in order.
-    pub fn as_slice(&self) -> &[Token]
-        ensures { result.now ≡ tokens_in self.now }
-    {
-        match self {
-            NearCuts::Part(cuts) => cuts,
-            NearCuts::List(cuts) => cuts.as_slice(),
-        }
-    }
-}
-
-/// Copies of the cuts near ranges. Each range costs two binary searches and a copy of its cuts.
-fn copied(alloc: Global, cuts: &[Token], ranges: &[TokenRange]) -> Result<Vec<Token>, Memory>
+/// Of ascending cuts, those that a range contains and those at which a range begins. Fails only if memory runs out.
+/// Each range costs two binary searches and a copy of its cuts.
+pub fn near_cuts(alloc: Global, cuts: &[Token], ranges: &[TokenRange]) -> Result<Vec<Token>, Memory>
     requires ascending { IsStrictlySortedBy int_cmp cuts.now }
     requires list { IsRangeList ranges.now }
     ensures { IfOk result (λ near. near.items ≡ near_cuts cuts.now ranges.now) }
@@ -72,23 +52,4 @@ fn copied(alloc: Global, cuts: &[Token], ranges: &[TokenRange]) -> Result<Vec<To
         near.extend_from_slice(cuts_near(cuts, range))?;
     }
     Ok(near)
-}
-
-/// Of ascending cuts, those that a range contains and those at which a range begins. Fails only if memory runs out.
-/// Each range costs two binary searches, and if there are several, a copy of its cuts.
-#[tactic(auto, using(crate::proofs::NearCuts::near_one, crate::proofs::NearCuts::near_ascend))]
-pub fn near_cuts<'a>(
-    alloc: Global,
-    cuts: &'a [Token],
-    ranges: &[TokenRange],
-) -> Result<NearCuts<'a>, Memory>
-    requires ascending { IsStrictlySortedBy int_cmp cuts.now }
-    requires list { IsRangeList ranges.now }
-    ensures near { IfOk result (λ near. tokens_in near ≡ near_cuts cuts.now ranges.now) }
-    ensures ascending { IfOk result (λ near. IsStrictlySortedBy int_cmp (tokens_in near)) }
-{
-    if ranges.len() == 1 {
-        return Ok(NearCuts::Part(cuts_near(cuts, &ranges[0])));
-    }
-    Ok(NearCuts::List(copied(alloc, cuts, ranges)?))
 }

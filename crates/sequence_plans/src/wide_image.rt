@@ -1,59 +1,36 @@
-ghost use Rattle.std.specs.Prelude.{◌≡◌, [], IfOk, IsTrue};
+ghost use Rattle.std.specs.Prelude.{◌≡◌, IfOk};
 ghost use Rattle.transformations.specs.Refusals.{with_movement};
 ghost use Rattle.transformations.specs.Rings.{low_ring, replaced};
 
 use cluster_terms::{Memory, PairList, TryCopy};
 use std::alloc::Global;
 use std::marker::Model;
-use std::slice::from_ref;
 use transformations::{Image, KeyspaceRow, SeqRow, SeqRows, ring_with_movement};
-
-/// The movements of an image, with the row of a new movement or a new row for a node's movement.
-#[derive(Drop)]
-enum Movements<'a> {
-    /// The row alone, where the image without it has no movement.
-    Alone(&'a SeqRow),
-    /// All movements, copied.
-    Copied(SeqRows),
-}
 
 /// An image with one movement more, or with a new row for a node's movement. Contracts see it as this image. It shares
 /// all but the movements with the image without it.
 #[derive(Drop)]
 pub struct WideImage<'a> {
     image: &'a Image,
-    movements: Movements<'a>,
+    movements: SeqRows,
 }
 
 impl<'a> Model for WideImage<'a> {
-    ghost use Rattle.sequence_plans.specs.WideImage.{rows_in};
     ghost use Rattle.transformations.specs.declared.image.Image.{Image};
 
     ghost Value = { Image };
 
-    ghost view = { λ wide. record wide.image.now { sequences = rows_in wide.movements } };
-}
-
-/// Whether an image has no movement.
-fn is_idle(image: &Image) -> bool
-    ensures { IsTrue result → image.now.sequences ≡ [] }
-{
-    image.sequences.as_slice().is_empty()
+    ghost view = { λ wide. record wide.image.now { sequences = wide.movements } };
 }
 
 impl<'a> WideImage<'a> {
     /// An image with this row: the row of a new movement, or the new row of a node's movement. Fails only if memory
-    /// runs out. The cost is a copy of the movements, or nothing if the image has none.
-    pub fn new(image: &'a Image, row: &'a SeqRow) -> Result<WideImage<'a>, Memory>
+    /// runs out. The cost is a copy of the movements.
+    pub fn new(image: &'a Image, row: &SeqRow) -> Result<WideImage<'a>, Memory>
         ensures { IfOk result (λ wide. wide ≡ with_movement image.now row.now) }
     {
-        if is_idle(image) {
-            let movements = Movements::Alone(row);
-            return Ok(WideImage { image, movements });
-        }
-        let mut rows = image.sequences.copy_for(1)?;
-        rows.put(row.copy()?)?;
-        let movements = Movements::Copied(rows);
+        let mut movements = image.sequences.copy_for(1)?;
+        movements.put(row.copy()?)?;
         Ok(WideImage { image, movements })
     }
 
@@ -75,10 +52,7 @@ impl<'a> WideImage<'a> {
     pub fn sequences(&self) -> &[SeqRow]
         ensures { result.now ≡ self.now.sequences }
     {
-        match &self.movements {
-            Movements::Alone(row) => from_ref(row),
-            Movements::Copied(rows) => rows.as_slice(),
-        }
+        self.movements.as_slice()
     }
 
     /// The pairs of the ring with one movement applied, as `ring_with_movement` gives them and at its cost.

@@ -1,5 +1,5 @@
 -- A file that is cut to its whole lines, and files of a store that tells nothing.
-use Rattle.std.proofs.Common.{◌≡◌, ◌≢◌, ℕ, ◌<◌, ◌≤◌, List, [], ◌∷◌, length, take, Option, None, Some, option_map, IfSome, Ok, Err, refl, sym, ap, ◌∙◌, subst, length-drop, arith}
+use Rattle.std.proofs.Common.{◌≡◌, ◌≢◌, ℕ, ◌<◌, List, [], ◌∷◌, length, take, Option, None, Some, option_map, IfSome, Ok, Err, refl, sym, ap, ◌∙◌, subst, length-drop, arith}
 use Rattle.std.specs.Cmp.Lexicographic.{slice_cmp}
 use Rattle.std.specs.FinMap as map
 use Rattle.std.specs.Ordering.{nat_cmp}
@@ -21,10 +21,6 @@ same_option : {A B : Type 0} (f g : A → B) → ((a : A) → f a ≡ g a) → (
 same_option f g same None = refl
 same_option f g same (Some a) = ap Some (same a)
 
-option_map-same : {A : Type 0} (f : A → A) → ((a : A) → f a ≡ a) → (o : Option A) → option_map f o ≡ o
-option_map-same f same None = refl
-option_map-same f same (Some a) = ap Some (same a)
-
 -- an open line is cut off by the whole lines
 pub cut_replaced : (name file : List ℕ) (size : ℕ) (old new : Option Files) → IsLinesPart size file → size < length file → ChangesFile (IsReplaced (take size file)) old new name → OthersKept old new name → TellsAlike old new
     → IsCut name file old new
@@ -38,17 +34,6 @@ cut_replaced name file size old new part shorter changes others told =
     by : (all : Files) (opened : List ℕ) → opened ≢ [] → without_open name file opened all ≡ map.insert all name (lines_part file)
     by all [] some = absurd (some refl)
     by all (byte ∷ opened) some = refl
-
--- a file without an open line stays
-pub cut_nothing : (name file : List ℕ) (size : ℕ) (files : Option Files) → IsLinesPart size file → length file ≤ size → IsCut name file files files
-cut_nothing name file size files part whole = sym (option_map-same (cut_to_lines name file) (λ all. ap (λ o. without_open name file o all) none) files)
-  where
-    no_byte : (xs : List ℕ) → length xs ≤ 0 → xs ≡ []
-    no_byte [] few = refl
-    no_byte (x ∷ xs) few = absurd (omega (arith, few))
-
-    none : open_line file ≡ []
-    none = no_byte (open_line file) (omega (arith, ap length part.rest, length-drop size file))
 
 -- what a store may hold, once it is cut
 pub held_cut : (name file : List ℕ) (old new : Option Files) (all : Files) → MayHold old all → IsCut name file old new → MayHold new (cut_to_lines name file all)

@@ -74,14 +74,6 @@ pub Gains-nil : (name : Option (List ℕ)) (files : Option Files) → Gains name
 Gains-nil name None = refl
 Gains-nil name (Some all) = ap Some (sym (with_added-nil name all))
 
--- nothing is gained where the files are as before
-pub Gains-same : (name : Option (List ℕ)) (old new : Option Files) → new ≡ old → Gains name [] old new
-Gains-same name old new same = same ∙ Gains-nil name old
-
-pub Gains-none : (text : List ℕ) (files : Option Files) → Gains None text files files
-Gains-none text None = refl
-Gains-none text (Some all) = refl
-
 pub Gains-append : (name : Option (List ℕ)) (a b : List ℕ) (x y z : Option Files) → Gains name a x y → Gains name b y z → Gains name (a ++ b) x z
 Gains-append name a b x y z first second = second ∙ ap (option_map (with_added name b)) first ∙ both x
   where

@@ -1,10 +1,9 @@
 -- Lemmas on the generated script: lines after lines, and what is left of a loop over lines.
-use Rattle.std.proofs.Common.{◌≡◌, ℕ, zero, suc, ◌+◌, ◌-◌, ◌*◌, ◌%◌, ◌^◌, ℤ, ◌<◌, ◌≤◌, ◌==◌, true, false, cond, filter, List, [], ◌∷◌, ◌++◌, length, map, codes, drop, get_or, Result, Ok, Err, OnOk, refl, sym, ap, ◌∙◌, append_assoc, append-nil, arith}
+use Rattle.std.proofs.Common.{◌≡◌, ℕ, suc, ◌+◌, ◌-◌, ◌*◌, ◌%◌, ◌^◌, ℤ, ◌<◌, ◌≤◌, true, false, cond, List, [], ◌∷◌, ◌++◌, length, map, codes, drop, get_or, Result, Ok, Err, OnOk, refl, sym, ap, ◌∙◌, append_assoc, append-nil, arith}
 use Rattle.std.proofs.lemmas.List.{at_drop_all, at_drop_more}
-use Rattle.tcm_session.specs.Generated.{after_line, after_lines, begins, generation_of, is_refused, kind_of, nothing_generated, refusals, refused_kind, refused_line, refused_lines}
+use Rattle.tcm_session.specs.Generated.{after_line, after_lines, begins, generation_of, kind_of, nothing_generated, refusals, refused_kind, refused_line, refused_lines}
 use Rattle.tcm_session.specs.GeneratedLines.{commit_line, deliver_line, deliveries, delivers, drawn, drawn_token, each, join_line, join_lines, keyspace_lines, on_node, opening_lines, register_words, register_line, register_lines, round_commits, round_lines, rounds_lines, step_lines, step_words, with_token}
 use Rattle.tcm_session.specs.Machine.{SessionState, session_after}
-use Rattle.tcm_session.specs.RefusedKinds.{is_refusal}
 use Rattle.tcm_session.specs.declared.generated.kinds.AnswerKind.{AnswerKind}
 use Rattle.tcm_session.specs.declared.generated.kinds.AnswerKind.TheVariants.{Accepted, Other, Refused}
 use Rattle.tcm_session.specs.declared.generated.generation.Generation.{Generation}
@@ -22,10 +21,6 @@ module _ {B : Type 0} (front : B → List ℕ) (fronts : List B) (text : List �
 
   pub refused_here : (d : B) → i < length fronts → AreOthers → begins text (front (get_or fronts i d)) ≡ true → refused_kind 1 (map front fronts) text ≡ Refused (i + 1)
   refused_here d within others is = next_front d within others ∙ ap (λ b. cond b (Refused (i + 1)) (refused_kind (i + 1 + 1) (map front (drop (i + 1) fronts)) text)) is
-
-  pub refused_later : (d : B) → i < length fronts → AreOthers → begins text (front (get_or fronts i d)) ≡ false
-      → refused_kind 1 (map front fronts) text ≡ refused_kind (i + 1 + 1) (map front (drop (i + 1) fronts)) text
-  refused_later d within others is = next_front d within others ∙ ap (λ b. cond b (Refused (i + 1)) (refused_kind (i + 1 + 1) (map front (drop (i + 1) fronts)) text)) is
 
   pub refused_never : length fronts ≤ i → AreOthers → refused_kind 1 (map front fronts) text ≡ Other
   refused_never past others = others ∙ at_drop_all (λ fs. refused_kind (i + 1) (map front fs) text) fronts i past
@@ -178,23 +173,7 @@ pub rounds-none : (session : SessionState) (s j rounds : ℕ) → rounds < j →
 unfolding rounds_lines
 rounds-none session s j rounds past = (let none : rounds + 1 - j ≡ 0 = omega arith in ap (rounds_lines session s j) none)
 
-pub rounds_all : (g : Generation) (s rounds : ℕ) → after_lines g (rounds_lines g.session s 1 rounds) ≡ after_lines g (rounds_lines g.session s 1 (rounds + 1 - 1))
-rounds_all g s rounds = (let same : rounds ≡ rounds + 1 - 1 = omega arith in ap (λ n. after_lines g (rounds_lines g.session s 1 n)) same)
-
 -- ---- refusals
-
--- the refusals with a number stand among the refused commits
-refusals_kept : (number : ℕ) (kinds : List AnswerKind) → filter (is_refused number) (filter is_refusal kinds) ≡ filter (is_refused number) kinds
-refusals_kept number [] = refl
-refusals_kept number (Accepted ∷ kinds) = refusals_kept number kinds
-refusals_kept number (Other ∷ kinds) = refusals_kept number kinds
-refusals_kept number (Refused n ∷ kinds) = ap (λ ks. cond (n == number) (Refused n ∷ ks) ks) (refusals_kept number kinds)
-
-pub lines_of_refusals : (kinds : List AnswerKind) (number count : ℕ) → refused_lines (filter is_refusal kinds) number count ≡ refused_lines kinds number count
-unfolding refused_lines
-lines_of_refusals kinds number zero = refl
-lines_of_refusals kinds number (suc count) =
-    rw (refusals_kept number kinds, lines_of_refusals kinds (number + 1) count) refl
 
 pub refused-next : (kinds : List AnswerKind) (number last : ℕ) (out out' : List ℕ) → number ≤ last → out' ≡ out ++ refused_line kinds number
     → out ++ refused_lines kinds number (last + 1 - number) ≡ out' ++ refused_lines kinds (number + 1) (last + 1 - (number + 1))

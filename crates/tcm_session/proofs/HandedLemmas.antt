@@ -1,5 +1,5 @@
 -- The ends of a step that hands something to a follower, or makes one.
-use Rattle.std.proofs.Common.{◌≡◌, ℕ, ◌+◌, ◌-◌, ◌<◌, ◌≤◌, Bool, true, false, ◌||◌, ◌==◌, if◌then◌else◌, List, [], ◌∷◌, ◌++◌, get_or, set, position, length, Option, None, Some, is_some, Result, Ok, Err, IsErrAnd, IsOk, OnOk, nat_eq, nat_le, codes, decimal, true≢false, refl, sym, ap, ◌∙◌, subst, append-nil, arith}
+use Rattle.std.proofs.Common.{◌≡◌, ℕ, ◌+◌, ◌-◌, ◌<◌, ◌≤◌, Bool, true, false, ◌||◌, ◌==◌, if◌then◌else◌, List, [], ◌∷◌, ◌++◌, get_or, set, position, length, Option, None, Some, is_some, Result, Ok, Err, IsErrAnd, IsOk, nat_eq, nat_le, codes, decimal, true≢false, refl, sym, ap, ◌∙◌, subst, append-nil, arith}
 use Rattle.std.specs.List.{Contains, slice_get}
 use Rattle.std.specs.Option.{IfSome}
 use Rattle.std.specs.Set.{is_member}
@@ -28,13 +28,12 @@ use Rattle.script_lang.specs.Grammar.{line_of}
 use Rattle.script_lang.specs.Texts.{epoch_text, no_text}
 use Rattle.script_lang.specs.declared.script_line.ScriptLine.{ScriptLine}
 use Rattle.script_lang.specs.declared.script_line.ScriptLine.TheVariants.{Commit, Follower, Deliver, Snapshot, Place, Nodes, Quorum, Local}
-use Rattle.tcm_session.specs.Machine.{Reply, SessionState, answer_from, deliver_to, follower_named, follower_reply, follower_unless_full, handed_reply, handed_text, image_at, image_named, made_reply, most_followers, new_follower, no_epoch, on_follower, only_answers, query_text, reply, reply_of, reply_to, snapshot_to, with_follower}
+use Rattle.tcm_session.specs.Machine.{Reply, SessionState, deliver_to, follower_named, follower_reply, follower_unless_full, handed_reply, handed_text, image_at, made_reply, most_followers, new_follower, no_epoch, on_follower, only_answers, reply, reply_of, reply_to, snapshot_to, with_follower}
 use Rattle.tcm_session.specs.Steps.{AllFollow, Alone, AnswersHanded, FollowsLog, ForgetsNothing, IsOnTheWay, IsOfOneLog, OnlyAnswers, StandsOn, Stops, StopsAny, handed_by}
 use Rattle.tcm_session.specs.declared.fault.StepFault.{StepFault}
 use Rattle.tcm_session.specs.declared.fault.StepFault.TheVariants as step
 use Rattle.tcm_session.specs.declared.followers.NamedFollower.{NamedFollower}
-use Rattle.tcm_session.specs.declared.query.Query.{Query}
-use Rattle.tcm_session.proofs.FollowerLemmas.{all_follow_pushed, all_follow_with, named, named_follows, named_name, placed, unplaced, with_itself, with_named}
+use Rattle.tcm_session.proofs.FollowerLemmas.{all_follow_pushed, all_follow_with, named, named_follows, named_name, placed, with_itself, with_named}
 use Rattle.tcm_session.proofs.StepLemmas.{kept_before, replied_nothing}
 use Rattle.tcm_session.proofs.TakenLemmas.{entry_there, epoch_at}
 
@@ -223,6 +222,13 @@ has_follower session name place f d all at is =
       follows = named_follows session.log session.followers name f all found;
     }
 
+pub follower_at : (session : SessionState) (name : List ℕ) (place : ℕ) → AllFollow session.log session.followers → position (named name) session.followers ≡ Some place → (f : NamedFollower) × HasFollower session name place f
+follower_at session name place all at = by session.followers refl
+  where
+    by : (fs : List NamedFollower) → session.followers ≡ fs → (f : NamedFollower) × HasFollower session name place f
+    by [] none = absurd (none-some place (ap (position (named name)) (sym none) ∙ at))
+    by (g ∷ fs) some = (get_or session.followers place g, has_follower session name place (get_or session.followers place g) g all at refl)
+
 -- what the followers are once the one at a place was handed something
 pub moved_follow : (session : SessionState) (name : List ℕ) (place : ℕ) (f : NamedFollower) (x : FollowerState) → HasFollower session name place f → AllFollow session.log session.followers → FollowsLog session.log x
     → AllFollow session.log (set session.followers place (record f { follower = x }))
@@ -287,33 +293,20 @@ no_epoch_of log last is = ap (λ n. no_text (codes "EPOCH " ++ decimal n)) (leng
 -- ---- a follower is made
 
 module _ (session : SessionState) (name : List ℕ) where
-  pub reply_taken : is_some (position (named name) session.followers) ≡ true → follower_reply session name ≡ only_answers session (no_text (codes "FOLLOWER-TAKEN"))
-  reply_taken at = by session.followers (position (named name) session.followers) refl at
-    where
-      by : (fs : List NamedFollower) (o : Option ℕ) → position (named name) fs ≡ o → is_some o ≡ true
-          → (if is_some (follower_named fs name) then only_answers session (no_text (codes "FOLLOWER-TAKEN")) else follower_unless_full session name) ≡ only_answers session (no_text (codes "FOLLOWER-TAKEN"))
-      by fs None at some = absurd (true≢false (sym some))
-      by [] (Some place) at some = absurd (none-some place at)
-      by (g ∷ fs) (Some place) at some = ap (λ o. if is_some o then only_answers session (no_text (codes "FOLLOWER-TAKEN")) else follower_unless_full session name) ((placed name (g ∷ fs) place at).found g)
+  taken_or_not : (b : Bool) → is_some (follower_named session.followers name) ≡ b → follower_reply session name ≡ (if b then only_answers session (no_text (codes "FOLLOWER-TAKEN")) else follower_unless_full session name)
+  taken_or_not b is = ap (λ b. if b then only_answers session (no_text (codes "FOLLOWER-TAKEN")) else follower_unless_full session name) is
 
-  pub not_placed : is_some (position (named name) session.followers) ≡ false → position (named name) session.followers ≡ None
-  not_placed at = by (position (named name) session.followers) at
-    where
-      by : (o : Option ℕ) → is_some o ≡ false → o ≡ None
-      by None some = refl
-      by (Some place) some = absurd (true≢false some)
+  full_or_not : (b : Bool) → nat_le most_followers (length session.followers) ≡ b → follower_unless_full session name ≡ (if b then only_answers session (no_text (codes "FOLLOWERS-FULL")) else made_reply session name)
+  full_or_not b is = ap (λ b. if b then only_answers session (no_text (codes "FOLLOWERS-FULL")) else made_reply session name) is
 
-  pub reply_full : position (named name) session.followers ≡ None → 16 ≤ length session.followers → follower_reply session name ≡ only_answers session (no_text (codes "FOLLOWERS-FULL"))
-  reply_full none full =
-      let many : nat_le most_followers (length session.followers) ≡ true = grind (arith, nat_tests) in
-      ap (λ o. if is_some o then only_answers session (no_text (codes "FOLLOWER-TAKEN")) else follower_unless_full session name) (unplaced name session.followers none)
-      ∙ ap (λ b. if b then only_answers session (no_text (codes "FOLLOWERS-FULL")) else made_reply session name) many
+  pub reply_taken : is_some (follower_named session.followers name) ≡ true → follower_reply session name ≡ only_answers session (no_text (codes "FOLLOWER-TAKEN"))
+  reply_taken taken = taken_or_not true taken
 
-  pub reply_made : position (named name) session.followers ≡ None → length session.followers < 16 → follower_reply session name ≡ made_reply session name
-  reply_made none few =
-      let free : nat_le most_followers (length session.followers) ≡ false = grind (arith, nat_tests) in
-      ap (λ o. if is_some o then only_answers session (no_text (codes "FOLLOWER-TAKEN")) else follower_unless_full session name) (unplaced name session.followers none)
-      ∙ ap (λ b. if b then only_answers session (no_text (codes "FOLLOWERS-FULL")) else made_reply session name) free
+  pub reply_full : is_some (follower_named session.followers name) ≡ false → 16 ≤ length session.followers → follower_reply session name ≡ only_answers session (no_text (codes "FOLLOWERS-FULL"))
+  reply_full free full = taken_or_not false free ∙ full_or_not true (grind (arith, nat_tests))
+
+  pub reply_made : is_some (follower_named session.followers name) ≡ false → length session.followers < 16 → follower_reply session name ≡ made_reply session name
+  reply_made free few = taken_or_not false free ∙ full_or_not false (grind (arith, nat_tests))
 
 pub alone_made : {T : Type 0} (session : SessionState) (name : List ℕ) (fs : List NamedFollower) (out out' : List ℕ) (x : T) → follower_reply session name ≡ made_reply session name
     → fs ≡ session.followers ++ new_follower name ∷ [] → out' ≡ out ++ epoch_text (codes "AT") 0 → Alone None (follower_reply session name) session (record session { followers = fs }) out out' (Ok x)
@@ -344,18 +337,9 @@ made_follows log name fs fs' all is =
 pub alone_turned : {T : Type 0} (session session' : SessionState) (name : List ℕ) (place : ℕ) (text out out' : List ℕ) (r : Result T StepFault) (reply : FollowerState → Reply) → AllFollow session.log session.followers
     → position (named name) session.followers ≡ Some place → ((f : FollowerState) → reply f ≡ only_answers session text) → session' ≡ session → OnlyAnswers text out out' r
     → Alone (follower_named session.followers name) (on_follower session name reply) session session' out out' r
-alone_turned session session' name place text out out' r reply all at is same only = by session.followers (λ d. (placed name session.followers place at).found d) refl
-  where
-    with_default : (d : NamedFollower) → ((d : NamedFollower) → follower_named session.followers name ≡ Some (get_or session.followers place d))
-        → Alone (follower_named session.followers name) (on_follower session name reply) session session' out out' r
-    with_default d found =
-        let f = get_or session.followers place d in
-        alone_refused session session' name out out' r reply f text all (found d) (is f.follower) same only
-
-    by : (fs : List NamedFollower) → ((d : NamedFollower) → follower_named session.followers name ≡ Some (get_or session.followers place d)) → session.followers ≡ fs
-        → Alone (follower_named session.followers name) (on_follower session name reply) session session' out out' r
-    by [] found none = absurd (none-some place (ap (position (named name)) (sym none) ∙ at))
-    by (g ∷ fs) found some = with_default g found
+alone_turned session session' name place text out out' r reply all at is same only =
+    let it = follower_at session name place all at in
+    alone_refused session session' name out out' r reply it.0 text all it.1.found (is it.0.follower) same only
 
 module _ {T : Type 0} where
   -- memory ran out before the image of an epoch was made
@@ -363,39 +347,18 @@ module _ {T : Type 0} where
       → position (named name) session.followers ≡ Some place → epoch ≤ length session.log → session' ≡ session → IsErrAnd r (λ e. e ≡ step.Memory)
       → Alone (follower_named session.followers name) (on_follower session name (λ f. snapshot_to session name f (image_at (commands_of session.log) epoch))) session session' out out r
   alone_unhanded session session' name place epoch out (Ok x) all at within same memory = absurd memory
-  alone_unhanded session session' name place epoch out (Err e) all at within same memory = by session.followers refl
-    where
-      reply : FollowerState → Reply
-      reply f = snapshot_to session name f (image_at (commands_of session.log) epoch)
-
-      image : Image
-      image = state_after (commands_of session.log) epoch
-
-      with_default : (d : NamedFollower) → Alone {T = T} (follower_named session.followers name) (on_follower session name reply) session session' out out (Err e)
-      with_default d =
-          let f = get_or session.followers place d in
-          let has = has_follower session name place f d all at refl in
-          let handed : reply f.follower ≡ handed_reply session name (hand_image f.follower image) = ap (snapshot_to session name f.follower) (image_come session.log epoch image within refl) in
-          alone_found session session' name out out (Err e) reply f has.found
-          (subst (λ a. Alone {T = T} (Some f) a session session' out out (Err e)) (sym handed)
-          (alone_handed session session' name f f.follower (hand_image f.follower image) (Err Memory) out out (Err e) has.found
-          (same ∙ ap (λ fs. record { log = session.log; followers = fs }) (sym (with_itself session.followers name f has.found)))
-          (image_from f.follower image) has.follows (forgets_nothing session.log f.follower) refl (record { took = tt; text = tt; kept = take_all (length out) out (omega arith); memory = memory })))
-
-      by : (fs : List NamedFollower) → session.followers ≡ fs → Alone {T = T} (follower_named session.followers name) (on_follower session name reply) session session' out out (Err e)
-      by [] none = absurd (none-some place (ap (position (named name)) (sym none) ∙ at))
-      by (g ∷ fs) some = with_default g
-
--- ---- a query of a follower
-
-module _ {T E : Type 0} (session : SessionState) (name : List ℕ) (asked : Query) (out out' : List ℕ) (r : Result T E) where
-  pub asked_none : position (named name) session.followers ≡ None → OnOk r (out' ≡ out ++ no_text (codes "FOLLOWER")) → OnOk r (out' ≡ out ++ query_text (image_named (follower_named session.followers name)) asked)
-  asked_none at added = subst (λ o. OnOk r (out' ≡ out ++ query_text (image_named o) asked)) (sym (unplaced name session.followers at)) added
-
-  pub asked_image : (place : ℕ) (f d : NamedFollower) → position (named name) session.followers ≡ Some place → f ≡ get_or session.followers place d → OnOk r (out' ≡ out ++ answer_from asked f.follower.image)
-      → OnOk r (out' ≡ out ++ query_text (image_named (follower_named session.followers name)) asked)
-  asked_image place f d at is added =
-      subst (λ o. OnOk r (out' ≡ out ++ query_text (image_named o) asked)) (sym ((placed name session.followers place at).found d ∙ ap Some (sym is))) added
+  alone_unhanded session session' name place epoch out (Err e) all at within same memory =
+      let image : Image = state_after (commands_of session.log) epoch in
+      let reply : FollowerState → Reply = λ f. snapshot_to session name f (image_at (commands_of session.log) epoch) in
+      let it = follower_at session name place all at in
+      let f = it.0 in
+      let has = it.1 in
+      let handed : reply f.follower ≡ handed_reply session name (hand_image f.follower image) = ap (snapshot_to session name f.follower) (image_come session.log epoch image within refl) in
+      alone_found session session' name out out (Err e) reply f has.found
+      (subst (λ a. Alone {T = T} (Some f) a session session' out out (Err e)) (sym handed)
+      (alone_handed session session' name f f.follower (hand_image f.follower image) (Err Memory) out out (Err e) has.found
+      (same ∙ ap (λ fs. record { log = session.log; followers = fs }) (sym (with_itself session.followers name f has.found)))
+      (image_from f.follower image) has.follows (forgets_nothing session.log f.follower) refl (record { took = tt; text = tt; kept = take_all (length out) out (omega arith); memory = memory })))
 
 -- ---- memory ran out before a line was read
 

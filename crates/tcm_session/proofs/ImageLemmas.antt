@@ -46,14 +46,6 @@ module _ (history : List Command) (image : Image) (is : image ≡ image_after em
 
 -- ---- the images of every 256th epoch
 
--- before the first entry no image is to be kept
-pub none_kept : AreKept [] 0 []
-none_kept = record { states = tt; rare = tt; each = λ k above below. absurd (omega (arith, below)) }
-
--- those up to an epoch have each multiple before it
-pub kept_before : (log : List Entry) (images : List Image) (epoch : ℕ) → AreKept log (epoch + 1) images → AreKept log epoch images
-kept_before log images epoch kept = record { states = kept.states; rare = kept.rare; each = λ k above below. kept.each k above (omega (arith, below)) }
-
 -- where an epoch that is a multiple has its image, too
 each_to : (images : List Image) (last : ℕ) → HasEach last images → ((k : ℕ) → 0 < k → 256 * k ≡ last → Contains (epochs_of images) (256 * k)) → HasEach (last + 1) images
 each_to images last each at k above below = by (cases_lt (256 * k) last)

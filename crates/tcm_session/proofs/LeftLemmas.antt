@@ -1,6 +1,6 @@
 -- Lemmas on what a run leaves in the files.
 use Rattle.std.proofs.Common.{◌≡◌, ◌≢◌, ◌⊎◌, inl, inr, ℕ, Bool, true, false, if◌then◌else◌, nat_le, List, [], ◌∷◌, ◌++◌, length, Option, None, Some, IfSome, IsOk, Result, Ok, Err, option_map, true≢false, refl, sym, ap, ◌∙◌, subst, append-nil}
-use Rattle.tcm_edges.specs.Files.{ChangesFile, Files, IsLoad, IsOldOrNew, OthersKept, file_of, loaded_of}
+use Rattle.tcm_edges.specs.Files.{Files, IsLoad, file_of, loaded_of}
 use Rattle.tcm_edges.specs.declared.store.Loaded.TheVariants as loaded
 use Rattle.tcm_edges.proofs.FileLemmas.{file_of-put, file_of-put_other}
 use Rattle.tcm_session.specs.Left.{GainsThese, LeavesFiles, LeavesLog}
@@ -142,34 +142,9 @@ pub files_loaded : (name file : List ℕ) (files files' : Option Files) (limit :
 files_loaded name file None files' limit load o printed ended left = (tt, tt)
 files_loaded name file (Some all) files' limit load o printed ended left = left (found_bytes (Some all) name file limit load)
 
--- without the name of a file, a script changes none
-pub unnamed_script : (files files' : Option Files) (o : Outcome) (printed : List ℕ) (ended : ℕ) → LeavesScript None files files' o printed ended → LeavesFiles None files files' o printed ended
-unnamed_script files files' o printed ended left = left.adds
-
--- the files were as before until then
-pub files_before : (name : Option (List ℕ)) (files mid files' : Option Files) → mid ≡ files → (o : Outcome) (printed : List ℕ) (ended : ℕ) → LeavesFiles name mid files' o printed ended → LeavesFiles name files files' o printed ended
-files_before name files mid files' same o printed ended left = subst (λ f. LeavesFiles name f files' o printed ended) same left
-
 -- the log file that words name
 pub named_files : (words : List (List ℕ)) (file : Option (List ℕ)) (files files' : Option Files) → named_log words ≡ file → (o : Outcome) (printed : List ℕ) (ended : ℕ) → LeavesFiles file files files' o printed ended
     → LeavesFiles (named_log words) files files' o printed ended
 named_files words file files files' same o printed ended left = subst (λ n. LeavesFiles n files files' o printed ended) (sym same) left
 
 -- ---- the replacement of a file
-
--- a file that was to be replaced by its whole lines
-pub kept_or_cut : (name file : List ℕ) (part : List ℕ) (files files' : Option Files) → part ≡ lines_part file → ChangesFile (IsOldOrNew part) files files' name → OthersKept files files' name → IsKeptOrCut name file files files'
-kept_or_cut name file part None files' is changes others = (tt, tt)
-kept_or_cut name file part (Some x) None is changes others = absurd changes
-kept_or_cut name file part (Some x) (Some y) is changes others = (by changes, others)
-  where
-    by : (file_of y name ≡ file_of x name) ⊎ (file_of y name ≡ Some part) → (file_of y name ≡ file_of x name) ⊎ (file_of y name ≡ Some (lines_part file))
-    by (inl same) = inl same
-    by (inr new) = inr (new ∙ ap Some is)
-
-pub kept : (name file : List ℕ) (files files' : Option Files) → files' ≡ files → IsKeptOrCut name file files files'
-kept name file files files' same = subst (IsKeptOrCut name file files) (sym same) (by files)
-  where
-    by : (files : Option Files) → IsKeptOrCut name file files files
-    by None = (tt, tt)
-    by (Some all) = (inl refl, λ other apart. refl)

@@ -6,7 +6,6 @@ pub mod FollowerLemmas
 pub mod GainLemmas
 pub mod GeneratedLemmas
 pub mod GeneratedTexts
-pub mod HandOnLemmas
 pub mod HandedLemmas
 pub mod ImageLemmas
 pub mod KeptLemmas

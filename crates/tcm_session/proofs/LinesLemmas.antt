@@ -12,10 +12,6 @@ is_feed byte = eqb byte 10
 
 -- ---- whole lines and the open line, byte by byte
 
--- the first piece with a byte before it
-abbrev grown : ℕ → List (List ℕ) → List (List ℕ)
-grown byte pieces = onto_first byte pieces
-
 -- the pieces of an input are never none: a first one and others
 pub record HasPieces (pieces : List (List ℕ)) : Type 0 where
   pub first : List ℕ

@@ -10,11 +10,10 @@ use Rattle.tcm_session.specs.LogFiles.{Gains, entry_lines}
 use Rattle.tcm_session.specs.Machine.{answers, entries_added, session_after}
 use Rattle.tcm_session.specs.Outcome.{input_limit}
 use Rattle.tcm_session.specs.Counts.{Counts}
-use Rattle.tcm_session.specs.Runs.{IsBegun, PastBy, ReadsOnce, ReadsTo, Standing, StopsAt, Takes, kept_of, lines_ended}
+use Rattle.tcm_session.specs.Runs.{IsBegun, ReadsOnce, ReadsTo, Standing, StopsAt, Takes, kept_of, lines_ended}
 use Rattle.tcm_session.specs.Stops.{Stopped, StopsThere}
 use Rattle.tcm_session.specs.declared.fault.RunFault.{RunFault}
 use Rattle.tcm_session.specs.declared.fault.RunFault.TheVariants as fault
-use Rattle.tcm_session.specs.declared.reading.ReadEnd.{ReadEnd}
 use Rattle.tcm_session.specs.declared.reading.ReadEnd.TheVariants as end
 use Rattle.tcm_session.proofs.AnswersLemmas.{answers-append, entries_added-append, session_after-append}
 use Rattle.tcm_session.proofs.GainLemmas.{Gains-append, Gains-nil}
@@ -42,9 +41,6 @@ Takes-nil file at begun =
     }
 
 module _ (file : Option (List ℕ)) (a : List ℕ) (at at₁ : Standing) (first : Takes file a at at₁) where
-  opened : List ℕ
-  opened = open_line (at.begun ++ a)
-
   opened_plain : HasNoFeed (open_line (at.begun ++ a))
   opened_plain = HasNoFeed-open (at.begun ++ a)
 
@@ -183,25 +179,6 @@ module _ (file : Option (List ℕ)) (taken : ℕ) (l l₁ : Option (List ℕ)) (
         consumed = subst (Consumes l l₂) (sym (append-nil more.bytes)) more.consumed;
         ends = (once.at_end none, omega (arith, more.count), refl);
         takes = more.takes;
-      }
-
-  -- the bytes up to the limit are read, and then one more, or none
-  pub ReadsTo-limit : (ending : ReadEnd) (l₂ : Option (List ℕ)) (past : List ℕ) → taken ≡ input_limit → Consumes l₁ l₂ past → PastBy ending l₂ past → ReadsTo file ending l l₂ at at₁
-  ReadsTo-limit end.AtEnd l₂ past full consumed by =
-      record {
-        bytes = so_far.bytes;
-        past = past;
-        consumed = Consumes-trans l l₁ l₂ so_far.bytes past so_far.consumed consumed;
-        ends = (by.0, omega (arith, so_far.count), by.1);
-        takes = so_far.takes;
-      }
-  ReadsTo-limit end.PastLimit l₂ past full consumed by =
-      record {
-        bytes = so_far.bytes;
-        past = past;
-        consumed = Consumes-trans l l₁ l₂ so_far.bytes past so_far.consumed consumed;
-        ends = (so_far.count ∙ full, by);
-        takes = so_far.takes;
       }
 
 -- what holds at the fault that a `?` passes on

@@ -10,7 +10,7 @@ use Rattle.tcm_edges.specs.declared.store.Loaded.{Loaded}
 use Rattle.tcm_edges.specs.Owed.{WritesPrefix}
 use Rattle.transformations.specs.declared.entry.Entry.{Entry}
 use Rattle.tcm_session.specs.Counts.{Counts, counts}
-use Rattle.tcm_session.specs.Endings.{IsCommitOf, ending_lines, ending_status, ending_text, fault_status, status_by}
+use Rattle.tcm_session.specs.Endings.{ending_lines, ending_status, ending_text, fault_status, status_by}
 use Rattle.tcm_edges.specs.declared.fault.LoadFault.{LoadFault}
 use Rattle.tcm_edges.specs.declared.fault.LoadFault.TheVariants as load
 use Rattle.tcm_session.specs.Faults.{counts_after, counts_by, of_load}
@@ -412,13 +412,6 @@ runs_err_on outcome_of Left left input input' w w' f f' r e is on =
     record { all = on.all; held = on.held; runs = runs_err (outcome_of on.all) Left left input input' w w' f' r e is on.runs }
 
 -- ---- the words that were found
-
--- words that are `commit`, with the file that they name
-pub said_commit : (words : List (List ℕ)) (o : Option (Option (List ℕ))) (file : Option (List ℕ)) → o ≡ Some file → IsCommitOf words o → (is_commit words ≡ true) × (log_file words ≡ file)
-said_commit words o file is said = subst (IsCommitOf words) is said
-
-pub said_others : (words : List (List ℕ)) (o : Option (Option (List ℕ))) → o ≡ None → IsCommitOf words o → is_commit words ≡ false
-said_others words o is said = subst (IsCommitOf words) is said
 
 pub named_file : (words : List (List ℕ)) (file : Option (List ℕ)) → is_commit words ≡ true → log_file words ≡ file → named_log words ≡ file
 named_file words file e is = ap (λ b. if b then log_file words else None) e ∙ is

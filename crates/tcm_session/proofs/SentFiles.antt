@@ -25,12 +25,6 @@ use Rattle.tcm_session.proofs.StopLemmas.{entry_lines-append, front_of_nothing}
 -- ---- a file of a log, the lines of the entries that some lines added, and a part of a line
 
 module _ (log : List Entry) (file : List ℕ) (is : log_of file ≡ Ok log) where
-  session : SessionState
-  session = session_over log
-
-  added_by : List (List ℕ) → List Entry
-  added_by done = entries_added (session_over log) done
-
   -- its lines
   lines_with : (done : List (List ℕ)) (part : List ℕ) → HasNoFeed part
       → whole_lines (lines_part file ++ (entry_lines (entries_added (session_over log) done) ++ part)) ≡ whole_lines file ++ map entry_text (entries_added (session_over log) done)

@@ -1,11 +1,8 @@
 -- The ends of a step.
-use Rattle.std.proofs.Common.{◌≡◌, ◌≢◌, ℕ, ◌+◌, Bool, true, false, if◌then◌else◌, List, [], ◌∷◌, ◌++◌, length, take, Option, None, Result, Ok, Err, Some, OnOk, IfErr, MatchResult, refl, sym, ap, ◌∙◌, subst, append-nil, length-append, arith}
+use Rattle.std.proofs.Common.{◌≡◌, ◌≢◌, ℕ, ◌+◌, Bool, true, false, if◌then◌else◌, List, [], ◌∷◌, ◌++◌, length, take, Option, Result, Ok, Err, Some, refl, sym, ap, ◌∙◌, subst, append-nil, length-append, arith}
 use Rattle.std.proofs.Math.Seq.{take-append_seam}
-use Rattle.tcm_edges.specs.Causes.{OnFailed, OnMemory}
-use Rattle.tcm_edges.specs.Files.{ChangesFile, Files, GainsAll, GainsPart, OthersKept}
+use Rattle.tcm_edges.specs.Files.{ChangesFile, Files, GainsAll, OthersKept}
 use Rattle.tcm_edges.specs.Writes.{TellsAlike}
-use Rattle.tcm_edges.specs.declared.fault.WriteFault.{WriteFault}
-use Rattle.tcm_edges.specs.declared.fault.WriteFault.TheVariants as write
 use Rattle.cluster_metadata.specs.Permission.{Permission}
 use Rattle.transformations.proofs.histories.HistoryLemmas.{image_after-push}
 use Rattle.transformations.proofs.histories.LogLemmas.{commands_of-push, log_push}
@@ -24,16 +21,14 @@ use Rattle.wire_json.specs.declared.line.ReadLineFault.{ReadLineFault}
 use Rattle.wire_json.specs.declared.line.ReadLineFault.TheVariants as read
 use Rattle.script_lang.specs.Texts.{no_text, ok_text, refusal_text}
 use Rattle.tcm_session.specs.KeptImages.{AreKept}
-use Rattle.tcm_session.specs.Faults.{count_after, count_by, of_append}
-use Rattle.tcm_session.specs.LogFiles.{Gains, entry_lines, entry_read, next_entry}
-use Rattle.tcm_session.specs.Machine.{Reply, SessionState, accepted_reply, commit_text, replied}
-use Rattle.tcm_session.specs.Steps.{Alone, AllFollow, IsNextEntry, Leaves, LeavesSession, Notes, OnlyAnswers, Steps}
+use Rattle.tcm_session.specs.LogFiles.{Gains, entry_read, next_entry}
+use Rattle.tcm_session.specs.Machine.{Reply, SessionState, commit_text, replied}
+use Rattle.tcm_session.specs.Steps.{AllFollow, IsNextEntry, OnlyAnswers}
 use Rattle.tcm_session.specs.declared.fault.StepFault.{StepFault}
-use Rattle.tcm_session.specs.declared.fault.StepFault.TheVariants as step
 use Rattle.tcm_session.specs.declared.followers.NamedFollower.{NamedFollower}
 use Rattle.tcm_session.specs.declared.refused_line.Cause.TheVariants as cause
 use Rattle.tcm_session.proofs.FollowerLemmas.{all_follow_on}
-use Rattle.tcm_session.proofs.GainLemmas.{Gains-nil, Gains-of_append}
+use Rattle.tcm_session.proofs.GainLemmas.{Gains-of_append}
 use Rattle.tcm_session.proofs.ImageLemmas.{kept_on}
 
 -- ---- steps that add nothing
@@ -43,58 +38,6 @@ pub replied_nothing : (session : SessionState) (reply : Reply) → reply.added �
 replied_nothing session reply none stay =
     let log : session.log ≡ session.log ++ reply.added = sym (ap (λ es. session.log ++ es) none ∙ append-nil session.log) in
     (λ i. record { log = log i; followers = sym stay i })
-
--- without memory the store doesn't count a fault
-same_count : (e : StepFault) (count : ℕ) → e ≡ step.Memory → count ≡ count_after e count
-same_count step.Memory count is = refl
-same_count step.Store count is = absurd (cc)
-
-pub steps_only : {T : Type 0} (reply : Reply) (name : Option (List ℕ)) (session : SessionState) (out out' : List ℕ) (files : Option Files) (count : ℕ) (r : Result T StepFault)
-    → reply.added ≡ [] → reply.followers ≡ session.followers → OnlyAnswers reply.text out out' r → Steps None reply name session session out out' files files count count r
-steps_only reply name session out out' files count (Ok x) none stay only =
-    record {
-      text = only.answered;
-      kept = only.kept;
-      next = replied_nothing session reply none stay;
-      file = subst (λ es. Gains name (entry_lines es) files files) (sym none) (Gains-nil name files);
-      left = tt;
-      fault = tt;
-      count = refl;
-    }
-steps_only reply name session out out' files count (Err e) none stay only =
-    record {
-      text = tt;
-      kept = only.kept;
-      next = tt;
-      file = tt;
-      left = subst (λ f. LeavesSession f None session reply.followers session) (sym only.memory) refl;
-      fault = subst (λ f. Leaves f name reply.added files files) (sym only.memory) refl;
-      count = same_count e count only.memory;
-    }
-
--- a step that uses no file
-pub steps_alone : {T : Type 0} (handed : Option NamedFollower) (reply : Reply) (name : Option (List ℕ)) (session session' : SessionState) (out out' : List ℕ) (files : Option Files) (count : ℕ) (r : Result T StepFault)
-    → Alone handed reply session session' out out' r → Steps handed reply name session session' out out' files files count count r
-steps_alone handed reply name session session' out out' files count (Ok x) alone =
-    record {
-      text = alone.text;
-      kept = alone.kept;
-      next = alone.next;
-      file = subst (λ es. Gains name (entry_lines es) files files) (sym alone.added) (Gains-nil name files);
-      left = tt;
-      fault = tt;
-      count = refl;
-    }
-steps_alone handed reply name session session' out out' files count (Err e) alone =
-    record {
-      text = tt;
-      kept = alone.kept;
-      next = tt;
-      file = tt;
-      left = subst (λ f. LeavesSession f handed session reply.followers session') (sym alone.memory) alone.left;
-      fault = subst (λ f. Leaves f name reply.added files files) (sym alone.memory) refl;
-      count = same_count e count alone.memory;
-    }
 
 -- ---- an entry that is noted
 
@@ -106,86 +49,12 @@ kept_before out text out' is = ap (take (length out)) is ∙ take-append_seam ou
 pub entry_line_some : (entry : Entry) → entry_line entry ≢ []
 entry_line_some entry is = omega (arith, ap length is, length-append (entry_text entry) (10 ∷ []))
 
-one_line_of : (entry : Entry) → entry_lines (entry ∷ []) ≡ entry_line entry
-one_line_of entry = append-nil (entry_line entry)
-
 -- the line of one entry was appended
 pub gained_line : (name : List ℕ) (entry : Entry) (line : List ℕ) (files files' : Option Files) → line ≡ entry_line entry → ChangesFile (GainsAll line) files files' name → OthersKept files files' name → TellsAlike files files'
     → Gains (Some name) (entry_line entry) files files'
 gained_line name entry line files files' is changes others told =
     subst (λ t. Gains (Some name) t files files') is
     (Gains-of_append name line files files' (λ none. entry_line_some entry (sym is ∙ none)) changes others told)
-
--- an append that failed
-pub leaves_append : (fault : WriteFault) (name : List ℕ) (entry : Entry) (line : List ℕ) (files files' : Option Files) → line ≡ entry_line entry
-    → OnFailed fault (ChangesFile (GainsPart line) files files' name) → OthersKept files files' name → OnMemory fault (files' ≡ files)
-    → Leaves (of_append fault) (Some name) (entry ∷ []) files files'
-leaves_append write.Failed name entry line files files' is part others memory =
-    record {
-      adds = λ none. cons_some none;
-      part = subst (λ t. ChangesFile (GainsPart t) files files' name) (is ∙ sym (one_line_of entry)) part;
-      others = others;
-    }
-  where
-    cons_some : entry ∷ [] ≡ [] → ⊥
-    cons_some none = cc
-leaves_append write.Memory name entry line files files' is part others memory = memory
-
--- the ends of a step whose answer is added and whose entry is noted, or not
-pub notes_of : {T : Type 0} (entry : Entry) (name : Option (List ℕ)) (log log' : List Entry) (out out' : List ℕ) (files files' : Option Files) (before after : ℕ) (r : Result T StepFault)
-    → out' ≡ out ++ ok_text entry.epoch → MatchResult r (λ _. log' ≡ log ++ entry ∷ []) (λ _. log' ≡ log) → OnOk r (Gains name (entry_line entry) files files')
-    → IfErr r (λ e. Leaves e name (entry ∷ []) files files') → after ≡ count_by r before
-    → Notes entry name log log' out out' files files' before after r
-notes_of entry name log log' out out' files files' before after (Ok x) added noted gained fault count =
-    record {
-      text = added;
-      kept = kept_before out (ok_text entry.epoch) out' added;
-      grown = noted;
-      file = subst (λ t. Gains name t files files') (sym (one_line_of entry)) gained;
-      err = tt;
-      fault = tt;
-      count = count;
-    }
-notes_of entry name log log' out out' files files' before after (Err e) added noted gained fault count =
-    record {
-      text = tt;
-      kept = kept_before out (ok_text entry.epoch) out' added;
-      grown = tt;
-      file = tt;
-      err = noted;
-      fault = fault;
-      count = count;
-    }
-
--- a step that notes an entry
-pub steps_noted : {T : Type 0} (session : SessionState) (entry : Entry) (name : Option (List ℕ)) (log' : List Entry) (out out' : List ℕ) (files files' : Option Files) (before after : ℕ) (r : Result T StepFault)
-    → Notes entry name session.log log' out out' files files' before after r
-    → Steps None (accepted_reply session entry) name session (record session { log = log' }) out out' files files' before after r
-steps_noted session entry name log' out out' files files' before after (Ok x) notes =
-    record {
-      text = notes.text;
-      kept = notes.kept;
-      next = ap (λ log. record { log = log; followers = session.followers }) notes.grown;
-      file = notes.file;
-      left = tt;
-      fault = tt;
-      count = notes.count;
-    }
-steps_noted session entry name log' out out' files files' before after (Err e) notes =
-    let same : record { log = log'; followers = session.followers } ≡ session = ap (λ log. record { log = log; followers = session.followers }) notes.err in
-    record {
-      text = tt;
-      kept = notes.kept;
-      next = tt;
-      file = tt;
-      left = by e same;
-      fault = notes.fault;
-      count = notes.count;
-    }
-  where
-    by : (e : StepFault) → record { log = log'; followers = session.followers } ≡ session → LeavesSession e None session session.followers (record { log = log'; followers = session.followers })
-    by step.Memory same = same
-    by step.Store same = same
 
 -- ---- a step in a log
 

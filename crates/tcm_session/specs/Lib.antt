@@ -3,7 +3,6 @@ pub mod Endings
 pub mod Faults
 pub mod Generated
 pub mod GeneratedLines
-pub mod HandOn
 pub mod KeptImages
 pub mod Left
 pub mod Limits
@@ -12,7 +11,6 @@ pub mod Loading
 pub mod LogFiles
 pub mod Machine
 pub mod Outcome
-pub mod RefusedKinds
 pub mod Replay
 pub mod ReplayPrefix
 pub mod Replays

@@ -1,6 +1,6 @@
 //! The followers of a session, and what they are handed.
 
-ghost use Rattle.std.specs.Prelude.{◌≡◌, ◌++◌, ◌∷◌, [], codes, length, position, take, Ok, OnErr, OnOk};
+ghost use Rattle.std.specs.Prelude.{◌≡◌, ◌++◌, ◌∷◌, [], codes, is_some, length, position, take, Ok, OnErr, OnOk};
 ghost use Rattle.std.specs.Option.{option_copied};
 ghost use Rattle.std.specs.Str.{bytes_eq};
 ghost use Rattle.script_lang.specs.Texts as spec;
@@ -25,7 +25,6 @@ pub struct NamedFollower {
 }
 
 /// The position of the first follower with this name. Returns `None` if and only if there is none.
-#[inline(always)]
 pub fn place_of(followers: &[NamedFollower], name: &Name) -> Option<usize>
     ensures { result ≡ position (λ f. bytes_eq f.name name.now) followers.now }
 {
@@ -35,10 +34,20 @@ pub fn place_of(followers: &[NamedFollower], name: &Name) -> Option<usize>
 }
 
 /// The first follower with this name.
-fn follower_named<'a>(followers: &'a [NamedFollower], name: &str) -> Option<&'a NamedFollower>
+pub fn follower_named<'a>(followers: &'a [NamedFollower], name: &str) -> Option<&'a NamedFollower>
     ensures { option_copied result ≡ machine.follower_named followers.now name.now }
 {
     followers.iter().find(|f| f.name.as_str() == name)
+}
+
+/// Whether a follower has this name.
+pub fn is_taken(followers: &[NamedFollower], name: &str) -> bool
+    ensures { result ≡ is_some (machine.follower_named followers.now name.now) }
+{
+    match follower_named(followers, name) {
+        Some(_named) => true,
+        None => false,
+    }
 }
 
 /// The epoch of the first follower with this name, or 0 if there is none.
@@ -73,7 +82,7 @@ pub fn add_follower(
 
 /// Adds the answer to what a follower took. Fails only if memory runs out; then `out` still begins with its old
 /// content.
-pub fn took_text(took: Took, out: &mut ByteText) -> Result<(), Memory>
+fn took_text(took: Took, out: &mut ByteText) -> Result<(), Memory>
     ensures text { OnOk result (out.new ≡ out.old ++ handed_text (Ok took)) }
     ensures kept { take (length out.old) out.new ≡ out.old }
 {
@@ -87,7 +96,6 @@ pub fn took_text(took: Took, out: &mut ByteText) -> Result<(), Memory>
 
 /// Answers a line that handed something to a follower, with what became of it. A session hands over what its log says,
 /// so a fork, a refusal and a bad image don't come.
-#[inline(always)]
 pub fn answer_handed(
     handed: Result<Took, FollowerFault>,
     out: &mut ByteText,

@@ -3,7 +3,6 @@
 mod draw;
 mod generation;
 mod kinds;
-mod line_texts;
 mod opening;
 mod rounds;
 mod summary;

@@ -18,7 +18,7 @@ use transformations::Entry;
 use wire_json::entry_line;
 
 /// Adds the next entry to the log. If memory runs out, the log is unchanged.
-pub fn keep(log: &mut Log, entry: Entry) -> Result<(), Memory>
+fn keep(log: &mut Log, entry: Entry) -> Result<(), Memory>
     requires epoch { entry.epoch ≡ length log.old + 1 }
     requires id { entry_with_id log.old entry.id ≡ None }
     ensures { MatchResult result (λ _. log.new ≡ log.old ++ entry ∷ []) (λ _. log.new ≡ log.old) }

@@ -184,7 +184,7 @@ fn finish<K: Sink, D: Store>(
 {
     match ending {
         ReadEnd::AtEnd if begun.is_empty() => Ok(()),
-        ReadEnd::AtEnd => answer_line(&mut Vec::new(alloc), session, begun, log, store, out),
+        ReadEnd::AtEnd => answer_line(alloc, session, begun, log, store, out),
         ReadEnd::PastLimit => print(TOO_LARGE.as_bytes(), out),
     }
 }

@@ -12,18 +12,17 @@ ghost use Rattle.tcm_session.specs.Runs.{IsBegun, LeavesStore, Takes, Writes, st
 ghost use Rattle.tcm_session.specs.Stops.{Stopped};
 
 use crate::fault::RunFault;
+use crate::limits::TEXT_ROOM;
 use crate::lines::{cut_line, keep_begun};
 use crate::session::Session;
 use cluster_terms::ByteText;
 use std::alloc::Global;
-use std::mem::replace;
 use tcm_edges::{Sink, Store, write_all};
 
-/// Answers a line, and writes the answer to `out` at once. The answer is made in the memory of `room`, whose bytes are
-/// passed over. At a fault, a prefix of the answer may be written, and a prefix of the line of its entry may be in the
-/// file: all of this line, if any byte of the answer is written.
+/// Answers a line, and writes the answer to `out` at once. At a fault, a prefix of the answer may be written, and a
+/// prefix of the line of its entry may be in the file: all of this line, if any byte of the answer is written.
 pub fn answer_line<K: Sink, D: Store>(
-    room: &mut Vec<u8>,
+    alloc: Global,
     session: &mut Session,
     line: &[u8],
     log: Option<&str>,
@@ -43,12 +42,9 @@ pub fn answer_line<K: Sink, D: Store>(
         (D.files store.old) (D.files store.new)) }
     ensures unnamed { LeavesStore (option_copied log.entry) store.old store.new result }
 {
-    room.clear();
-    let no_room = Vec::new(*room.allocator());
-    let mut text = ByteText::from_vec(replace(room, no_room));
+    let mut text = ByteText::with_room(alloc, TEXT_ROOM)?;
     session.step(line, log, store, &mut text)?;
     write_all(out, text.as_slice())?;
-    *room = text.into_vec();
     Ok(())
 }
 
@@ -75,11 +71,10 @@ pub fn feed<K: Sink, D: Store>(
         ≡ counts_by result (counts 0 (K.faults out.old) (D.faults store.old)) }
     ensures unnamed { LeavesStore (option_copied log.entry) store.old store.new result }
 {
-    let mut room = Vec::new(alloc);
     let mut rest = piece;
     while let Some((line, more)) = cut_line(rest) {
         keep_begun(begun, line)?;
-        answer_line(&mut room, session, begun.as_slice(), log, store, out)?;
+        answer_line(alloc, session, begun.as_slice(), log, store, out)?;
         begun.clear();
         rest = more;
     }

@@ -1,5 +1,5 @@
 -- Rows between cuts of which some are chosen, and the first row that two lists of ranges have in common.
-use Rattle.std.proofs.Common.{◌≡◌, ℕ, zero, suc, ◌<◌, ◌≤◌, Bool, true, false, ◌&&◌, ◌||◌, if◌then◌else◌, ◌↔◌, ℤ, Result, Ok, Err, IfOk, List, [], ◌∷◌, ◌++◌, length, map, take, get_or, Option, Some, None, option_map, find, IsNone, refl, sym, ap, ◌∙◌, subst, arith}
+use Rattle.std.proofs.Common.{◌≡◌, ℕ, zero, suc, ◌<◌, ◌≤◌, Bool, true, false, ◌&&◌, ◌||◌, if◌then◌else◌, ◌↔◌, ℤ, List, [], ◌∷◌, ◌++◌, length, map, take, get_or, Option, Some, None, option_map, find, IsNone, refl, sym, ap, ◌∙◌, subst, arith}
 use Rattle.std.proofs.Math.Bool.{or-false}
 use Rattle.std.specs.List.{AllByRecursion, list_any}
 use Rattle.std.specs.List.Sorted.{IsStrictlySortedBy}
@@ -14,7 +14,7 @@ use Rattle.cluster_terms.specs.Row.{last_token, is_last, is_within, rows_from, r
 use Rattle.cluster_terms.specs.declared.row.TokenRange.{TokenRange}
 use Rattle.cluster_terms.specs.declared.token.RightEnd.{RightEnd}
 use Rattle.cluster_terms.specs.declared.token.RightEnd.TheVariants.{At, Max}
-use Rattle.token_ring.specs.Ranges.{have_token, HaveTokens, AreCutOut, have_chosen, is_common, first_common_end}
+use Rattle.token_ring.specs.Ranges.{have_token, either_has, AreCutOut, have_chosen, is_common, first_common_end}
 use Rattle.token_ring.proofs.RangeLemmas.{all_at, same_tokens}
 
 -- ---- chosen rows
@@ -46,31 +46,11 @@ have_row cuts ranges t w out = same_tokens cuts t (last_token w.row.right) range
 
 -- the rows whose last tokens are in one of two lists have the tokens of both
 pub have_either : (cuts : List ℤ) (one other : List TokenRange) → IsStrictlySortedBy int_cmp cuts → AllByRecursion IsToken cuts → AreCutOut cuts one → AreCutOut cuts other
-    → (rows : List TokenRange) (chosen : List Bool) → rows ≡ rows_between cuts → chosen ≡ map (λ row. have_token one (last_token row.right) || have_token other (last_token row.right)) rows
-    → (t : ℤ) → IsToken t → have_chosen (rows_between cuts) chosen t ≡ (have_token one t || have_token other t)
-have_either cuts one other up tokens one_out other_out rows chosen are is t token =
+    → (t : ℤ) → IsToken t → have_chosen (rows_between cuts) (map (λ row. either_has one other (last_token row.right)) (rows_between cuts)) t ≡ either_has one other t
+have_either cuts one other up tokens one_out other_out t token =
     let w = row_with cuts up tokens t token in
-    ap (λ bs. have_chosen (rows_between cuts) bs t) (is ∙ ap (map (λ row. have_token one (last_token row.right) || have_token other (last_token row.right))) are)
-    ∙ have_chosen_row cuts t (λ row. have_token one (last_token row.right) || have_token other (last_token row.right)) w
+    have_chosen_row cuts t (λ row. either_has one other (last_token row.right)) w
     ∙ sym (λ i. have_row cuts one t w one_out i || have_row cuts other t w other_out i)
-
--- the same of what a call returned for these rows
-has_ok : {E : Type 0} (f g : ℤ → Bool) → ((t : ℤ) → IsToken t → f t ≡ g t) → (result : Result (List TokenRange) E) → IfOk result (λ both. HaveTokens f both) → IfOk result (λ both. HaveTokens g both)
-has_ok f g same (Ok both) has = λ t token. has t token ∙ same t token
-has_ok f g same (Err e) has = tt
-
-pub union_has : {E : Type 0} (cuts first seen : List ℤ) (bits chosen : List Bool) (one other rows shown : List TokenRange) (result : Result (List TokenRange) E)
-    → IsStrictlySortedBy int_cmp cuts → AllByRecursion IsToken cuts → AreCutOut cuts one → AreCutOut cuts other
-    → first ≡ cuts → rows ≡ rows_between first → shown ≡ rows → bits ≡ map (λ row. have_token one (last_token row.right) || have_token other (last_token row.right)) shown
-    → seen ≡ cuts → chosen ≡ bits → IfOk result (λ both. HaveTokens (have_chosen (rows_between seen) chosen) both)
-    → IfOk result (λ both. HaveTokens (λ t. have_token one t || have_token other t) both)
-union_has cuts first seen bits chosen one other rows shown result up tokens one_out other_out first_is are showing is seen_is given has =
-    has_ok (have_chosen (rows_between seen) chosen) (λ t. have_token one t || have_token other t) same result has
-  where
-    same : (t : ℤ) → IsToken t → have_chosen (rows_between seen) chosen t ≡ (have_token one t || have_token other t)
-    same t token =
-        (λ i. have_chosen (rows_between (seen_is i)) (given i) t)
-        ∙ have_either cuts one other up tokens one_out other_out shown bits (showing ∙ are ∙ ap rows_between first_is) is t token
 
 -- ---- the first row in common
 

@@ -230,6 +230,3 @@ chosen_have cuts chosen up tokens one t = joined_has None None (rows_between cut
 
 pub chosen_out : (cuts : List ℤ) (chosen : List Bool) → AreCutOut cuts (chosen_from None (rows_between cuts) chosen)
 chosen_out cuts chosen = joined_out cuts None (rows_between cuts) chosen tt (rows_out cuts None cuts refl (members cuts))
-
-pub joined_are : (items slice rows : List TokenRange) (cuts : List ℤ) (chosen : List Bool) → items ≡ chosen_from None slice chosen → slice ≡ rows → rows ≡ rows_between cuts → items ≡ chosen_from None (rows_between cuts) chosen
-joined_are items slice rows cuts chosen is seen are = is ∙ ap (λ l. chosen_from None l chosen) (seen ∙ are)

@@ -1,4 +1,4 @@
-ghost use Rattle.std.specs.Prelude.{◌≡◌, Bool, ℤ, List, [], ◌∷◌, ◌++◌, None, length, IfOk, OnOk};
+ghost use Rattle.std.specs.Prelude.{◌≡◌, Bool, ℤ, List, [], ◌∷◌, ◌++◌, None, IfOk, OnOk};
 ghost use Rattle.std.specs.List.{AllByRecursion};
 ghost use Rattle.cluster_terms.specs.Arc.{IsToken};
 ghost use Rattle.cluster_terms.specs.Row.{rows_between, rows_from};
@@ -81,22 +81,6 @@ impl Joining {
         }
         Ok(ranges)
     }
-}
-
-/// The ranges of the chosen rows, with adjacent rows joined. Only the last row may contain the greatest token.
-pub(crate) fn joined(
-    alloc: Global,
-    rows: &[TokenRange],
-    chosen: &[bool],
-) -> Result<Vec<TokenRange>, Memory>
-    requires { length chosen.now ≡ length rows.now }
-    ensures { IfOk result (λ ranges. ranges.items ≡ spec.chosen_from None rows.now chosen.now) }
-{
-    let mut joining = Joining::new(alloc);
-    for (row, is_chosen) in rows.iter().zip(chosen) {
-        joining.add(*row, *is_chosen)?;
-    }
-    joining.finish()
 }
 
 /// The row from this left end on, unless no token comes after it.

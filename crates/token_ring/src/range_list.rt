@@ -1,4 +1,4 @@
-ghost use Rattle.std.specs.Prelude.{◌≡◌, Bool, ℤ, List, int_lt, true, false, ◌||◌, [], ◌∷◌, ◌++◌, ◌≤◌, length, map, IfOk, OnOk, MatchResult};
+ghost use Rattle.std.specs.Prelude.{◌≡◌, Bool, ℤ, List, int_lt, true, false, [], ◌∷◌, ◌++◌, ◌≤◌, length, IfOk, OnOk, MatchResult};
 ghost use Rattle.std.specs.List.{AllByRecursion};
 ghost use Rattle.std.specs.List.Sorted.{IsPartitionPoint, IsStrictlySortedBy};
 ghost use Rattle.std.specs.Ordering.{int_cmp};
@@ -9,8 +9,8 @@ ghost use Rattle.token_ring.specs.Bounds.{bounds_of};
 ghost use Rattle.token_ring.specs.Ranges.{have_token, either_has, HaveTokens, ends_before, IsRange, IsRangeList, AreCutOut, have_chosen, chosen_by, AnswersAs};
 
 use crate::bounds::bounds_of_both;
-use crate::joining::{joined, joined_where};
-use cluster_terms::{Memory, Token, TokenRange, TryCopy, rows_between};
+use crate::joining::joined_where;
+use cluster_terms::{Memory, Token, TokenRange, TryCopy};
 use std::alloc::Global;
 use std::marker::Model;
 
@@ -93,20 +93,6 @@ impl RangeList {
         before < self.ranges.len() && is_past(&self.ranges[before].left, t)
     }
 
-    /// The ranges of the chosen rows between ascending cuts, with adjacent rows joined. `chosen` has a bool for each
-    /// row. The cost is one pass over the rows.
-    pub fn from_rows(alloc: Global, cuts: &[Token], chosen: &[bool]) -> Result<RangeList, Memory>
-        requires ascending { IsStrictlySortedBy int_cmp cuts.now }
-        requires one { length chosen.now ≡ length (spec.rows_between cuts.now) }
-        ensures ranges { IfOk result
-            (λ ranges. HaveTokens (have_chosen (spec.rows_between cuts.now) chosen.now) ranges) }
-        ensures bounds { IfOk result (λ ranges. AreCutOut cuts.now ranges) }
-    {
-        let rows = rows_between(alloc, cuts)?;
-        let ranges = joined(alloc, rows.as_slice(), chosen)?;
-        Ok(RangeList { ranges })
-    }
-
     /// The ranges of those rows between ascending cuts whose last token passes a test, with adjacent rows joined. The
     /// cost is one pass over the cuts, and one test for each row.
     pub fn of_rows<F: Fn(Token) -> bool>(
@@ -126,29 +112,14 @@ impl RangeList {
         Ok(RangeList { ranges })
     }
 
-    /// For each row, whether its last token is in either list.
-    fn in_either(&self, other: &RangeList, rows: &[TokenRange]) -> Result<Vec<bool>, Memory>
-        ensures { IfOk result
-            (λ chosen. chosen.items ≡ map
-            (λ row. either_has self.now other.now (spec.last_token row.right)) rows.now) }
-    {
-        let mut chosen = Vec::with_capacity(*self.ranges.allocator(), rows.len())?;
-        for row in rows {
-            let last = row.last_token();
-            chosen.push(self.contains(last) || other.contains(last))?;
-        }
-        Ok(chosen)
-    }
-
     /// The ranges of the tokens that are in either list. The cost is about m log m for m ranges in both lists together.
     pub fn union(&self, other: &RangeList) -> Result<RangeList, Memory>
         ensures { IfOk result (λ both. HaveTokens (either_has self.now other.now) both) }
     {
         let alloc = *self.ranges.allocator();
         let cuts = bounds_of_both(alloc, self.as_slice(), other.as_slice())?;
-        let rows = rows_between(alloc, &cuts)?;
-        let chosen = self.in_either(other, rows.as_slice())?;
-        RangeList::from_rows(alloc, &cuts, &chosen)
+        let both = RangeList::of_rows(alloc, &cuts, |t| self.contains(t) || other.contains(t))?;
+        Ok(both)
     }
 }
 

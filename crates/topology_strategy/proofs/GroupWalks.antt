@@ -1,5 +1,5 @@
 -- The walk of one group takes the nodes that the counting rule chooses.
-use Rattle.std.proofs.Common.{◌≡◌, ℕ, ◌+◌, ◌-◌, ◌<◌, ◌≤◌, min, Bool, true, false, cond, not, ◌&&◌, ◌||◌, if◌then◌else◌, nat_eq, nat_lt, List, [], ◌∷◌, ◌++◌, length, Option, Some, None, is_some, refl, sym, ap, ◌∙◌, subst, arith}
+use Rattle.std.proofs.Common.{◌≡◌, ℕ, ◌+◌, ◌-◌, ◌<◌, ◌≤◌, min, Bool, true, false, cond, not, ◌&&◌, ◌||◌, nat_eq, nat_lt, List, [], ◌∷◌, ◌++◌, length, Option, Some, None, is_some, refl, sym, ap, ◌∙◌, subst, arith}
 use Rattle.std.proofs.Math.Bool.{and-false, and-true, or-false, or-true, or_assoc}
 use Rattle.std.proofs.lemmas.Bool.{false≢true, le-ltb, lt-ltb, ltb-false, ltb-true, or_left, or_right}
 use Rattle.std.proofs.lemmas.Cmp.{nat_list_eq_equiv}
@@ -14,7 +14,7 @@ use Rattle.cluster_terms.proofs.GroupLemmas.{has, has_rack, is_chosen_by, is_cho
 use Rattle.token_ring.proofs.PlaceLemmas.{finds}
 use Rattle.topology_strategy.proofs.CountSteps.{node_count-outside, rack_count-outside, has_rack-outside, node_count-again, rack_count-again, has_rack-again, has_rack-push, node_count-new, rack_count-new, rack_count-old}
 use Rattle.node_directory.specs.Shape.{shape_of}
-use Rattle.topology_strategy.specs.Walk.{Found, found_at, found_with, found_after, found_past, passed, taken_along}
+use Rattle.topology_strategy.specs.Walk.{Found, found_with, found_after, taken_along}
 
 -- where w nodes are wanted, of which s may be further nodes of a rack
 module _ (g : Group) (w s : ℕ) where
@@ -337,56 +337,7 @@ module _ (g : Group) (w s : ℕ) where
   has-walked : (ns : List ℕ) (v : ℕ) → has (found_after g w ns found_none).taken v ≡ takes [] ns v
   has-walked ns v = has-found_after [] found_none ns walked_none v
 
--- ---- the walk in parts
-
--- once as many as wanted are taken, nothing changes
-pub found_full : (g : Group) (w : ℕ) (ns : List ℕ) (found : Found) → w ≤ length found.taken → found_after g w ns found ≡ found
-found_full g w [] found full = refl
-found_full g w (n ∷ ns) found full = ap (found_after g w ns) (none (g.rack_of n)) ∙ found_full g w ns found full
-  where
-    none : (o : Option (List ℕ)) → found_with w n o found ≡ found
-    none None = refl
-    none (Some rack) = ap (λ b. cond b (found_at n rack found) found) (le-ltb (length found.taken) w full)
-
--- ---- a node that is met again
-
--- the walk after a node, by whether it is taken, whether its rack is seen, and whether a repeat is left
-abbrev met_by : ℕ → List ℕ → Bool → Bool → Bool → Found → Found
-met_by n rack is_taken is_seen is_left found =
-    if is_taken then found
-    else (if is_seen then (if is_left then record found { taken = found.taken ++ n ∷ []; repeats = found.repeats - 1 } else found)
-    else record found { taken = found.taken ++ n ∷ []; racks = found.racks ++ rack ∷ [] })
-
-module _ (n : ℕ) (rack : List ℕ) (found : Found) where
-  settled : (after : Found) → found_at n rack found ≡ after → found_at n rack after ≡ after → found_at n rack (found_at n rack found) ≡ found_at n rack found
-  settled after is stays = ap (found_at n rack) is ∙ stays ∙ sym is
-
-  taken_stays : (after : Found) → after.taken ≡ found.taken ++ n ∷ [] → found_at n rack after ≡ after
-  taken_stays after is =
-      let there = ap (λ (ns : List ℕ). is_member nat_eq ns n) is ∙ is_member-push nat_eq_equiv found.taken n n ∙ or_right (is_member nat_eq found.taken n) (nat_eq n n) (nat_eq_equiv.refl n) in
-      ap (λ b. met_by n rack b (is_member bytes_eq after.racks rack) (nat_lt 0 after.repeats) after) there
-
-  -- it changes nothing
-  found_twice : found_at n rack (found_at n rack found) ≡ found_at n rack found
-  found_twice = by (is_member nat_eq found.taken n) (is_member bytes_eq found.racks rack) (nat_lt 0 found.repeats) refl refl refl
-    where
-      unchanged : found_at n rack found ≡ found → found_at n rack (found_at n rack found) ≡ found_at n rack found
-      unchanged same = settled found same same
-
-      by : (b c d : Bool) → is_member nat_eq found.taken n ≡ b → is_member bytes_eq found.racks rack ≡ c → nat_lt 0 found.repeats ≡ d
-          → found_at n rack (found_at n rack found) ≡ found_at n rack found
-      by true c d e f g = unchanged (λ i. met_by n rack (e i) (f i) (g i) found)
-      by false true true e f g = settled _ (λ i. met_by n rack (e i) (f i) (g i) found) (taken_stays _ refl)
-      by false true false e f g = unchanged (λ i. met_by n rack (e i) (f i) (g i) found)
-      by false false d e f g = settled _ (λ i. met_by n rack (e i) (f i) (g i) found) (taken_stays _ refl)
-
-pub passed_twice : (g : Group) (n : ℕ) (found : Found) → passed g n (passed g n found) ≡ passed g n found
-passed_twice g n found = by (g.rack_of n)
-  where
-    by : (o : Option (List ℕ)) → found_past o n (found_past o n found) ≡ found_past o n found
-    by None = refl
-    by (Some rack) = found_twice n rack found
-
+-- a walk in two parts
 pub found_after-append : (g : Group) (w : ℕ) (ms ns : List ℕ) (found : Found) → found_after g w (ms ++ ns) found ≡ found_after g w ns (found_after g w ms found)
 found_after-append g w [] ns found = refl
 found_after-append g w (m ∷ ms) ns found = found_after-append g w ms ns (found_with w m (g.rack_of m) found)

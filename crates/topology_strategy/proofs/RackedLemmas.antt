@@ -1,8 +1,7 @@
 -- The pairs of a group, with the racks of their nodes.
-use Rattle.std.proofs.Common.{◌≡◌, ℕ, suc, zero, ◌<◌, ◌||◌, false, if◌then◌else◌, ℤ, ◌<ℤ◌, List, [], ◌∷◌, ◌++◌, length, get_or, map, take, drop, Some, None, is_some, refl, sym, ap, ◌∙◌, subst, arith, append-nil}
+use Rattle.std.proofs.Common.{◌≡◌, ℕ, suc, zero, ◌<◌, ◌||◌, false, ℤ, ◌<ℤ◌, List, [], ◌∷◌, ◌++◌, length, get_or, map, take, drop, Some, is_some, refl, sym, ap, ◌∙◌, subst, arith}
 use Rattle.std.proofs.Math.Bool.{or-false, or_assoc}
-use Rattle.std.proofs.lemmas.List.{drop-map, take-map, map-append}
-use Rattle.std.proofs.lemmas.List.Elements.{filter-append}
+use Rattle.std.proofs.lemmas.List.{drop-map, take-map}
 use Rattle.std.proofs.lemmas.List.Kept.{AllPairs-filter}
 use Rattle.std.specs.List.{list_any}
 use Rattle.cluster_terms.specs.Group.{Group, nodes_of, is_replica, is_replica_of_any}
@@ -14,38 +13,10 @@ use Rattle.node_directory.specs.Shape.{shape_of}
 use Rattle.node_directory.specs.declared.shape.Shape.{Shape}
 use Rattle.token_ring.specs.Ring.{IsRing, IsFirstAt}
 use Rattle.topology_strategy.specs.DatacenterRing.{RingPart, is_replica_in, parts_of}
-use Rattle.topology_strategy.specs.RackedPairs.{AreListed, HaveRacks, pairs_within}
+use Rattle.topology_strategy.specs.RackedPairs.{AreListed, HaveRacks}
 use Rattle.topology_strategy.specs.Walk.{Found, found_after, found_among, taken_along}
 use Rattle.topology_strategy.proofs.TopologyPlacement.{taken_in_parts, taken_there}
 use Rattle.topology_strategy.proofs.WithinLemmas.{among-after, replica_within, shape_of-within}
-
--- there is a rack for each pair
-pub racks_length : (g : Group) (ps : List Pair) (racks : List (List ℕ)) → HaveRacks g ps racks → length racks ≡ length ps
-racks_length g [] [] have = refl
-racks_length g [] (r ∷ racks) have = absurd (cc)
-racks_length g (p ∷ ps) [] have = absurd (cc)
-racks_length g (p ∷ ps) (r ∷ racks) have = ap suc (racks_length g ps racks (ap (drop 1) have))
-
--- ---- one pair more
-
-module _ (g : Group) (ring pairs : List Pair) (racks : List (List ℕ)) (within : AreListed g ring pairs racks) (p : Pair) where
-  more : pairs_within g (ring ++ p ∷ []) ≡ pairs_within g ring ++ (if is_some (g.rack_of p.node) then p ∷ [] else [])
-  more = filter-append (λ q. is_some (g.rack_of q.node)) ring (p ∷ [])
-
-  pub listed_none : g.rack_of p.node ≡ None → AreListed g (ring ++ p ∷ []) pairs racks
-  listed_none outside = record {
-    listed = within.listed ∙ sym (more ∙ ap (λ o. pairs_within g ring ++ (if is_some o then p ∷ [] else [])) outside ∙ append-nil (pairs_within g ring));
-    racked = within.racked;
-  }
-
-  pub listed_some : (rack : List ℕ) → g.rack_of p.node ≡ Some rack → AreListed g (ring ++ p ∷ []) (pairs ++ p ∷ []) (racks ++ rack ∷ [])
-  listed_some rack is = record {
-    listed = ap (λ l. l ++ p ∷ []) within.listed ∙ sym (more ∙ ap (λ o. pairs_within g ring ++ (if is_some o then p ∷ [] else [])) is);
-    racked =
-        map-append (λ (q : Pair). g.rack_of q.node) pairs (p ∷ [])
-        ∙ (λ i. within.racked i ++ is i ∷ [])
-        ∙ sym (map-append (λ (r : List ℕ). Some r) racks (rack ∷ []));
-  }
 
 -- ---- the replicas of a group
 

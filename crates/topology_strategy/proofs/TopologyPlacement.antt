@@ -1,5 +1,5 @@
 -- The walks of some datacenters take the placement.
-use Rattle.std.proofs.Common.{◌≡◌, ℕ, suc, zero, ◌<◌, ◌||◌, nat_eq, ℤ, List, [], ◌∷◌, ◌++◌, length, get_or, take, drop, map, refl, sym, ap, ◌∙◌, arith, append-nil, append_assoc}
+use Rattle.std.proofs.Common.{◌≡◌, ℕ, ◌||◌, nat_eq, ℤ, List, [], ◌∷◌, ◌++◌, take, drop, map, refl, sym, ap, ◌∙◌}
 use Rattle.std.proofs.lemmas.List.Folds.{list_any-append}
 use Rattle.std.specs.Ordering.{nat_cmp}
 use Rattle.cluster_terms.specs.Ascending.{ascending}
@@ -41,22 +41,6 @@ module _ (nodes : List NodeRow) (ps : List Pair) (x : ℤ) (i : ℕ) (ring : IsR
   pub placed_by_walks : (factors : List (List ℕ × ℕ))
       → place (map (datacenter_group nodes) factors) x ps ≡ ascending nat_cmp (taken_in_all walk nodes factors (shapes_of nodes factors (nodes_of ps)))
   placed_by_walks factors = placed_by x ps (map (datacenter_group nodes) factors) (taken_in_all walk nodes factors (shapes_of nodes factors (nodes_of ps))) (taken_in_each factors)
-
--- ---- the walks, datacenter by datacenter
-
--- one datacenter more
-pub taken_more : (walk : List ℕ) (nodes : List NodeRow) (factors : List (List ℕ × ℕ)) (shapes : List Shape) (k : ℕ) (f : List ℕ × ℕ) (s : Shape)
-    → k < length factors → k < length shapes → f ≡ get_or factors k f → s ≡ get_or shapes k s
-    → taken_in_all walk nodes (take (suc k) factors) (take (suc k) shapes)
-    ≡ taken_in_all walk nodes (take k factors) (take k shapes) ++ taken_along walk (datacenter_group nodes f) s
-taken_more walk nodes [] shapes k f s in_f in_s here there = absurd (omega arith)
-taken_more walk nodes (g ∷ factors) [] k f s in_f in_s here there = absurd (omega arith)
-taken_more walk nodes (g ∷ factors) (r ∷ shapes) zero f s in_f in_s here there =
-    append-nil (taken_along walk (datacenter_group nodes g) r) ∙ (λ i. taken_along walk (datacenter_group nodes (sym here i)) (sym there i))
-taken_more walk nodes (g ∷ factors) (r ∷ shapes) (suc k) f s in_f in_s here there =
-    let first = taken_along walk (datacenter_group nodes g) r in
-    ap (λ l. first ++ l) (taken_more walk nodes factors shapes k f s (omega arith) (omega arith) here there)
-    ∙ sym (append_assoc first (taken_in_all walk nodes (take k factors) (take k shapes)) (taken_along walk (datacenter_group nodes f) s))
 
 -- a walk in two parts
 pub taken_in_parts : (g : Group) (shape : Shape) (ms ns : List ℕ) (begun middle found : Found)

@@ -1,7 +1,5 @@
 -- The pairs of a group in a ring, with the racks of their nodes. Of the code: no promise rests on these.
-use Rattle.std.specs.Prelude.{◌≡◌, ℕ, List, map, filter, Option, Some, is_some, IfSome, slice_get}
-use Rattle.std.specs.Borrow.{Bor}
-use Rattle.std.specs.Option.{option_copied}
+use Rattle.std.specs.Prelude.{◌≡◌, ℕ, List, map, filter, Some, is_some}
 use Rattle.cluster_terms.specs.Group.{Group}
 use Rattle.cluster_terms.specs.declared.token.Pair.{Pair}
 use Rattle.node_directory.specs.Tally.{racks_in}
@@ -22,7 +20,3 @@ pub record AreListed (g : Group) (ring pairs : List Pair) (racks : List (List �
 
 abbrev pub AreWithin : Group → List Pair → RackedPairs → Type 0
 AreWithin g ring racked = AreListed g ring racked.pairs.items (racks_in racked.racks.items)
-
--- each rack is that of the node whose id is its position
-abbrev pub AreRacks : Group → List (Option (Bor (List ℕ))) → Type 0
-AreRacks g racks = (n : ℕ) → IfSome (slice_get racks n) (λ rack. option_copied rack ≡ g.rack_of n)

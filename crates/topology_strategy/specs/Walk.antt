@@ -30,14 +30,6 @@ abbrev pub found_with : ℕ → ℕ → Option (List ℕ) → Found → Found
 found_with wanted n None found = found
 found_with wanted n (Some rack) found = if nat_lt (length found.taken) wanted then found_at n rack found else found
 
--- the walk after a node is met, if it is in the group (of the code: no promise rests on it)
-abbrev pub found_past : Option (List ℕ) → ℕ → Found → Found
-found_past None n found = found
-found_past (Some rack) n found = found_at n rack found
-
-abbrev pub passed : Group → ℕ → Found → Found
-passed g n found = found_past (g.rack_of n) n found
-
 -- the walk after several nodes are met, one after another
 abbrev pub found_after : Group → ℕ → List ℕ → Found → Found
 found_after g wanted [] found = found

@@ -4,7 +4,6 @@ ghost use Rattle.std.specs.Prelude.{◌≡◌, ◌||◌, ℕ, IfOk, OnOk};
 ghost use Rattle.node_sets.specs.NodeSets.{IsNodeSet, has_node};
 ghost use Rattle.topology_strategy.specs.DatacenterRing.{is_replica_in};
 
-use crate::placed::add_nodes;
 use crate::racked_pairs::{RackedPairs, first_at, racked_pairs};
 use crate::walk::Walk;
 use cluster_terms::{Memory, Name, Rf, Token};
@@ -51,8 +50,7 @@ impl<'a> DatacenterRing<'a> {
     /// The tokens of a datacenter in a ring, where the datacenter is to have `rf` replicas.
     ///
     /// Costs a look-up in the directory for each pair of the ring, and the pass over the ring that counts the
-    /// datacenter's nodes and racks. If the ring has at least four times as many pairs as the directory gave ids, it
-    /// costs a look-up for each id instead, and a read by position for each pair.
+    /// datacenter's nodes and racks.
     pub fn new(
         alloc: Global,
         ring: &'a Ring,
@@ -91,6 +89,7 @@ impl<'a> DatacenterRing<'a> {
         let mut walk = Walk::begin(self.shape);
         walk.go_among(self.shape.wanted, rest, rest_racks);
         walk.go_among(self.shape.wanted, front, front_racks);
-        add_nodes(placed, walk.nodes())
+        *placed = placed.with_all(walk.nodes())?;
+        Ok(())
     }
 }

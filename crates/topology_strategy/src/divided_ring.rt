@@ -16,8 +16,8 @@ use token_ring::Ring;
 /// A ring, the registered nodes, and the datacenters that are to have replicas, with the tokens of each datacenter
 /// apart.
 ///
-/// A walk passes the tokens of its own datacenter only. To place many tokens, make this value once; for few tokens a
-/// [`CountedRing`](crate::CountedRing) costs less.
+/// A walk passes the tokens of its own datacenter only. To place several tokens, make this value once: then each token
+/// costs only its walks.
 #[derive(Drop)]
 pub struct DividedRing<'a> {
     ring: &'a Ring,
@@ -70,9 +70,9 @@ fn placed_in(alloc: Global, parts: &[DatacenterRing], t: Token) -> Result<NodeSe
 impl<'a> DividedRing<'a> {
     /// Puts the tokens of each datacenter that the factors name apart, with the racks of their nodes.
     ///
-    /// Costs, for each named datacenter, a look-up in the directory for each pair of the ring. If the ring has at least
-    /// four times as many pairs as the directory gave ids, it costs a look-up for each id instead, and a read by
-    /// position for each pair. To this comes the cost of [`CountedRing::new`](crate::CountedRing::new).
+    /// Costs two passes over the ring for each named datacenter. The first looks up each pair in the directory. The
+    /// second counts the datacenter's nodes and racks, and ends once it has met as many of each as there are to be
+    /// replicas.
     pub fn new(
         alloc: Global,
         ring: &'a Ring,

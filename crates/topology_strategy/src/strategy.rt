@@ -1,7 +1,7 @@
 ghost use Rattle.std.specs.Prelude.{◌≡◌, ◌+◌, IfOk};
 ghost use Rattle.topology_strategy.specs.GroupedRing.{topology_placement};
 
-use crate::counted_ring::CountedRing;
+use crate::divided_ring::DividedRing;
 use cluster_terms::{Factors, Memory, Steps, Token};
 use node_directory::Directory;
 use node_sets::NodeSet;
@@ -17,7 +17,7 @@ use token_ring::Ring;
 /// is taken already, is in another datacenter, or isn't registered. It takes a node of a new rack, and a node of a seen
 /// rack while such repeats are left. The taken nodes are the placement, which is defined by counting.
 ///
-/// The cost is that of [`CountedRing::new`] and of [`CountedRing::replicas`]. Counts one step of `walks`, even on an
+/// The cost is that of [`DividedRing::new`] and of [`DividedRing::replicas`]. Counts one step of `walks`, even on an
 /// error.
 pub fn replicas<L: Ledger>(
     alloc: Global,
@@ -31,8 +31,8 @@ pub fn replicas<L: Ledger>(
         replicas ≡ topology_placement dir.now.rows factors.now t ring.now) }
     ensures counted { walks.new ≡ walks.old + 1 }
 {
-    match CountedRing::new(alloc, ring, dir, factors) {
-        Ok(counted) => counted.replicas(t, walks),
+    match DividedRing::new(alloc, ring, dir, factors) {
+        Ok(divided) => divided.replicas(t, walks),
         Err(error) => {
             walks.tick();
             Err(error)

@@ -1,13 +1,11 @@
-ghost use Rattle.std.specs.Prelude.{◌≡◌, ◌<◌, ◌≤◌, [], length, IsTrue, Some, nat_eq};
+ghost use Rattle.std.specs.Prelude.{◌≡◌, ◌<◌, ◌≤◌, [], length, nat_eq};
 ghost use Rattle.std.specs.Set.{is_member};
 ghost use Rattle.cluster_terms.specs.Group.{nodes_of};
-ghost use Rattle.node_directory.specs.Members.{group_of};
 ghost use Rattle.node_directory.specs.Tally.{racks_in};
-ghost use Rattle.topology_strategy.specs.Walk.{found_after, found_among, found_at};
-ghost use Rattle.topology_strategy.specs.Walk as spec;
+ghost use Rattle.topology_strategy.specs.Walk.{found_among, found_at};
 
 use cluster_terms::{Few, NodeId, Pair};
-use node_directory::{Members, Shape, has_rack};
+use node_directory::{Shape, has_rack};
 use std::marker::Model;
 
 /// A walk round a ring in one group: the nodes that it took, in the order of the walk, the racks that it saw, and how
@@ -39,16 +37,6 @@ fn is_taken(taken: &[NodeId], node: NodeId) -> bool
     taken.iter().any(|other| node == *other)
 }
 
-/// Whether this node was passed last.
-fn is_last(last: &Option<NodeId>, node: NodeId) -> bool
-    ensures { IsTrue result → last.now ≡ Some node }
-{
-    match last {
-        Some(other) => *other == node,
-        None => false,
-    }
-}
-
 impl<'a> Walk<'a> {
     /// A new walk in a group of this shape.
     pub fn begin(shape: Shape) -> Walk<'a>
@@ -76,41 +64,6 @@ impl<'a> Walk<'a> {
         } else if self.repeats > 0 {
             self.taken.push(node);
             self.repeats -= 1;
-        }
-    }
-
-    /// Passes a node: meets it if it is in the group. There must be room for a node.
-    #[inline(always)]
-    fn pass(&mut self, members: &Members<'a>, node: NodeId)
-        requires { length self.old.taken < 16 }
-        ensures { self.new ≡ spec.passed (group_of members.now) node self.old }
-    {
-        match members.rack_of(node) {
-            Some(rack) => self.meet(node, rack),
-            None => {}
-        }
-    }
-
-    /// Continues the walk along these pairs, until `wanted` nodes are taken, which are at most 16. A node that comes
-    /// several times in a row is looked at once.
-    #[tactic(auto, using(crate::proofs::GroupWalks::found_full))]
-    #[inline(always)]
-    pub fn go_along(&mut self, members: &Members<'a>, wanted: usize, pairs: &[Pair])
-        requires { wanted ≤ 16 }
-        ensures { self.new ≡ found_after (group_of members.now) wanted (nodes_of pairs.now) self.old }
-    {
-        if self.taken.len() >= wanted {
-            return;
-        }
-        let mut last = None;
-        for pair in pairs {
-            if self.taken.len() >= wanted {
-                return;
-            }
-            if !is_last(&last, pair.node) {
-                self.pass(members, pair.node);
-                last = Some(pair.node);
-            }
         }
     }
 

@@ -11,7 +11,6 @@ pub mod OverlapRows
 pub mod OverLemmas
 pub mod RingLaws
 pub mod SoundLaws
-pub mod StandingLemmas
 pub mod TokenLaws
 pub mod TokenLoops
 pub mod ValidLaws

@@ -1,5 +1,4 @@
 -- The pairs of rings, and their tokens.
-pub mod KeptRuns
 pub mod OwnedLemmas
 pub mod RingPairs
 pub mod SearchLemmas

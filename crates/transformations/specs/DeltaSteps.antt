@@ -2,11 +2,10 @@
 -- one for each step).
 use Rattle.std.specs.Prelude.{◌≡◌, ℕ, ℤ, List, [], Option, Some, None}
 use Rattle.std.specs.List.{AllByRecursion}
-use Rattle.std.specs.Ordering.{nat_cmp}
 use Rattle.cluster_terms.specs.Arc.{IsToken}
-use Rattle.cluster_terms.specs.Ascending.{put_all}
+use Rattle.cluster_terms.specs.NodeSets.{with_change}
 use Rattle.cluster_terms.specs.declared.replication.Replication.{Replication}
-use Rattle.transformations.specs.Deltas.{gained_at, lost_at, newcomers}
+use Rattle.transformations.specs.Deltas.{gained_at, lost_at}
 use Rattle.transformations.specs.History.{next_image}
 use Rattle.transformations.specs.Rings.{reads_at, writes_at}
 use Rattle.transformations.specs.Steps.{movement_of}
@@ -31,7 +30,7 @@ pub record PlacementDelta : Type 0 where
 
 -- a set without the nodes that it loses, and with those that it gains
 abbrev pub with_delta : List ℕ → SetDelta → List ℕ
-with_delta nodes delta = put_all nat_cmp delta.gained (newcomers nodes delta.lost)
+with_delta nodes delta = with_change nodes delta.gained delta.lost
 
 -- nothing is gained or lost
 abbrev pub no_change : SetDelta

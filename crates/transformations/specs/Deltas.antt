@@ -1,9 +1,9 @@
 -- The deltas of movements: the nodes that a movement adds to the replicas of a token, and those that it takes away.
-use Rattle.std.specs.Prelude.{◌≡◌, ℕ, Bool, true, not, ◌&&◌, ℤ, List, [], ◌∷◌, filter, nat_eq, Some, is_some, IfSome}
+use Rattle.std.specs.Prelude.{◌≡◌, ℕ, Bool, true, ◌&&◌, ℤ, List, [], ◌∷◌, Some, is_some, IfSome}
 use Rattle.std.specs.List.{All, AllByRecursion}
-use Rattle.std.specs.Set.{is_member}
 use Rattle.cluster_terms.specs.Arc.{IsToken}
 use Rattle.cluster_terms.specs.Group.{place}
+use Rattle.cluster_terms.specs.NodeSets.{without}
 use Rattle.cluster_terms.specs.Replication.{groups_of}
 use Rattle.cluster_terms.specs.Row.{is_within, last_token, rows_between}
 use Rattle.cluster_terms.specs.declared.replication.Replication.{Replication}
@@ -24,7 +24,7 @@ placed_with image r s x = place (groups_of image.nodes r) x (replaced (low_ring 
 
 -- the nodes after that aren't among those before
 abbrev pub newcomers : List ℕ → List ℕ → List ℕ
-newcomers after before = filter (λ n. not (is_member nat_eq before n)) after
+newcomers after before = without after before
 
 -- the nodes that a movement adds at a token, and the nodes that it takes away there
 abbrev pub gained_at : Image → Replication → SeqRow → ℤ → List ℕ

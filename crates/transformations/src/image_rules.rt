@@ -58,7 +58,7 @@ fn bad_ring(alloc: Global, image: &Image) -> Result<Option<BadImage>, Memory>
     if let Some(value) = token_falls(image) {
         return Ok(Some(BadImage { rule: 7, value }));
     }
-    if let Some(value) = owner_missing(alloc, image)? {
+    if let Some(value) = owner_missing(image) {
         return Ok(Some(BadImage { rule: 8, value }));
     }
     Ok(broken(9, too_many_of_node(alloc, image)?))

@@ -23,9 +23,13 @@ impl TryCopy for KeyspaceRow {
 }
 
 impl Ordered for KeyspaceRow {
+    ghost use Rattle.std.specs.Cmp.{on_total, nat_cmp_total};
+    ghost use Rattle.std.specs.Cmp.Lexicographic.{lists_total};
     ghost use Rattle.transformations.specs.Orders.{by_name};
 
     ghost order = { by_name };
+
+    ghost total = { on_total (λ row. row.name) (lists_total nat_cmp_total) };
 
     fn order(&self, other: &KeyspaceRow) -> Ordering {
         self.name.as_str().cmp(other.name.as_str())

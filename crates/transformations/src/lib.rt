@@ -2,7 +2,6 @@
 #![tactic(auto)]
 
 pub mod command;
-mod cut_order;
 pub mod entry;
 mod fitting;
 pub mod image;

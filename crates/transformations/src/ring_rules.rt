@@ -1,12 +1,12 @@
 //! The rules of an image's ring and keyspaces.
 
-ghost use Rattle.std.specs.Prelude.{◌≡◌, ◌<◌, ◌==◌, if◌then◌else◌, ℕ, false, None, find, get_or, not, length, map, nat_lt, option_map, pos, IfOk};
+ghost use Rattle.std.specs.Prelude.{◌≡◌, ◌<◌, ℕ, None, find, get_or, length, map, nat_lt, option_map, pos, IfOk};
 ghost use Rattle.std.specs.List.Sorted.{IsStrictlyIncreasing};
-ghost use Rattle.transformations.specs.ImageRules.{rule_2, rule_3, rule_7, rule_8, rule_9, rule_10, rule_11, rule_17};
+ghost use Rattle.transformations.specs.ImageRules.{rule_3, rule_7, rule_8, rule_9, rule_10, rule_11, rule_17};
 ghost use Rattle.transformations.specs.Steps.{owned};
-ghost use Rattle.transformations.specs.Valid.{is_standing};
 
 use crate::image::Image;
+use crate::node_search::is_standing;
 use crate::rule_search::{above, first_fall};
 use crate::token_count::{count_all, tokens_with};
 use cluster_terms::{Memory, NodeId, NodeRow, Pair};
@@ -28,61 +28,18 @@ pub(crate) fn token_falls(image: &Image) -> Option<i128>
     first_fall(image.tokens.as_slice()).map(|found| i128::from(found.1.token.value()))
 }
 
-/// Writes into a table by id whether the node of a row hasn't left.
-fn put_standing(table: &mut Vec<bool>, row: &NodeRow)
-    ensures length { length table.new.items ≡ length table.old.items }
-    ensures table { (n : ℕ) → n < length table.old.items → get_or table.new.items n false
-        ≡ (if row.now.id == n then not row.now.left else get_or table.old.items n false) }
+/// The first token whose node isn't registered, or has left. The cost is a binary search for each pair.
+pub(crate) fn owner_missing(image: &Image) -> Option<i128>
+    requires { IsStrictlyIncreasing (map (λ row. row.id) image.now.nodes) }
+    ensures { result ≡ rule_8 image.now }
 {
-    let at = row.id.0 as usize;
-    if at < table.len() {
-        table[at] = !row.left;
-    }
-}
-
-/// Whether each node is registered and hasn't left, by id, for the ids below a limit.
-fn standing_by_id(alloc: Global, ids: usize, nodes: &[NodeRow]) -> Result<Vec<bool>, Memory>
-    requires { IsStrictlyIncreasing (map (λ row. row.id) nodes.now) }
-    ensures length { IfOk result (λ table. length table.items ≡ ids) }
-    ensures table { IfOk result
-        (λ table. (n : ℕ) → n < ids → get_or table.items n false ≡ is_standing nodes.now n) }
-{
-    let mut table = vec![in alloc; false; ids]?;
-    for row in nodes {
-        put_standing(&mut table, row);
-    }
-    Ok(table)
-}
-
-/// Whether a table has `true` for a node.
-fn has_true(table: &[bool], n: NodeId) -> bool
-    ensures { result ≡ get_or table.now n false }
-{
-    match table.get(n.0 as usize) {
-        Some(standing) => *standing,
-        None => false,
-    }
-}
-
-/// The first token for whose node a table doesn't have `true`.
-fn first_unowned(pairs: &[Pair], table: &[bool]) -> Option<i128>
-    ensures { result ≡ option_map (λ p. p.token)
-        (find (λ p. not (get_or table.now p.node false)) pairs.now) }
-{
-    pairs
+    let nodes = image.nodes.as_slice();
+    image
+        .tokens
+        .as_slice()
         .iter()
-        .find(|pair| !has_true(table, pair.node))
+        .find(|pair| !is_standing(nodes, pair.node))
         .map(|pair| i128::from(pair.token.value()))
-}
-
-/// The first token whose node isn't registered, or has left.
-pub(crate) fn owner_missing(alloc: Global, image: &Image) -> Result<Option<i128>, Memory>
-    requires ascending { rule_2 image.now ≡ None }
-    requires below { rule_3 image.now ≡ None }
-    ensures { IfOk result (λ found. found ≡ rule_8 image.now) }
-{
-    let table = standing_by_id(alloc, image.next as usize, image.nodes.as_slice())?;
-    Ok(first_unowned(image.tokens.as_slice(), &table))
 }
 
 /// The number of pairs of each node, by id, for the ids below a limit.

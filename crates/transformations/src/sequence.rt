@@ -65,9 +65,12 @@ impl TryCopy for SeqRow {
 }
 
 impl Ordered for SeqRow {
+    ghost use Rattle.std.specs.Cmp.{on_total, nat_cmp_total};
     ghost use Rattle.transformations.specs.Orders.{by_node};
 
     ghost order = { by_node };
+
+    ghost total = { on_total (λ row. row.node) nat_cmp_total };
 
     fn order(&self, other: &SeqRow) -> Ordering {
         self.node.0.cmp(&other.node.0)

@@ -1,22 +1,11 @@
 ghost use Rattle.std.specs.Prelude.{◌≡◌, ◌+◌, length, min, IfOk};
-ghost use Rattle.std.specs.Ordering.{int_eq};
-ghost use Rattle.std.specs.Set.{distinct_count};
 ghost use Rattle.transformations.specs.Refusals.{tokens_with};
 ghost use Rattle.transformations.specs.Rings.{widest};
 
 use crate::image::Image;
-use crate::rings::{tokens_of, widest};
+use crate::rings::{sort_once, tokens_of, widest};
 use cluster_terms::{Memory, Token};
 use std::alloc::Global;
-
-/// The number of different tokens.
-fn distinct(mut tokens: Vec<Token>) -> usize
-    ensures { result ≡ distinct_count int_eq tokens.items }
-{
-    tokens.sort_unstable();
-    tokens.dedup();
-    tokens.len()
-}
 
 /// The number of pairs in the ring, of pairs that movements bring, and of a command's tokens, together. If the sum is
 /// greater than `usize::MAX`, returns `usize::MAX`.
@@ -30,12 +19,13 @@ pub(crate) fn count_all(image: &Image, tokens: &[Token]) -> usize
     count
 }
 
-/// The number of different tokens that there would be with those of a command.
+/// The number of different tokens that there would be with those of a command. The cost is that of `cuts_among`.
 pub(crate) fn tokens_with(alloc: Global, image: &Image, tokens: &[Token]) -> Result<usize, Memory>
     ensures { IfOk result (λ count. count ≡ tokens_with image.now tokens.now) }
 {
     let pairs = widest(image)?;
-    let mut all = tokens_of(alloc, pairs.as_slice(), 0)?;
+    let mut all = tokens_of(alloc, pairs.as_slice())?;
     all.extend_from_slice(tokens)?;
-    Ok(distinct(all))
+    sort_once(&mut all)?;
+    Ok(all.len())
 }

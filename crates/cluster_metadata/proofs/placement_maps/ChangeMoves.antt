@@ -1,10 +1,7 @@
 -- How the change of an accepted command moves the placements and the cuts.
 use Rattle.std.proofs.Common.{◌≡◌, ℕ, ℤ, true, not, if◌then◌else◌, List, [], ◌∷◌, None, Some, Option, refl, sym, ap, ◌∙◌, subst}
 use Rattle.std.specs.List.{AllByRecursion, slice_get}
-use Rattle.std.specs.Ordering.{int_cmp}
 use Rattle.cluster_terms.specs.Arc.{IsToken}
-use Rattle.cluster_terms.specs.Ascending.{put_all}
-use Rattle.cluster_terms.specs.Pair.{tokens_of}
 use Rattle.cluster_terms.specs.Replication.{same_replication}
 use Rattle.cluster_terms.specs.declared.replication.Replication.{Replication}
 use Rattle.cluster_terms.specs.declared.token.Pair.{Pair}
@@ -31,7 +28,6 @@ use Rattle.transformations.specs.declared.sequence.Kind.{Kind}
 use Rattle.transformations.specs.declared.sequence.Phase.TheVariants as phase
 use Rattle.transformations.specs.declared.sequence.SeqRow.{SeqRow}
 use Rattle.cluster_metadata.proofs.MovementPlaces.{known_of, some_there}
-use Rattle.cluster_metadata.proofs.placement_maps.KeptCuts.{finish_keeps}
 use Rattle.cluster_metadata.specs.Change.{Follows, IsChange, Suits, changed}
 use Rattle.cluster_metadata.specs.MapSteps.{MapSteps, MovesBy, deltas_of, no_deltas}
 use Rattle.cluster_metadata.specs.declared.change.Change.{Change}
@@ -107,10 +103,9 @@ map_steps image c change valid formed accepted makes = by c change makes.suits f
               (subst (λ (o : Option SeqRow). CutsChange image after None (unless_mid o)) (sym suits ∙ here) (cuts_by image after (Cancel n) valid formed accepted made refl)));
         }
     by (Step goal.Finish kind n) (Finished at left tokens) suits formed accepted made follows =
-        let after : Image = changed image (Finished at left tokens) in (
-          λ s here. moves_by image after (Step goal.Finish kind n) valid formed accepted made refl (deltas_of (step_delta goal.Finish) image s) (step_moves image n at suits goal.Finish kind s here) refl,
-          λ s here none. finish_keeps image after kind n s valid.sound made (sym suits ∙ here) none,
-        )
+        λ s here.
+        moves_by image (changed image (Finished at left tokens)) (Step goal.Finish kind n) valid formed accepted made refl (deltas_of (step_delta goal.Finish) image s)
+        (step_moves image n at suits goal.Finish kind s here) refl
     by (Cancel n) (Ended at) suits formed accepted made follows =
         λ s here. moves_by image (changed image (Ended at)) (Cancel n) valid formed accepted made refl (deltas_of (cancel_delta s.phase) image s) (cancel_moves image n at suits s here) refl
     by c (Begun at plan rows) suits formed accepted made follows = begun c suits formed accepted made
@@ -120,9 +115,7 @@ map_steps image c change valid formed accepted makes = by c change makes.suits f
 
         prepared : (c : Command) → is_command c ≡ true → refusal_of image c ≡ None → after ≡ next_image image c → makes_movement_epoch c ≡ true
             → prepared_by image.tokens c ≡ Some plan.row → ((r : Replication) (x : ℤ) → delta_of_command image c r x ≡ no_deltas r x) → MapSteps image (Begun at plan rows)
-        prepared c formed accepted made epoch suits none =
-            let own : CutsChange image after (Some plan.row) (ended_by image c) = subst (λ (o : Option SeqRow). CutsChange image after o (ended_by image c)) suits (cuts_by image after c valid formed accepted made epoch) in
-            (moves_by image after c valid formed accepted made epoch no_deltas none refl, λ empty. own ∙ ap (λ (ps : List Pair). put_all int_cmp (tokens_of ps) (cuts image)) empty)
+        prepared c formed accepted made epoch suits none = moves_by image after c valid formed accepted made epoch no_deltas none refl
 
         begun : (c : Command) → prepared_by image.tokens c ≡ Some plan.row → is_command c ≡ true → refusal_of image c ≡ None → after ≡ next_image image c → MapSteps image (Begun at plan rows)
         begun (PrepareJoin n tokens) suits formed accepted made = prepared (PrepareJoin n tokens) formed accepted made refl suits (λ r x. refl)

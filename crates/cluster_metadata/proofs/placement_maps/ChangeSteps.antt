@@ -12,8 +12,8 @@ use Rattle.transformations.specs.declared.sequence.Phase.{Phase}
 use Rattle.transformations.specs.declared.sequence.Phase.TheVariants as phase
 use Rattle.transformations.specs.declared.sequence.SeqRow.{SeqRow}
 use Rattle.cluster_metadata.proofs.MovementPlaces.{known_of, some_there}
-use Rattle.cluster_metadata.specs.Change.{BringsPlan, Follows, HasCuts, StandsAt, changed}
-use Rattle.cluster_metadata.specs.MapSteps.{MapSteps, MovesAt, MovesBy, MovesOf, Stays, StaysWithout, no_deltas}
+use Rattle.cluster_metadata.specs.Change.{BringsPlan, Follows, StandsAt, changed}
+use Rattle.cluster_metadata.specs.MapSteps.{MapSteps, MovesAt, MovesBy, MovesOf, Stays, no_deltas}
 use Rattle.cluster_metadata.specs.declared.change.Change.{Change}
 use Rattle.cluster_metadata.specs.declared.change.Change.TheVariants.{Registered, Unregistered, Begun, Started, Mid, Finished, Ended, BroughtBack}
 use Rattle.cluster_metadata.specs.declared.leaving.LeftRow.{LeftRow}
@@ -75,23 +75,14 @@ module _ (image : Image) (change : Change) (at : ℕ) where
 
   module _ (rows : List SeqRow) where
     pub begun_moves : (plan : Plan) → change ≡ Begun at plan rows → MapSteps image change → MovesBy image (changed image change) no_deltas
-    begun_moves plan is steps = subst (λ c. MapSteps image c → MovesBy image (changed image c) no_deltas) (sym is) (λ s. s.0) steps
-
-    pub begun_stays : (plan : Plan) → change ≡ Begun at plan rows → MapSteps image change → plan.row.in_pairs ≡ [] → cuts (changed image change) ≡ cuts image
-    begun_stays plan is steps = subst (λ c. MapSteps image c → plan.row.in_pairs ≡ [] → cuts (changed image c) ≡ cuts image) (sym is) (λ s. s.1) steps
+    begun_moves plan is steps = subst (λ c. MapSteps image c → MovesBy image (changed image c) no_deltas) (sym is) (λ s. s) steps
 
     pub begun_deltas : (plan : Plan) → change ≡ Begun at plan rows → BringsPlan image change → HasDeltas (changed image change) plan
     begun_deltas plan is brings = subst (λ (ch : Change). HasDeltas (changed image ch) plan) (sym is) (subst (BringsPlan image) is brings).0
-
-    pub begun_cuts : (plan : Plan) → change ≡ Begun at plan rows → BringsPlan image change → HasCuts (changed image change) plan
-    begun_cuts plan is brings = subst (λ (ch : Change). HasCuts (changed image ch) plan) (sym is) (subst (BringsPlan image) is brings).2
 
   module _ (left : Option LeftRow) (tokens : List Pair) where
     pub finished_at : change ≡ Finished at left tokens → Follows image.sequences change → IsAt phase.Mid
     finished_at is follows = subst (λ c. Follows image.sequences c → IsAt phase.Mid) (sym is) (is_at phase.Mid) follows
 
     pub finished_moves : change ≡ Finished at left tokens → MapSteps image change → MovesOf image (changed image change) at (λ s. step_delta goal.Finish)
-    finished_moves is steps = subst (λ c. MapSteps image c → MovesOf image (changed image c) at (λ s. step_delta goal.Finish)) (sym is) (λ s. s.0) steps
-
-    pub finished_stays : change ≡ Finished at left tokens → MapSteps image change → StaysWithout image (changed image change) at
-    finished_stays is steps = subst (λ c. MapSteps image c → StaysWithout image (changed image c) at) (sym is) (λ s. s.1) steps
+    finished_moves is steps = subst (λ c. MapSteps image c → MovesOf image (changed image c) at (λ s. step_delta goal.Finish)) (sym is) (λ s. s) steps

@@ -73,22 +73,3 @@ no_maps image change pairs is none book are = subst (λ c. AreMaps (changed imag
     by : (book : List MapRow) → AreMaps image book → AreMaps (changed image (Tokens pairs)) book
     by [] are = record { replications = are.replications; placements = tt }
     by (row ∷ book) are = cc (are.replications ∙ ap replications_of none)
-
--- a change of the keyspaces keeps the maps of replications
-pub known_maps : (image : Image) (change : Change) (rows : List KeyspaceRow) (book : List MapRow) → change ≡ Keyspaces rows → AreMaps image book → AllByRecursion (IsMapOf (changed image change)) book
-unfolding reads_at writes_at
-known_maps image change rows book is are = subst (λ c. AllByRecursion (IsMapOf (changed image c)) book) (sym is) (each book are.placements)
-  where
-    each : (book : List MapRow) → AllByRecursion (IsMapOf image) book → AllByRecursion (IsMapOf (changed image (Keyspaces rows))) book
-    each [] all = tt
-    each (row ∷ book) all = ((all.0.0, all.0.1), each book all.1)
-
--- where the keyspaces change and their replications stay, so do the maps
-pub kept_maps : (image : Image) (change : Change) (rows : List KeyspaceRow) (own : List MapRow) → change ≡ Keyspaces rows → AreMaps image own → map (λ (row : MapRow). row.replication) own ≡ replications_of rows
-    → BringsMaps image change Keep
-kept_maps image change rows own is has fits =
-    made_from image change Keep own has
-    (record {
-      replications = fits ∙ ap (λ c. replications_of (changed image c).keyspaces) (sym is);
-      placements = known_maps image change rows own is has;
-    })

@@ -94,22 +94,6 @@ module _ (image : Image) (r : Replication) where
   pub is_map : AllByRecursion IsToken (cuts image) → IsPlacementMap (placement_rows image r)
   is_map tokens = ranges_map (λ x. (reads_at image r x, writes_at image r x)) (cuts image) (cuts_ascend image) tokens
 
-  -- its cuts are those of the image
-  cuts_from : (left : Option ℤ) (ends : List ℤ) → cuts_of (map (placement_row image r) (rows_from left ends)) ≡ ends
-  cuts_from left [] = by (is_last left)
-    where
-      by : (b : Bool) → cuts_of (map (placement_row image r) (if b then [] else (record { left = left; right = Max }) ∷ [])) ≡ []
-      by true = refl
-      by false = refl
-  cuts_from left (cut ∷ ends) = ap (λ l. cut ∷ l) (cuts_from (Some cut) ends)
-
-  pub same_cuts : cuts_of (placement_rows image r) ≡ cuts image
-  same_cuts = cuts_from None (cuts image)
-
-  -- it has a row for each row between cuts, and so at least one
-  pub row_count : length (placement_rows image r) ≡ length (rows_between (cuts image))
-  row_count = length-map (rows_between (cuts image)) (placement_row image r)
-
 some_from : (ends : List ℤ) → 1 ≤ length (rows_between ends)
 some_from [] = omega arith
 some_from (cut ∷ ends) = omega arith

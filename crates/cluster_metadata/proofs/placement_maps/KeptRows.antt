@@ -14,7 +14,7 @@ use Rattle.range_placements.proofs.MapRows.{rows_tell}
 use Rattle.range_placements.specs.Changing.{row_changed}
 use Rattle.range_placements.specs.Placements.{IsPlacementMap, map_at, placement_in, right_ends}
 use Rattle.range_placements.specs.declared.placement_row.PlacementRow.{PlacementRow}
-use Rattle.cluster_metadata.specs.Turns.{HasEnds, Keeps, each_map, recut_rows, row_to, turned, turned_at, turned_rows}
+use Rattle.cluster_metadata.specs.Turns.{Keeps, recut_rows, row_to, turned, turned_at, turned_rows}
 use Rattle.range_placements.specs.declared.map_row.MapRow.{MapRow}
 use Rattle.cluster_metadata.specs.declared.turn.Turn.{Turn}
 use Rattle.cluster_metadata.specs.declared.turn.Turn.TheVariants.{Keep}
@@ -59,33 +59,7 @@ module _ (turn : Turn) (rows : List PlacementRow) (delta : List DeltaRow) where
       sym (take-take count m (drop at rows) few)
       ∙ kept_told (take count run) ranges (all_taken P count run (all_taken P m (drop at rows) (all_dropped P at rows (rows_tell rows is_map)))) first ends
 
-  -- where the ranges of a map stay, its rows are turned
-  pub ends_turned : (ranges : List TokenRange) → IsPlacementMap rows → right_ends rows ≡ map (λ range. range.right) ranges → turned_rows turn rows delta ≡ recut_rows turn ranges rows delta
-  ends_turned ranges is_map ends =
-      turned_up_to rows (rows_tell rows is_map) ∙ ap (λ rights. map row_up_to rights) ends ∙ map-map row_up_to (λ (range : TokenRange). range.right) ranges
-
 -- a turn that keeps the sets keeps the rows
 pub kept_turned : (rows : List PlacementRow) (delta : List DeltaRow) → Keeps Keep delta rows
 kept_turned [] delta = refl
 kept_turned (row ∷ rows) delta = ap (λ l. row ∷ l) (kept_turned rows delta)
-
--- where the ranges of all maps of a book stay, their rows are turned, or kept
-module _ (turn : Turn) (ranges : List TokenRange) where
-  pub book_turned : (book : List MapRow) (deltas : List DeltaBookRow) → AllByRecursion (HasEnds ranges) book → each_map (turned_rows turn) book deltas ≡ each_map (recut_rows turn ranges) book deltas
-  book_turned [] deltas all = refl
-  book_turned (row ∷ book) [] all = refl
-  book_turned (row ∷ book) (d ∷ deltas) all =
-      let rows = ends_turned turn row.map d.delta ranges all.0.0 all.0.1 in
-      let rest = book_turned book deltas all.1 in
-      λ i. (record { replication = row.replication; map = rows i }) ∷ rest i
-
-pub book_kept : (ranges : List TokenRange) (book : List MapRow) (deltas : List DeltaBookRow) → AllByRecursion (HasEnds ranges) book → length book ≡ length deltas → book ≡ each_map (recut_rows Keep ranges) book deltas
-book_kept ranges book deltas all same = sym (each book deltas same) ∙ book_turned Keep ranges book deltas all
-  where
-    each : (book : List MapRow) (deltas : List DeltaBookRow) → length book ≡ length deltas → each_map (turned_rows Keep) book deltas ≡ book
-    each [] deltas same = refl
-    each (row ∷ book) [] same = absurd (omega (arith, same))
-    each (row ∷ book) (d ∷ deltas) same =
-        let rows = kept_turned row.map d.delta in
-        let rest = each book deltas (omega (arith, same)) in
-        λ i. (record { replication = row.replication; map = rows i }) ∷ rest i

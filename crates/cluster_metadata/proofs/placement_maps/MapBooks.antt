@@ -22,7 +22,7 @@ use Rattle.sequence_plans.specs.declared.placer.Placer.{Placer}
 use Rattle.transformations.specs.Rings.{cuts, high_ring, low_ring, read_ring, reads_at, writes_at}
 use Rattle.transformations.specs.declared.image.Image.{Image}
 use Rattle.transformations.specs.declared.keyspace.KeyspaceRow.{KeyspaceRow}
-use Rattle.cluster_metadata.proofs.placement_maps.ImageMaps.{row_count, served_at, some_row}
+use Rattle.cluster_metadata.proofs.placement_maps.ImageMaps.{served_at, some_row}
 use Rattle.cluster_metadata.proofs.LockLemmas.{any_replications}
 use Rattle.cluster_metadata.specs.MapBasis.{AreRings, PlaceOnRings, row_placed}
 use Rattle.cluster_metadata.specs.Maps.{AreMaps, IsMapOf, placement_row, placement_rows}
@@ -61,17 +61,6 @@ module _ (image : Image) (rings : Rings) (nodes : List NodeRow) (r : Replication
 pub any_row : (r : Replication) (book : List MapRow) → list_any (λ (row : MapRow). same_replication row.replication r) book ≡ list_any (λ q. same_replication q r) (map (λ (row : MapRow). row.replication) book)
 any_row r [] = refl
 any_row r (row ∷ book) = ap (λ b. same_replication row.replication r || b) (any_row r book)
-
--- the first maps with the one after them
-pub one_more : (book : List MapRow) (n : ℕ) (r : Replication) → option_map (λ (row : MapRow). row.replication) (slice_get book n) ≡ Some r
-    → (n < length book) × (map (λ (row : MapRow). row.replication) (take (suc n) book) ≡ map (λ (row : MapRow). row.replication) (take n book) ++ r ∷ [])
-one_more [] n r here = cc here
-one_more (row ∷ book) zero r here =
-    let own : row.replication ≡ r = cc here in
-    (omega arith, ap (λ q. q ∷ []) own)
-one_more (row ∷ book) (suc n) r here =
-    let rest = one_more book n r here in
-    (omega arith, ap (λ l. row.replication ∷ l) rest.1)
 
 -- ---- the map of a replication
 
@@ -135,15 +124,6 @@ few_found image name x rows le few found = by (keyspace_of image name) found
     by (Some k) found =
         let same : rows ≡ placement_rows image k.replication = cc found in
         subst (λ (p : List ℕ × List ℕ). length p.1 ≤ 1024) (sym (ap (λ l. map_at l x) same ∙ served_at image k.replication x le)) (few k.replication x)
-
-pub count_found : (image : Image) (name : List ℕ) (rows : List PlacementRow) → IsMapFor image name rows → length rows ≡ length (rows_between (cuts image))
-count_found image name rows found = by (keyspace_of image name) found
-  where
-    by : (o : Option KeyspaceRow) → Some rows ≡ option_map (λ (k : KeyspaceRow). placement_rows image k.replication) o → length rows ≡ length (rows_between (cuts image))
-    by None found = cc
-    by (Some k) found =
-        let same : rows ≡ placement_rows image k.replication = cc found in
-        ap length same ∙ row_count image k.replication
 
 -- no step costs less than the search in any map
 pub no_step : (image : Image) (steps : ℕ) → 2 ^ (steps - steps) ≤ 2 * length (rows_between (cuts image))

@@ -31,7 +31,7 @@ use Rattle.cluster_metadata.proofs.placement_maps.ExchangedMaps.{same_count}
 use Rattle.cluster_metadata.proofs.placement_maps.ImageMaps.{served_at}
 use Rattle.cluster_metadata.proofs.RunningLemmas.{place_within, value_at}
 use Rattle.cluster_metadata.specs.MapChanges.{each_exchanged, maps_after}
-use Rattle.cluster_metadata.specs.MapSteps.{MovesAt, MovesBy, MovesOf, Stays, StaysWithout, deltas_of, no_deltas}
+use Rattle.cluster_metadata.specs.MapSteps.{MovesAt, MovesBy, MovesOf, Stays, deltas_of, no_deltas}
 use Rattle.cluster_metadata.specs.Maps.{AreMaps, IsMapOf, placement_row, placement_rows}
 use Rattle.cluster_metadata.specs.Running.{HaveDeltas, IsRunning, movement_row, phase_of, plan_of}
 use Rattle.cluster_metadata.specs.Served.{served_by}
@@ -234,9 +234,6 @@ module _ (image : Image) (book : List MapRow) (running : List Running) (at : ℕ
       (maps_turned image after (gained_by image plan.row) (lost_by image plan.row) (deltas_of (cancel_delta phase.Mid) image plan.row) ReadsBack (back_turns image plan.row) book plan.swap steps.cuts
       (moved after (λ s. cancel_delta phase.Mid) steps.moves) are held.swaps)
 
-  pub stays : (after : Image) → StaysWithout image after at → plan.row.out_pairs ≡ [] → cuts after ≡ cuts image
-  stays after steps none = steps s stands (ap (λ (q : SeqRow). q.out_pairs) (sym own) ∙ none)
-
   pub end_maps : (after : Image) (made : MapChange) → RecutsAll (undoing (phase_of m)) (rows_between (cuts after)) book plan.gain made → is_mid s.phase ≡ false → AllByRecursion IsToken (cuts after)
       → MovesOf image after at (λ s. cancel_delta s.phase) → AreMaps after (maps_after made book)
   end_maps after made sets early tokens moves =
@@ -246,17 +243,12 @@ module _ (image : Image) (book : List MapRow) (running : List Running) (at : ℕ
       (maps_recut image after (gained_by image plan.row) no_nodes (deltas_of (cancel_delta s.phase) image plan.row) (undoing s.phase) (λ r. undo_turns image plan.row r s.phase early) book plan.gain tokens
       (moved after (λ s. cancel_delta s.phase) moves) are held.gains))
 
--- a movement is finished: where the cuts stay, only sets change
-module _ (image after : Image) (book : List MapRow) (plan : Plan) (are : AreMaps image book) (held : HasDeltas image plan) (moves : MovesBy image after (deltas_of (step_delta goal.Finish) image plan.row)) where
-  pub finish_sets : (changes : List (List RowChange)) → SetsTurned book Writes changes plan.lose → cuts after ≡ cuts image → AreMaps after (each_exchanged changes book)
-  finish_sets changes sets same =
+  pub finish_maps : (after : Image) (made : MapChange) → RecutsAll Writes (rows_between (cuts after)) book plan.lose made → AllByRecursion IsToken (cuts after)
+      → MovesOf image after at (λ s. step_delta goal.Finish) → AreMaps after (maps_after made book)
+  finish_maps after made sets tokens moves =
       subst (AreMaps after) (sym (sets (same_count image book plan.lose no_nodes (lost_by image plan.row) are held.loses)))
-      (maps_turned image after no_nodes (lost_by image plan.row) (deltas_of (step_delta goal.Finish) image plan.row) Writes (finish_turns image plan.row) book plan.lose same moves are held.loses)
-
-  pub finish_maps : (made : MapChange) → RecutsAll Writes (rows_between (cuts after)) book plan.lose made → AllByRecursion IsToken (cuts after) → AreMaps after (maps_after made book)
-  finish_maps made sets tokens =
-      subst (AreMaps after) (sym (sets (same_count image book plan.lose no_nodes (lost_by image plan.row) are held.loses)))
-      (maps_recut image after no_nodes (lost_by image plan.row) (deltas_of (step_delta goal.Finish) image plan.row) Writes (finish_turns image plan.row) book plan.lose tokens moves are held.loses)
+      (maps_recut image after no_nodes (lost_by image plan.row) (deltas_of (step_delta goal.Finish) image plan.row) Writes (finish_turns image plan.row) book plan.lose tokens
+      (moved after (λ s. step_delta goal.Finish) moves) are held.loses)
 
 -- a movement that begins changes no set
 pub begin_maps : (image after : Image) (book : List MapRow) (gained lost : Replication → ℤ → List ℕ) (deltas : List DeltaBookRow) (made : MapChange) → RecutsAll Keep (rows_between (cuts after)) book deltas made

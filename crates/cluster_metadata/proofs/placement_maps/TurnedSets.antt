@@ -29,7 +29,3 @@ module _ (turn : Turn) (delta : List DeltaRow) (at : ℕ) (row : PlacementRow) (
       (ap (λ (n : ℕ). with_nodes_at n nodes (done ++ row ∷ rest)) (sym here)
       ∙ nodes_at nodes done row rest
       ∙ ap (λ (r : PlacementRow). done ++ r ∷ rest) sets)
-
-  -- a row that the turn keeps
-  pub turned_kept : row ≡ row_changed (turned turn) delta row → AddsTurned turn delta at row changes changes
-  turned_kept sets done rest here = ap (λ (r : PlacementRow). with_changes changes (done ++ r ∷ rest)) sets

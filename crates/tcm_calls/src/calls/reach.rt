@@ -3,7 +3,7 @@
 use crate::calls::name_of;
 use cluster_terms::{NodeId, NodeRow, Pair, Replication, Token};
 use node_directory::Directory;
-use ring_reach::{any_shape_differs, shape_differs};
+use ring_reach::shape_differs;
 use std::alloc::Global;
 use std::test::Fail;
 use token_ring::Ring;
@@ -16,18 +16,18 @@ const NODES: [(u32, &str, &str, &str); 4] = [
     (4, "d", "dc2", "r1"),
 ];
 
-/// A replication, the nodes of the fixed ring, the nodes of the widest set, a node, whether the shape of a group with
-/// this node differs between the two, and whether that of any group does.
-const SHAPES: [(&str, &[u32], &[u32], u32, bool, bool); 9] = [
-    ("simple 2", &[1], &[1, 2], 1, true, true),
-    ("simple 2", &[1], &[1, 2], 5, true, true),
-    ("simple 1", &[1], &[1, 2], 1, false, false),
-    ("topology dc1:2", &[1, 2], &[1, 2, 3], 1, true, true),
-    ("topology dc1:2", &[1, 3], &[1, 2, 3], 2, false, false),
-    ("topology dc1:2", &[1], &[1, 4], 1, false, false),
-    ("topology dc1:1 dc2:1", &[1], &[1, 4], 1, false, true),
-    ("topology dc1:1 dc2:1", &[1], &[1, 4], 4, true, true),
-    ("topology dc1:1 dc2:1", &[1], &[1, 4], 5, false, true),
+/// A replication, the nodes of the fixed ring, the nodes of the widest set, a node, and whether the shape of a group with
+/// this node differs between the two.
+const SHAPES: [(&str, &[u32], &[u32], u32, bool); 9] = [
+    ("simple 2", &[1], &[1, 2], 1, true),
+    ("simple 2", &[1], &[1, 2], 5, true),
+    ("simple 1", &[1], &[1, 2], 1, false),
+    ("topology dc1:2", &[1, 2], &[1, 2, 3], 1, true),
+    ("topology dc1:2", &[1, 3], &[1, 2, 3], 2, false),
+    ("topology dc1:2", &[1], &[1, 4], 1, false),
+    ("topology dc1:1 dc2:1", &[1], &[1, 4], 1, false),
+    ("topology dc1:1 dc2:1", &[1], &[1, 4], 4, true),
+    ("topology dc1:1 dc2:1", &[1], &[1, 4], 5, false),
 ];
 
 fn directory(alloc: Global) -> Result<Directory, Fail> {
@@ -62,15 +62,13 @@ fn shapes_of_groups(rt: HostRuntime) -> Result<(), Fail> {
     let alloc = rt.alloc();
     let dir = directory(alloc)?;
     for row in &SHAPES {
-        let (text, fixed, widest, node, wanted, any) = *row;
+        let (text, fixed, widest, node, wanted) = *row;
         let asked = Replication::parse(alloc, text)?.ok_or(text)?;
         let fixed = pairs_of(alloc, fixed)?;
         let fixed = Ring::from_pairs(alloc, &fixed)?.ok_or("a token comes twice")?;
         let widest = pairs_of(alloc, widest)?;
         let found = shape_differs(&fixed, &widest, &dir, &asked, NodeId(node));
         assert_eq!(rt; found, wanted, "{text}, node {node}");
-        let found = any_shape_differs(&fixed, &widest, &dir, &asked);
-        assert_eq!(rt; found, any, "{text}");
     }
     Ok(())
 }

@@ -1,11 +1,7 @@
 //! The kinds of answers, and how many answers are of a kind.
 
-ghost use Rattle.std.specs.Prelude.{◌≡◌, ◌≤◌, filter, length, map, IfOk};
+ghost use Rattle.std.specs.Prelude.{◌≡◌, ◌≤◌, filter, length, map};
 ghost use Rattle.tcm_session.specs.Generated as spec;
-ghost use Rattle.tcm_session.specs.RefusedKinds.{is_refusal};
-
-use cluster_terms::Memory;
-use std::alloc::Global;
 
 /// The kind of an answer.
 #[derive(Clone, Copy, Debug, PartialEq, Eq)]
@@ -81,25 +77,6 @@ fn is_accepted(kind: &AnswerKind) -> bool
     ensures { result ≡ spec.is_accepted kind.now }
 {
     matches!(kind, AnswerKind::Accepted)
-}
-
-/// Whether a commit is refused.
-fn is_refusal(kind: &AnswerKind) -> bool
-    ensures { result ≡ is_refusal kind.now }
-{
-    matches!(kind, AnswerKind::Refused(_))
-}
-
-/// The kinds of the refused commits, in their order. Fails only if memory runs out.
-pub fn refusals_in(alloc: Global, kinds: &[AnswerKind]) -> Result<Vec<AnswerKind>, Memory>
-    ensures { IfOk result (λ refusals. refusals.items ≡ filter is_refusal kinds.now) }
-{
-    let refusals = kinds
-        .iter()
-        .filter(|kind| is_refusal(kind))
-        .copied()
-        .collect(alloc)?;
-    Ok(refusals)
 }
 
 /// Whether a commit is refused with the refusal of this number.

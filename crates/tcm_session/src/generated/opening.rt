@@ -5,31 +5,27 @@ ghost use Rattle.tcm_session.specs.Generated.{after_line, after_lines};
 ghost use Rattle.tcm_session.specs.GeneratedLines as spec;
 
 use super::generation::Generation;
-use super::line_texts::LineTexts;
 use cluster_terms::{Memory, Token};
+use std::alloc::Global;
 
 /// Registers node `i`, from 1 to 24. Odd nodes are in dc1, and even nodes in dc2. Nodes 1 and 2 are in rack r1, 3 and 4
 /// in r2, 5 and 6 in r3, 7 and 8 in r1 again, and so on.
-fn register_node(generation: &mut Generation, texts: &mut LineTexts, i: u64) -> Result<(), Memory>
+fn register_node(generation: &mut Generation, alloc: Global, i: u64) -> Result<(), Memory>
     requires first { 1 ≤ i }
     requires last { i ≤ 24 }
     ensures { OnOk result (generation.new ≡ after_line generation.old (spec.register_line i)) }
 {
-    generation.register(texts, i, b"n", i, 2 - i % 2, (i - 1) / 2 % 3 + 1)
+    generation.register(alloc, i, b"n", i, 2 - i % 2, (i - 1) / 2 % 3 + 1)
 }
 
 /// Registers the nodes 1 to `count`.
-fn register_nodes(
-    generation: &mut Generation,
-    texts: &mut LineTexts,
-    count: u64,
-) -> Result<(), Memory>
+fn register_nodes(generation: &mut Generation, alloc: Global, count: u64) -> Result<(), Memory>
     requires { count ≤ 24 }
     ensures { OnOk result (generation.new ≡ after_lines generation.old (spec.register_lines count)) }
 {
     let mut i = 1;
     while i <= count {
-        register_node(generation, texts, i)?;
+        register_node(generation, alloc, i)?;
         i += 1;
     }
     Ok(())
@@ -46,22 +42,22 @@ fn opening_token(i: u64) -> Token
 }
 
 /// Joins node `i`.
-fn join_node(generation: &mut Generation, texts: &mut LineTexts, i: u64) -> Result<(), Memory>
+fn join_node(generation: &mut Generation, alloc: Global, i: u64) -> Result<(), Memory>
     requires first { 1 ≤ i }
     requires last { i ≤ 24 }
     ensures { OnOk result (generation.new ≡ after_line generation.old (spec.join_line i)) }
 {
-    generation.commit_token(texts, 24 + i, b"unsafe-join", i, opening_token(i))
+    generation.commit_token(alloc, 24 + i, b"unsafe-join", i, opening_token(i))
 }
 
 /// Joins the nodes 1 to `count`.
-fn join_nodes(generation: &mut Generation, texts: &mut LineTexts, count: u64) -> Result<(), Memory>
+fn join_nodes(generation: &mut Generation, alloc: Global, count: u64) -> Result<(), Memory>
     requires { count ≤ 24 }
     ensures { OnOk result (generation.new ≡ after_lines generation.old (spec.join_lines count)) }
 {
     let mut i = 1;
     while i <= count {
-        join_node(generation, texts, i)?;
+        join_node(generation, alloc, i)?;
         i += 1;
     }
     Ok(())
@@ -69,28 +65,20 @@ fn join_nodes(generation: &mut Generation, texts: &mut LineTexts, count: u64) ->
 
 /// Makes two keyspaces and a follower.
 #[tactic(auto, unfolding(crate::specs::GeneratedLines::keyspace_lines))]
-fn make_keyspaces(generation: &mut Generation, texts: &mut LineTexts) -> Result<(), Memory>
+fn make_keyspaces(generation: &mut Generation, alloc: Global) -> Result<(), Memory>
     ensures { OnOk result (generation.new ≡ after_lines generation.old spec.keyspace_lines) }
 {
-    generation.answer(
-        texts.alloc,
-        b"commit 49 keyspace ks simple 3",
-        &mut texts.answer,
-    )?;
-    generation.answer(
-        texts.alloc,
-        b"commit 50 keyspace kt topology dc1:2 dc2:2",
-        &mut texts.answer,
-    )?;
-    generation.answer(texts.alloc, b"follower f", &mut texts.answer)
+    generation.answer(alloc, b"commit 49 keyspace ks simple 3")?;
+    generation.answer(alloc, b"commit 50 keyspace kt topology dc1:2 dc2:2")?;
+    generation.answer(alloc, b"follower f")
 }
 
 /// Answers the lines of the opening.
-pub fn open(generation: &mut Generation, texts: &mut LineTexts) -> Result<(), Memory>
+pub fn open(generation: &mut Generation, alloc: Global) -> Result<(), Memory>
     ensures { OnOk result (generation.new ≡ after_lines generation.old spec.opening_lines) }
 {
-    register_nodes(generation, texts, 24)?;
-    join_nodes(generation, texts, 24)?;
-    make_keyspaces(generation, texts)?;
-    generation.deliver_down(texts, 0, 50)
+    register_nodes(generation, alloc, 24)?;
+    join_nodes(generation, alloc, 24)?;
+    make_keyspaces(generation, alloc)?;
+    generation.deliver_down(alloc, 0, 50)
 }

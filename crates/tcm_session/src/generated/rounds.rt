@@ -6,8 +6,8 @@ ghost use Rattle.tcm_session.specs.GeneratedLines as spec;
 
 use super::draw::{drawn, drawn_token};
 use super::generation::Generation;
-use super::line_texts::LineTexts;
 use cluster_terms::Memory;
+use std::alloc::Global;
 
 /// The words of the steps in which a node joins and leaves again, once its join is prepared.
 const STEP_WORDS: [&[u8]; 8] = [
@@ -24,7 +24,7 @@ const STEP_WORDS: [&[u8]; 8] = [
 /// Commits each of these words on a node and on the next one, with ids from `first` on.
 fn commit_steps(
     generation: &mut Generation,
-    texts: &mut LineTexts,
+    alloc: Global,
     first: u64,
     node: u64,
     words: &[&[u8]],
@@ -37,20 +37,15 @@ fn commit_steps(
 {
     let mut id = first;
     for word in words {
-        generation.commit_node(texts, id, word, node)?;
-        generation.commit_node(texts, id + 1, word, node + 1)?;
+        generation.commit_node(alloc, id, word, node)?;
+        generation.commit_node(alloc, id + 1, word, node + 1)?;
         id += 2;
     }
     Ok(())
 }
 
 /// Answers the commits of round `j`, whose tokens are drawn after `s`.
-fn commit_round(
-    generation: &mut Generation,
-    texts: &mut LineTexts,
-    s: u64,
-    j: u64,
-) -> Result<(), Memory>
+fn commit_round(generation: &mut Generation, alloc: Global, s: u64, j: u64) -> Result<(), Memory>
     requires draw { s < 2 ^ 31 }
     requires round { j ≤ 3000 }
     ensures { OnOk result (generation.new ≡ after_lines generation.old (spec.round_commits s j)) }
@@ -59,41 +54,36 @@ fn commit_round(
     let node = 23 + 2 * j;
     let first = drawn(s);
     let second = drawn(first);
-    generation.register(texts, id, b"a", j, 1, 1)?;
-    generation.register(texts, id + 1, b"b", j, 2, 2)?;
-    generation.commit_token(texts, id + 2, b"prepare-join", node, drawn_token(first))?;
+    generation.register(alloc, id, b"a", j, 1, 1)?;
+    generation.register(alloc, id + 1, b"b", j, 2, 2)?;
+    generation.commit_token(alloc, id + 2, b"prepare-join", node, drawn_token(first))?;
     generation.commit_token(
-        texts,
+        alloc,
         id + 3,
         b"prepare-join",
         node + 1,
         drawn_token(second),
     )?;
-    commit_steps(generation, texts, id + 4, node, &STEP_WORDS)
+    commit_steps(generation, alloc, id + 4, node, &STEP_WORDS)
 }
 
 /// Answers the lines of round `j`: its commits, and the deliveries of the epochs that they commit.
-fn run_round(
-    generation: &mut Generation,
-    texts: &mut LineTexts,
-    s: u64,
-    j: u64,
-) -> Result<(), Memory>
+fn run_round(generation: &mut Generation, alloc: Global, s: u64, j: u64) -> Result<(), Memory>
     requires draw { s < 2 ^ 31 }
     requires round { j ≤ 3000 }
     ensures { OnOk result (generation.new
         ≡ after_lines generation.old (spec.round_lines generation.old.session s j)) }
 {
     let before = generation.session.last_epoch();
-    commit_round(generation, texts, s, j)?;
+    commit_round(generation, alloc, s, j)?;
     let last = generation.session.last_epoch();
-    generation.deliver_down(texts, before, last)
+    generation.deliver_down(alloc, before, last)
 }
 
 /// Answers the lines of the rounds 1 to `rounds`, whose tokens are drawn after `first`.
 pub fn run_rounds(
     generation: &mut Generation,
-    texts: &mut LineTexts,
+    alloc: Global,
     first: u64,
     rounds: u64,
 ) -> Result<(), Memory>
@@ -105,7 +95,7 @@ pub fn run_rounds(
     let mut s = first;
     let mut j = 1;
     while j <= rounds {
-        run_round(generation, texts, s, j)?;
+        run_round(generation, alloc, s, j)?;
         s = drawn(drawn(s));
         j += 1;
     }

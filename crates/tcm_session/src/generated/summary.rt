@@ -6,8 +6,7 @@ ghost use Rattle.tcm_session.specs.Generated as spec;
 
 use super::draw::DRAW_LIMIT;
 use super::generation::Generation;
-use super::kinds::{AnswerKind, accepted_count, refusals_in, refused_count};
-use super::line_texts::LineTexts;
+use super::kinds::{AnswerKind, accepted_count, refused_count};
 use super::opening::open;
 use super::rounds::run_rounds;
 use cluster_terms::{ByteText, Memory};
@@ -50,23 +49,22 @@ fn refused_lines(kinds: &[AnswerKind], last: u8, out: &mut ByteText) -> Result<(
     Ok(())
 }
 
-/// Adds the counts of the lines and of the answers. The refusals are counted among the refused commits alone.
-#[tactic(auto, using(crate::proofs::GeneratedLemmas::lines_of_refusals), unfolding(crate::specs::Generated::answers_text))]
-fn answers_text(alloc: Global, kinds: &[AnswerKind], out: &mut ByteText) -> Result<(), Memory>
+/// Adds the counts of the lines and of the answers.
+#[tactic(auto, unfolding(crate::specs::Generated::answers_text))]
+fn answers_text(kinds: &[AnswerKind], out: &mut ByteText) -> Result<(), Memory>
     ensures { OnOk result (out.new ≡ out.old ++ spec.answers_text kinds.now) }
 {
     count_line(b"LINES ", kinds.len() as u64, out)?;
     count_line(b"OK ", accepted_count(kinds), out)?;
-    let refusals = refusals_in(alloc, kinds)?;
-    refused_lines(refusals.as_slice(), LAST_REFUSAL, out)
+    refused_lines(kinds, LAST_REFUSAL, out)
 }
 
 /// Adds the counts of the lines and of the answers, the last epoch, and the epoch of follower f.
 #[tactic(auto, unfolding(crate::specs::Generated::counts_text))]
-fn counts_text(alloc: Global, generation: &Generation, out: &mut ByteText) -> Result<(), Memory>
+fn counts_text(generation: &Generation, out: &mut ByteText) -> Result<(), Memory>
     ensures { OnOk result (out.new ≡ out.old ++ spec.counts_text generation.now) }
 {
-    answers_text(alloc, generation.kinds.as_slice(), out)?;
+    answers_text(generation.kinds.as_slice(), out)?;
     count_line(b"EPOCH ", generation.session.last_epoch(), out)?;
     count_line(b"FOLLOWER ", generation.session.follower_epoch("f"), out)
 }
@@ -83,7 +81,7 @@ fn head_text(start: u64, rounds: u64, out: &mut ByteText) -> Result<(), Memory>
 /// Answers the lines of the generated script.
 fn run_script(
     generation: &mut Generation,
-    texts: &mut LineTexts,
+    alloc: Global,
     start: u64,
     rounds: u64,
 ) -> Result<(), Memory>
@@ -91,8 +89,8 @@ fn run_script(
     requires rounds { rounds ≤ 3000 }
     ensures { OnOk result (generation.new ≡ spec.generation_of start rounds) }
 {
-    open(generation, texts)?;
-    run_rounds(generation, texts, start % DRAW_LIMIT, rounds)
+    open(generation, alloc)?;
+    run_rounds(generation, alloc, start % DRAW_LIMIT, rounds)
 }
 
 /// Answers the lines of the generated script, and returns the summary.
@@ -107,11 +105,10 @@ fn summary_of(
     requires rounds { rounds ≤ 3000 }
     ensures { IfOk result (λ text. text ≡ spec.summary start rounds) }
 {
-    let mut texts = LineTexts::with_room(alloc)?;
-    run_script(generation, &mut texts, start, rounds)?;
+    run_script(generation, alloc, start, rounds)?;
     let mut text = ByteText::empty(alloc);
     head_text(start, rounds, &mut text)?;
-    counts_text(alloc, generation, &mut text)?;
+    counts_text(generation, &mut text)?;
     Ok(text)
 }
 

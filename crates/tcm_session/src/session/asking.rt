@@ -3,12 +3,13 @@
 ghost use Rattle.std.specs.Prelude.{◌≡◌, ◌≤◌, ◌++◌, length, take, OnOk, IfOk};
 ghost use Rattle.transformations.specs.History.{state_after};
 ghost use Rattle.transformations.specs.Log.{commands_of};
-ghost use Rattle.tcm_session.specs.Machine.{follower_named, image_at, image_named, image_of, query_text};
+ghost use Rattle.tcm_session.specs.Machine as machine;
+ghost use Rattle.tcm_session.specs.Machine.{image_at, image_named, image_of, query_text};
 ghost use Rattle.tcm_session.specs.Steps.{OnlyAnswers};
 
 use super::Session;
 use crate::fault::StepFault;
-use crate::followers::place_of;
+use crate::followers::follower_named;
 use crate::query::{Query, answer_from};
 use cluster_metadata::Metadata;
 use cluster_terms::{ByteText, Memory, Name};
@@ -34,14 +35,13 @@ impl Session {
     /// Answers a query from the image of a follower. If memory runs out, `out` still begins with its old content.
     fn query_follower(&self, name: &Name, query: Query, out: &mut ByteText) -> Result<(), Memory>
         ensures text { OnOk result (out.new
-            ≡ out.old ++ query_text (image_named (follower_named self.now.followers name.now)) query) }
+            ≡ out.old ++ query_text (image_named (machine.follower_named self.now.followers name.now)) query) }
         ensures kept { take (length out.old) out.new ≡ out.old }
     {
-        let Some(place) = place_of(&self.followers, name) else {
-            return no_text(b"FOLLOWER", out);
-        };
-        let metadata = self.followers[place].follower.metadata();
-        answer_from(self.alloc, metadata, &query, out)
+        match follower_named(&self.followers, name.as_str()) {
+            Some(named) => answer_from(self.alloc, named.follower.metadata(), &query, out),
+            None => no_text(b"FOLLOWER", out),
+        }
     }
 
     /// Answers a query from the metadata at an epoch. If memory runs out, `out` still begins with its old content.

@@ -7,10 +7,10 @@ ghost use Rattle.transformations.specs.Log.{commands_of};
 ghost use Rattle.tcm_session.specs.Machine.{deliver_to, follower_named, follower_reply, image_at, on_follower, snapshot_to};
 ghost use Rattle.tcm_session.specs.Steps.{Alone};
 
-use super::handing_over::hand_on;
+use super::handing_over::hand_over;
 use super::{Session, past_last, refuse_line};
 use crate::fault::StepFault;
-use crate::followers::{MOST_FOLLOWERS, add_follower, answer_handed, place_of};
+use crate::followers::{MOST_FOLLOWERS, add_follower, answer_handed, is_taken, place_of};
 use cluster_terms::{ByteText, Memory, Name};
 use script_lang::epoch_text;
 use transformations::Image;
@@ -20,7 +20,7 @@ impl Session {
     pub(crate) fn make_follower(&mut self, name: Name, out: &mut ByteText) -> Result<(), StepFault>
         ensures steps { Alone None (follower_reply self.old name) self.old self.new out.old out.new result }
     {
-        if place_of(&self.followers, &name).is_some() {
+        if is_taken(&self.followers, name.as_str()) {
             return refuse_line(b"FOLLOWER-TAKEN", out);
         }
         if self.followers.len() >= MOST_FOLLOWERS {
@@ -50,7 +50,10 @@ impl Session {
             return past_last(self.log.last_epoch(), out);
         };
         let named = &mut self.followers[place];
-        hand_on(&self.log, &self.metadata, &mut named.follower, entry, out)
+        answer_handed(
+            hand_over(&self.log, &self.metadata, &mut named.follower, entry),
+            out,
+        )
     }
 
     /// Hands the image of an epoch to the follower with this name, and answers what became of it.

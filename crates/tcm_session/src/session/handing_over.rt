@@ -1,19 +1,14 @@
 //! An entry of the log is handed to a follower of the log.
 
-ghost use Rattle.std.specs.Prelude.{◌≡◌, ◌≤◌, true, length, Ok, IsFalse, IsTrue};
+ghost use Rattle.std.specs.Prelude.{◌≡◌, ◌≤◌, true, length, IsTrue};
 ghost use Rattle.std.specs.List.{Contains};
 ghost use Rattle.follower_log.specs.Follower.{Performs, hand_entry, lacks_only};
-ghost use Rattle.follower_log.specs.declared.took.Took.TheVariants as Took;
 ghost use Rattle.follower_log.specs.Prefix.{StandsAfter, StandsFor, Taken, with_entry};
 ghost use Rattle.transformations.specs.History.{empty_image, image_after, is_command, most_epochs};
 ghost use Rattle.transformations.specs.Log.{IsLog, commands_of};
-ghost use Rattle.tcm_session.specs.HandOn.{HandsOn};
 ghost use Rattle.tcm_session.specs.Steps.{FollowsLog};
 
-use crate::fault::StepFault;
-use crate::followers::{answer_handed, took_text};
 use cluster_metadata::Metadata;
-use cluster_terms::ByteText;
 use epoch_log::Log;
 use follower_log::{Follower, FollowerFault, Took};
 use transformations::{Entry, Image};
@@ -40,26 +35,6 @@ fn may_end(log: &Log, metadata: &Metadata, follower: &Follower, entry: &Entry) -
         && copies_sooner(metadata.as_image(), follower.waiting())
 }
 
-/// Brings a follower that lacks an entry of a log alone to the last epoch, where it takes over the metadata, if that is
-/// less work than to apply the entries, no movement is in flight, and there is memory for it. Returns whether it did;
-/// otherwise the follower stays as it is.
-fn ends_with(log: &Log, metadata: &Metadata, follower: &mut Follower, entry: &Entry) -> bool
-    requires log { IsLog log.now }
-    requires last { metadata.now ≡ image_after empty_image (commands_of log.now) }
-    requires among { Contains log.now entry.now }
-    ensures unchanged { IsFalse result → follower.new ≡ follower.old }
-    ensures step { IsTrue result → (taken : Taken) → StandsFor log.now taken follower.old
-        → Performs follower.old (hand_entry follower.old entry.now) (Ok (Took.At metadata.now.epoch)) follower.new }
-{
-    if !may_end(log, metadata, follower, entry) {
-        return false;
-    }
-    match follower.end_at(metadata) {
-        Ok(ended) => ended,
-        Err(_) => false,
-    }
-}
-
 /// Hands an entry of a log to a follower of this log; `metadata` is the metadata after all entries. A follower that
 /// lacks this entry alone comes to the last epoch: it takes over a copy of the metadata, if that is less work than to
 /// apply the entries, no movement is in flight, and there is memory for the copy.
@@ -79,33 +54,12 @@ pub fn hand_over(
     ensures shows { (taken : Taken) → StandsFor log.now taken follower.old
         → StandsAfter log.now taken (with_entry taken entry.now.epoch) result follower.new }
 {
-    if ends_with(log, metadata, follower, entry) {
-        return Ok(Took::At(metadata.epoch()));
+    if !may_end(log, metadata, follower, entry) {
+        return follower.deliver(entry);
     }
-    follower.deliver(entry)
-}
-
-/// Hands an entry of a log to a follower of this log, as `hand_over` does, and answers what became of it. Most entries
-/// only wait, and need no more than `Follower::hold`.
-#[inline(always)]
-pub fn hand_on(
-    log: &Log,
-    metadata: &Metadata,
-    follower: &mut Follower,
-    entry: &Entry,
-    out: &mut ByteText,
-) -> Result<(), StepFault>
-    requires log { IsLog log.now }
-    requires last { metadata.now ≡ image_after empty_image (commands_of log.now) }
-    requires among { Contains log.now entry.now }
-    requires formed { IsTrue (is_command entry.now.cmd) }
-    requires epoch { entry.now.epoch ≤ most_epochs }
-    requires follows { FollowsLog log.now follower.old }
-    ensures { HandsOn log.now entry.now follower.old follower.new out.old out.new result }
-{
-    if let Some(took) = follower.hold(entry)? {
-        took_text(took, out)?;
-        return Ok(());
+    match follower.end_at(metadata) {
+        Ok(true) => Ok(Took::At(metadata.epoch())),
+        Ok(false) => follower.deliver(entry),
+        Err(_) => follower.deliver(entry),
     }
-    answer_handed(hand_over(log, metadata, follower, entry), out)
 }

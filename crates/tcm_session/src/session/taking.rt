@@ -8,11 +8,10 @@ ghost use Rattle.tcm_session.specs.LogFiles.{entry_cause, entry_read, next_entry
 ghost use Rattle.tcm_session.specs.Steps.{IsNextEntry, TakesLine, with_next};
 
 use super::Session;
-use super::keeping::keep_image;
-use crate::noting::keep;
 use crate::refused_line::Cause;
 use cluster_metadata::{AdmitFault, Permit};
-use cluster_terms::Memory;
+use cluster_terms::{ByteText, Memory};
+use tcm_edges::SureStore;
 use transformations::Entry;
 use wire_json::{Line, ReadLineFault, read_line};
 
@@ -65,7 +64,8 @@ impl Session {
         }
     }
 
-    /// Adds the next entry to the log, and enacts its command, as `accept` does. Returns `None`.
+    /// Adds the next entry to the log, and enacts its command, as `accept` does. This uses no file, so it fails only if
+    /// memory runs out. Returns `None`.
     fn take_over(&mut self, entry: Entry, permit: Permit) -> Result<Option<Cause>, Memory>
         requires next { IsNextEntry self.old.log entry }
         requires permit { permit
@@ -73,19 +73,11 @@ impl Session {
         ensures ok { IfOk result (λ refused. (refused ≡ None) × (self.new ≡ with_next self.old entry)) }
         ensures err { OnErr result (self.new ≡ self.old) }
     {
-        if let Err(memory) = keep_image(&self.log, &self.metadata, &mut self.snapshots) {
-            permit.decline();
-            return Err(memory);
-        }
-        match keep(&mut self.log, entry) {
-            Ok(()) => {
-                let _epoch = self.metadata.enact(permit);
-                Ok(None)
-            }
-            Err(memory) => {
-                permit.decline();
-                Err(memory)
-            }
+        let mut store = SureStore::new(self.alloc);
+        let mut answer = ByteText::empty(self.alloc);
+        match self.accept(entry, permit, None, &mut store, &mut answer) {
+            Ok(()) => Ok(None),
+            Err(_fault) => Err(Memory),
         }
     }
 }

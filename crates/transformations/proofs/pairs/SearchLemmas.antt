@@ -2,7 +2,7 @@
 use Rattle.std.proofs.Common.{◌≡◌, ℕ, ◌+◌, ◌<◌, ◌≤◌, ◌↔◌, Bool, true, false, true≢false, IsTrue, ℤ, ◌<ℤ◌, ◌≤ℤ◌, int_lt, pos, ◌==◌, ◌&&◌, ◌||◌, List, [], ◌∷◌, length, get_or, refl, sym, ap, ◌∙◌, ◌⊎◌, inl, inr, arith}
 use Rattle.std.proofs.lemmas.Bool.{cases_lt}
 use Rattle.std.proofs.lemmas.Int.{ints}
-use Rattle.std.proofs.lemmas.List.{append-nil, get_or_default}
+use Rattle.std.proofs.lemmas.List.{get_or_default}
 use Rattle.std.proofs.lemmas.List.Folds.{list_any_at, list_any_none}
 use Rattle.std.proofs.lemmas.Map.Keys.{Less-from_sorted, sorted_from_all_adjacent}
 use Rattle.std.specs.List.{IsAllAdjacentAnswer, list_any}
@@ -12,8 +12,6 @@ use Rattle.cluster_terms.specs.Pair.{has_pair, same_pair, without_pairs}
 use Rattle.cluster_terms.specs.declared.token.Pair.{Pair}
 use Rattle.transformations.proofs.pairs.RingPairs.{by_token_total}
 use Rattle.transformations.specs.Orders.{by_token}
-use Rattle.transformations.specs.Rings.{fixed_among}
-use Rattle.transformations.specs.declared.sequence.SeqRow.{SeqRow}
 
 -- any pair, as a default
 some_pair : Pair
@@ -105,13 +103,6 @@ has_first_pair ps p n up split d in_n = by (same_pair p (get_or ps n d)) refl �
 pub has_no_pair : (ps : List Pair) (p : Pair) (n : ℕ) → IsPartitionPoint (λ q. q.token <ℤ p.token) (λ q. p.token ≤ℤ q.token) ps n → length ps ≤ n → false ≡ has_pair ps p
 has_no_pair ps p n split all =
     sym (has_pair-any p ps ∙ list_any_none (same_pair p) ps (λ k f in_k. below_differs p (get_or ps k f) (split.0 k f (omega arith) (omega arith))))
-
--- where there is one movement, only its pairs are taken out
-pub without_one : (ring : List Pair) (rows : List SeqRow) (row : SeqRow) → length rows ≡ 1 → row ≡ get_or rows 0 row → without_pairs ring row.out_pairs ≡ fixed_among ring rows
-without_one ring [] row one here = absurd (omega (arith, one))
-without_one ring (r ∷ []) row one here =
-    ap (λ (s : SeqRow). without_pairs ring s.out_pairs) here ∙ ap (without_pairs ring) (sym (append-nil r.out_pairs))
-without_one ring (r ∷ (s ∷ rows)) row one here = absurd (omega (arith, one))
 
 -- nothing is taken out where there is nothing to take out
 pub without_no_pairs : (ps gone : List Pair) → length gone ≡ 0 → without_pairs ps gone ≡ ps

@@ -5,22 +5,20 @@ use Rattle.cluster_terms.specs.Row.{rows_between}
 use Rattle.placement_deltas.specs.declared.book.DeltaBookRow.{DeltaBookRow}
 use Rattle.placement_deltas.specs.declared.plan.Plan.{Plan}
 use Rattle.range_placements.specs.declared.row_changes.RowChange.{RowChange}
-use Rattle.sequence_plans.specs.Deltas.{HasDeltas}
-use Rattle.transformations.specs.DeltaSteps.{step_delta}
+use Rattle.sequence_plans.specs.Deltas.{AreDeltas, gained_by, no_nodes}
+use Rattle.sequence_plans.specs.Replications.{replications_of}
 use Rattle.transformations.specs.declared.image.Image.{Image}
 use Rattle.transformations.specs.Rings.{cuts, cuts_among}
-use Rattle.transformations.specs.declared.sequence.Goal.TheVariants as step
+use Rattle.transformations.specs.declared.keyspace.KeyspaceRow.{KeyspaceRow}
 use Rattle.cluster_metadata.proofs.KeyspaceLemmas.{unchanged_maps}
-use Rattle.cluster_metadata.proofs.placement_maps.ChangeSteps.{back_at, back_moves, begun_cuts, begun_deltas, begun_moves, begun_stays, ended_at, ended_moves, finished_at, finished_moves, finished_stays, mid_at, mid_moves, registered_stays, started_at, started_moves, unregistered_stays}
+use Rattle.cluster_metadata.proofs.placement_maps.ChangeSteps.{back_at, back_moves, begun_deltas, begun_moves, ended_at, ended_moves, finished_at, finished_moves, mid_at, mid_moves, registered_stays, started_at, started_moves, unregistered_stays}
 use Rattle.cluster_metadata.proofs.placement_maps.EditedMaps.{RecutsAll}
 use Rattle.cluster_metadata.proofs.placement_maps.ExchangedMaps.{made_from}
-use Rattle.cluster_metadata.proofs.placement_maps.TurnedMaps.{SetsTurned, back_maps, end_maps, held, mid_maps, moved, nodes_maps, start_maps, stays}
-use Rattle.cluster_metadata.specs.Change.{HasCuts, changed}
+use Rattle.cluster_metadata.proofs.placement_maps.TurnedMaps.{SetsTurned, back_maps, begin_maps, end_maps, finish_maps, mid_maps, nodes_maps, start_maps}
+use Rattle.cluster_metadata.specs.Change.{changed}
 use Rattle.cluster_metadata.specs.MapChanges.{BringsMaps, maps_after}
-use Rattle.cluster_metadata.specs.MapSteps.{MovesBy, deltas_of}
 use Rattle.cluster_metadata.specs.Maps.{AreMaps}
-use Rattle.cluster_metadata.specs.Running.{phase_of, plan_of}
-use Rattle.cluster_metadata.specs.Turns.{undoing}
+use Rattle.cluster_metadata.specs.Running.{plan_of}
 use Rattle.cluster_metadata.specs.declared.change.Change.{Change}
 use Rattle.cluster_metadata.specs.declared.map_change.MapChange.{MapChange}
 use Rattle.cluster_metadata.specs.declared.map_change.MapChange.TheVariants.{Sets}
@@ -37,30 +35,6 @@ returns-in-Registered c book are =
       | inl registered ↦ nodes_maps image (changed image change) (registered_stays image change registered.0 registered.1 c.requires.steps) book are
       | inr unregistered ↦ nodes_maps image (changed image change) (unregistered_stays image change unregistered.0 unregistered.1 c.requires.steps) book are
     ]
-
-pub maps_begun-requires-clause-own : goal.maps_begun-requires-clause-own
-maps_begun-requires-clause-own c =
-    let image = c.args.image.now in
-    let change = c.args.change.now in
-    let b = c.in-Begun in
-    subst (HasCuts (changed image change)) (sym c.get.ensures) (begun_cuts image change b.at b.sequences b.plan b.is c.requires.brings)
-
-pub maps_begun-requires-clause-stay : goal.maps_begun-requires-clause-stay
-maps_begun-requires-clause-stay c none =
-    let b = c.in-Begun in
-    begun_stays c.args.image.now c.args.change.now b.at b.sequences b.plan b.is c.requires.steps (ap (λ (p : Plan). p.row.in_pairs) (sym c.get.ensures) ∙ none)
-
-pub maps_begun-requires-clause-moves : goal.maps_begun-requires-clause-moves
-maps_begun-requires-clause-moves c =
-    let b = c.in-Begun in
-    begun_moves c.args.image.now c.args.change.now b.at b.sequences b.plan b.is c.requires.steps
-
-pub maps_begun-requires-clause-deltas : goal.maps_begun-requires-clause-deltas
-maps_begun-requires-clause-deltas c =
-    let image = c.args.image.now in
-    let change = c.args.change.now in
-    let b = c.in-Begun in
-    subst (HasDeltas (changed image change)) (sym c.get.ensures) (begun_deltas image change b.at b.sequences b.plan b.is c.requires.brings)
 
 -- new sets that the deltas of a plan give lead to the maps of the next image, where those of an equal plan do
 turned_to : (image : Image) (change : Change) (made : MapChange) (maps : List MapRow) → AreMaps image maps → (t : Turn) (sets : List (List RowChange)) (deltas : Plan → List DeltaBookRow) (found own : Plan) → found ≡ own
@@ -107,35 +81,43 @@ returns-in_ok-turned_book-in-BroughtBack c =
     (λ turned. back_maps image maps c.args.running.now s.at movement.result found.row c.requires.maps c.requires.running c.requires.deltas found.here movement.is (changed image change) made.items turned
     (back_moves image change s.at s.is c.requires.steps))
 
-pub maps_finished-requires-clause-stay : goal.maps_finished-requires-clause-stay
-maps_finished-requires-clause-stay c none =
+-- the maps of other ranges lead to those of the next image, if these ranges are those between its cuts
+recut_to : (image : Image) (change : Change) (maps : List MapRow) → AreMaps image maps → (t : Turn) (cuts_of : List ℤ) (deltas : Plan → List DeltaBookRow) (found own : Plan) → found ≡ own
+    → cuts (changed image change) ≡ cuts_of → (next : MapChange) → RecutsAll t (rows_between cuts_of) maps (deltas found) next
+    → (RecutsAll t (rows_between (cuts (changed image change))) maps (deltas own) next → AreMaps (changed image change) (maps_after next maps)) → BringsMaps image change next
+recut_to image change maps are t cuts_of deltas found own same cut next sets leads =
+    made_from image change next maps are
+    (leads (subst (λ (p : Plan). RecutsAll t (rows_between (cuts (changed image change))) maps (deltas p) next) same (subst (λ (ts : List ℤ). RecutsAll t (rows_between ts) maps (deltas found) next) (sym cut) sets)))
+
+pub returns-in_ok-next-in-Begun : goal.returns-in_ok-next-in-Begun
+returns-in_ok-next-in-Begun c =
+    let image = c.args.image.now in
+    let change = c.args.change.now in
+    let after : Image = changed image change in
+    let b = c.in-Begun in
+    let maps = c.args.maps.now in
+    let next = c.in_ok-next-in-Begun.next in
+    let cut : cuts after ≡ cuts_among image.tokens b.sequences = ap (λ (ch : Change). cuts (changed image ch)) b.is in
+    let moves = begun_moves image change b.at b.sequences b.plan b.is c.requires.steps in
+    let deltas = begun_deltas image change b.at b.sequences b.plan b.is c.requires.brings in
+    let exact = subst (λ (ks : List KeyspaceRow). AreDeltas (replications_of ks) (gained_by after b.plan.row) no_nodes b.plan.gain) moves.keyspaces deltas.gains in
+    recut_to image change maps c.requires.maps turn.Keep (cuts_among image.tokens b.sequences) (λ (p : Plan). p.gain) _ _ c.get.ensures cut next c.in_ok-next-in-Begun.ensures.maps
+    (λ sets. begin_maps image after maps (gained_by after b.plan.row) no_nodes b.plan.gain next sets c.requires.maps exact (subst (AllByRecursion IsToken) (sym cut) c.in_ok-next-in-Begun.ensures.tokens) moves)
+
+pub returns-in_ok-next-in-Finished : goal.returns-in_ok-next-in-Finished
+returns-in_ok-next-in-Finished c =
     let image = c.args.image.now in
     let change = c.args.change.now in
     let s = c.in-Finished in
     let found = finished_at image change s.at s.left s.tokens s.is c.requires.follows in
     let movement = c.index-running-at-in-Finished in
-    stays image c.args.maps.now c.args.running.now s.at movement.result found.row c.requires.maps c.requires.running c.requires.deltas found.here movement.is (changed image change)
-    (finished_stays image change s.at s.left s.tokens s.is c.requires.steps) (ap (λ (p : Plan). p.row.out_pairs) (sym c.plan-plan.ensures) ∙ none)
-
-pub maps_finished-requires-clause-moves : goal.maps_finished-requires-clause-moves
-maps_finished-requires-clause-moves c =
-    let image = c.args.image.now in
-    let change = c.args.change.now in
-    let s = c.in-Finished in
-    let found = finished_at image change s.at s.left s.tokens s.is c.requires.follows in
-    let movement = c.index-running-at-in-Finished in
-    subst (λ (p : Plan). MovesBy image (changed image change) (deltas_of (step_delta step.Finish) image p.row)) (sym c.plan-plan.ensures)
-    (moved image c.args.maps.now c.args.running.now s.at movement.result found.row c.requires.maps c.requires.running c.requires.deltas found.here movement.is (changed image change) (λ s. step_delta step.Finish)
-    (finished_moves image change s.at s.left s.tokens s.is c.requires.steps))
-
-pub maps_finished-requires-clause-deltas : goal.maps_finished-requires-clause-deltas
-maps_finished-requires-clause-deltas c =
-    let image = c.args.image.now in
-    let s = c.in-Finished in
-    let found = finished_at image c.args.change.now s.at s.left s.tokens s.is c.requires.follows in
-    let movement = c.index-running-at-in-Finished in
-    subst (HasDeltas image) (sym c.plan-plan.ensures)
-    (held image c.args.maps.now c.args.running.now s.at movement.result found.row c.requires.maps c.requires.running c.requires.deltas found.here movement.is)
+    let sequences = c.in_ok-sequences-in-Finished.sequences in
+    let maps = c.args.maps.now in
+    let next = c.in_ok-next-in-Finished.next in
+    let cut : cuts (changed image change) ≡ cuts_among s.tokens sequences = ap (λ (ch : Change). cuts (changed image ch)) s.is ∙ ap (cuts_among s.tokens) (sym c.in_ok-sequences-in-Finished.ensures) in
+    recut_to image change maps c.requires.maps turn.Writes (cuts_among s.tokens sequences) (λ (p : Plan). p.lose) _ _ c.plan-in-Finished.ensures cut next c.in_ok-next-in-Finished.ensures.maps
+    (λ sets. finish_maps image maps c.args.running.now s.at movement.result found.row c.requires.maps c.requires.running c.requires.deltas found.here movement.is (changed image change) next sets
+    (subst (AllByRecursion IsToken) (sym cut) c.in_ok-next-in-Finished.ensures.tokens) (finished_moves image change s.at s.left s.tokens s.is c.requires.steps))
 
 pub returns-in_ok-next-in-Ended : goal.returns-in_ok-next-in-Ended
 returns-in_ok-next-in-Ended c =
@@ -143,17 +125,14 @@ returns-in_ok-next-in-Ended c =
     let change = c.args.change.now in
     let s = c.in-Ended in
     let found = ended_at image change s.at s.is c.requires.follows in
-    let cut : cuts (changed image change) ≡ cuts_among image.tokens c.in_ok-sequences-in-Ended.sequences =
-    ap (λ (ch : Change). cuts (changed image ch)) s.is ∙ ap (cuts_among image.tokens) (sym c.in_ok-sequences-in-Ended.ensures) in
-    let ranges = rows_between (cuts (changed image change)) in
+    let movement = c.index-running-at-in-Ended in
+    let sequences = c.in_ok-sequences-in-Ended.sequences in
     let maps = c.args.maps.now in
     let next = c.in_ok-next-in-Ended.next in
-    let sets : RecutsAll (undoing (phase_of c.index-running-at-in-Ended.result)) ranges maps (plan_of c.index-running-at-in-Ended.result).gain next =
-    subst (λ (p : Plan). RecutsAll (undoing (phase_of c.index-running-at-in-Ended.result)) ranges maps p.gain next) c.plan-in-Ended.ensures
-    (subst (λ (t : Turn). RecutsAll t ranges maps c.plan-in-Ended.result.now.gain next) c.undoing-turn.ensures
-    (subst (λ (ts : List ℤ). RecutsAll c.undoing-turn.result (rows_between ts) maps c.plan-in-Ended.result.now.gain next) (sym cut) c.in_ok-next-in-Ended.ensures.maps)) in
-    made_from image change next maps c.requires.maps
-    (end_maps image maps c.args.running.now s.at c.index-running-at-in-Ended.result found.row c.requires.maps c.requires.running c.requires.deltas found.here c.index-running-at-in-Ended.is (changed image change) next sets found.holds
+    let cut : cuts (changed image change) ≡ cuts_among image.tokens sequences = ap (λ (ch : Change). cuts (changed image ch)) s.is ∙ ap (cuts_among image.tokens) (sym c.in_ok-sequences-in-Ended.ensures) in
+    recut_to image change maps c.requires.maps c.undoing-turn.result (cuts_among image.tokens sequences) (λ (p : Plan). p.gain) _ _ c.plan-in-Ended.ensures cut next c.in_ok-next-in-Ended.ensures.maps
+    (λ sets. end_maps image maps c.args.running.now s.at movement.result found.row c.requires.maps c.requires.running c.requires.deltas found.here movement.is (changed image change) next
+    (subst (λ (t : Turn). RecutsAll t (rows_between (cuts (changed image change))) maps (plan_of movement.result).gain next) c.undoing-turn.ensures sets) found.holds
     (subst (AllByRecursion IsToken) (sym cut) c.in_ok-next-in-Ended.ensures.tokens) (ended_moves image change s.at s.is c.requires.steps))
 
 pub returns-in-Unchanged : goal.returns-in-Unchanged

@@ -1,16 +1,11 @@
 use Rattle.std.proofs.Common.{List, map, ap, sym, ◌∙◌, subst}
 use Rattle.sequence_plans.specs.Replications.{replications_of}
 use Rattle.transformations.specs.declared.keyspace.KeyspaceRow.{KeyspaceRow}
-use Rattle.cluster_metadata.proofs.placement_maps.ExchangedMaps.{arranged_maps, kept_maps}
+use Rattle.cluster_metadata.proofs.placement_maps.ExchangedMaps.{arranged_maps}
 use Rattle.cluster_metadata.specs.Arrangements.{arranged}
 use Rattle.cluster_metadata.specs.Maps.{AreMapsOf}
 use Rattle.range_placements.specs.declared.map_row.MapRow.{MapRow}
 use Rattle.cluster_metadata.proofs.map_changes.maps_under.Goals as goal
-
-pub returns-then-fits : goal.returns-then-fits
-returns-then-fits c book are =
-    kept_maps c.args.image.now c.args.change.now c.args.keyspaces.now c.args.maps.now c.requires.change c.requires.maps
-    (ap (λ (book : List MapRow). map (λ (row : MapRow). row.replication) book) (sym c.as_slice-maps.ensures) ∙ c.fits.ensures c.if-fits.true ∙ ap replications_of c.as_slice-keyspaces.ensures) book are
 
 pub returns : goal.returns
 returns c =
@@ -18,4 +13,4 @@ returns c =
     let slots = c.in_ok-next.next in
     arranged_maps image c.args.change.now c.args.keyspaces.now c.args.maps.now slots c.requires.change c.requires.maps
     (subst (λ (rows : List KeyspaceRow). AreMapsOf image (replications_of rows) (arranged slots c.args.maps.now)) c.as_slice-keyspaces.ensures
-    (subst (λ (book : List MapRow). AreMapsOf image (replications_of c.as_slice-keyspaces.result.now) (arranged slots book)) c.as_slice-maps.ensures c.in_ok-next.ensures))
+    (subst (λ (book : List MapRow). AreMapsOf image (replications_of c.as_slice-keyspaces.result.now) (arranged slots book)) c.as_slice.ensures c.in_ok-next.ensures))

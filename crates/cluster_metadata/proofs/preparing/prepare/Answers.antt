@@ -36,9 +36,6 @@ begun-requires-clause-deltas g c =
 pub begun-requires-clause-ranges : goal.begun-requires-clause-ranges
 begun-requires-clause-ranges g c = rw (c.without_others.ensures, c.in-Ok.ensures.plan.row) (lock_of_book _ _ _ c.in-Ok.ensures.plan.ranges)
 
-pub begun-requires-clause-cuts : goal.begun-requires-clause-cuts
-begun-requires-clause-cuts g c = rw (c.without_others.ensures, c.in-Ok.ensures.plan.row) (c.in-Ok.ensures.plan.cuts, c.in-Ok.ensures.plan.tokens)
-
 pub returns-clause-refusal : goal.returns-clause-refusal
 returns-clause-refusal g c =
     let none = rw (c.as_slice-cuts.ensures, c.in_default.is) at c.conflict.ensures.conflict in

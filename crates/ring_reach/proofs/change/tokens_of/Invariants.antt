@@ -5,4 +5,4 @@ use Rattle.ring_reach.proofs.change.tokens_of.Given as goal
 
 -- the tokens so far
 abbrev pub invariant-loop-pair : goal.invariant-loop-pair
-invariant-loop-pair l = l.tokens ≡ tokens_in (group_of l.members) (take l.pair-index l.pairs)
+invariant-loop-pair l = l.tokens.items ≡ tokens_in (group_of l.members) (take l.pair-index l.pairs)

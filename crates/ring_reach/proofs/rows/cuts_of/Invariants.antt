@@ -5,4 +5,4 @@ use Rattle.ring_reach.proofs.rows.cuts_of.Given as goal
 
 -- the bounds of the groups so far
 abbrev pub invariant-loop-windows : goal.invariant-loop-windows
-invariant-loop-windows l = l.bounds ≡ flat_map window_bounds (take l.windows-index l.groups)
+invariant-loop-windows l = l.bounds.items ≡ flat_map window_bounds (take l.windows-index l.groups)

@@ -18,24 +18,24 @@ IfOk-both (Err e) P Q p q = tt
 pub of_rows-requires : goal.of_rows-requires
 of_rows-requires c =
     record {
-      ascending = subst (IsStrictlySortedBy int_cmp) (sym c.as_slice.ensures.tokens) c.as_slice.ensures.ascend;
+      ascending = subst (IsStrictlySortedBy int_cmp) (sym c.deref.ensures.value) c.in_ok-cuts.ensures.ascending;
       calls = search rules;
     }
 
 pub returns-clause-reach : goal.returns-clause-reach
 returns-clause-reach c =
     let groups = c.args.groups.now in
-    let cuts = c.as_slice.result.now in
-    let up = subst (IsStrictlySortedBy int_cmp) (sym c.as_slice.ensures.tokens) c.as_slice.ensures.ascend in
-    let same : HaveSameTokens cuts (flat_map window_bounds groups) = λ t. ap (λ (ts : List ℤ). is_member int_eq ts t) c.as_slice.ensures.tokens ∙ c.in_ok-cuts.ensures t in
+    let cuts = c.deref.result.now in
+    let up = subst (IsStrictlySortedBy int_cmp) (sym c.deref.ensures.value) c.in_ok-cuts.ensures.ascending in
+    let same : HaveSameTokens cuts (flat_map window_bounds groups) = λ t. ap (λ (ts : List ℤ). is_member int_eq ts t) c.deref.ensures.value ∙ c.in_ok-cuts.ensures.tokens t in
     IfOk-weaker c.of_rows.result _ _
     (λ ranges h t token. h.0 (any_have groups) (λ x b _ told. search rules) t token ∙ rows_reached groups cuts up h.1 same t token)
     (IfOk-both c.of_rows.result _ _ c.of_rows.ensures.ranges c.of_rows.ensures.tokens)
 
 pub returns-clause-bounds : goal.returns-clause-bounds
 returns-clause-bounds c =
-    let cuts = c.as_slice.result.now in
-    let same : HaveSameTokens cuts (flat_map window_bounds c.args.groups.now) = λ t. ap (λ (ts : List ℤ). is_member int_eq ts t) c.as_slice.ensures.tokens ∙ c.in_ok-cuts.ensures t in
+    let cuts = c.deref.result.now in
+    let same : HaveSameTokens cuts (flat_map window_bounds c.args.groups.now) = λ t. ap (λ (ts : List ℤ). is_member int_eq ts t) c.deref.ensures.value ∙ c.in_ok-cuts.ensures.tokens t in
     IfOk-weaker c.of_rows.result _ _
     (λ ranges h. out_more cuts (flat_map window_bounds c.args.groups.now) (λ t k. sym (same t) ∙ k) ranges h)
     c.of_rows.ensures.bounds

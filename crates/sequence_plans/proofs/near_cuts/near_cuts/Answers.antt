@@ -1,10 +1,12 @@
-use Rattle.std.proofs.Common.{sym, subst}
-use Rattle.std.proofs.lemmas.List.Kept.{IsStrictlySortedBy-filter}
-use Rattle.std.specs.List.Sorted.{IsStrictlySortedBy}
-use Rattle.std.specs.Ordering.{int_cmp}
-use Rattle.sequence_plans.specs.NearCuts.{touches}
+use Rattle.std.proofs.Common.{◌++◌, sym, ◌∙◌}
+use Rattle.sequence_plans.proofs.NearCuts.{near_more, near_none}
 use Rattle.sequence_plans.proofs.near_cuts.near_cuts.Goals as goal
 
-pub returns-then-ranges-eq1-clause-ascending : goal.returns-then-ranges-eq1-clause-ascending
-returns-then-ranges-eq1-clause-ascending c =
-    subst (IsStrictlySortedBy int_cmp) (sym c.cuts_near.ensures) (IsStrictlySortedBy-filter int_cmp (touches c.index-ranges-0.result) c.args.cuts.now c.requires.ascending)
+pub loop-range-init : goal.loop-range-init
+loop-range-init c = c.new-near.ensures.items ∙ sym (near_none c.args.cuts.now)
+
+pub loop-range-preserved : goal.loop-range-preserved
+loop-range-preserved c =
+    c.in_ok-extend_from_slice.ensures.items
+    ∙ (λ i. c.loop-range.invariant i ++ c.cuts_near.ensures i)
+    ∙ sym (near_more c.args.cuts.now c.args.ranges.now c.loop-range.range-index c.range-item.result c.requires.ascending c.requires.list c.loop-range-test.true c.range-item.is)

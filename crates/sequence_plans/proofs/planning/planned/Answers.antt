@@ -4,9 +4,7 @@ use Rattle.transformations.specs.Refusals.{with_movement}
 use Rattle.transformations.specs.declared.image.Image.{Image}
 use Rattle.sequence_plans.proofs.BookLemmas.{own_within}
 use Rattle.sequence_plans.proofs.DeltaBookLemmas.{own_contained}
-use Rattle.sequence_plans.proofs.LowMaps.{some_weaker, with_more}
 use Rattle.sequence_plans.specs.Basis.{MovesWithin}
-use Rattle.sequence_plans.specs.LowMaps.{ShowLow}
 use Rattle.sequence_plans.proofs.planning.planned.Goals as goal
 
 pub book_of-requires-clause-within : goal.book_of-requires-clause-within
@@ -18,9 +16,3 @@ pub deltas_of-requires-clause-moves : goal.deltas_of-requires-clause-moves
 deltas_of-requires-clause-moves g c =
     let image : c.in_ok-basis.basis.image.now ≡ with_movement c.args.image.now c.args.row.now = c.in_ok-basis.ensures.image ∙ c.in_ok-with_row.ensures in
     subst (λ (wide : Image). Contains wide.sequences c.args.row.now) (sym image) (own_contained c.args.row.now c.args.image.now.sequences)
-
-pub deltas_of-requires-clause-known : goal.deltas_of-requires-clause-known
-deltas_of-requires-clause-known g c =
-    let image : c.in_ok-basis.basis.image.now ≡ with_movement c.args.image.now c.args.row.now = c.in_ok-basis.ensures.image ∙ c.in_ok-with_row.ensures in
-    some_weaker c.args.known (λ maps. ShowLow c.args.image.now maps.now) (λ maps. ShowLow c.in_ok-basis.basis.image.now maps.now)
-    (λ maps show. subst (λ (wide : Image). ShowLow wide maps.now) (sym image) (with_more c.args.image.now c.args.row.now maps.now show)) c.requires.known

@@ -1,21 +1,20 @@
-use Rattle.std.proofs.Common.{OnOk, refl, sym, subst}
+use Rattle.std.proofs.Common.{OnOk, sym, ◌∙◌, subst}
 use Rattle.placement_deltas.specs.Changes.{AreWithRow}
 use Rattle.placement_deltas.specs.declared.delta_row.DeltaRow.{DeltaRow}
 use Rattle.sequence_plans.proofs.RowChanges.{outside_ranges, within_ranges}
-use Rattle.sequence_plans.specs.LowNodes.{nodes_by}
 use Rattle.sequence_plans.specs.Placers.{placed_by}
 use Rattle.sequence_plans.proofs.row_changes.push_row.Goals as goal
 
-pub returns-then-contains : goal.returns-then-contains
-returns-then-contains g c =
+pub returns-then-not-contains : goal.returns-then-not-contains
+returns-then-not-contains g c =
     let is =
-    within_ranges c.args.ranges.now (nodes_by c.args.placers.now.before) (placed_by c.args.placers.now.after) c.args.row.now c.last_token-last.result c.last_token-last.ensures _ _
-    (sym c.if-contains.ensures) refl refl in
-    subst (λ (row : DeltaRow). OnOk c.push_change.result (AreWithRow c.args.changes.now row c.push_change.new.changes)) is c.push_change.ensures
-
-pub returns-else-contains : goal.returns-else-contains
-returns-else-contains g c =
-    let is =
-    outside_ranges c.args.ranges.now (nodes_by c.args.placers.now.before) (placed_by c.args.placers.now.after) c.args.row.now c.last_token-last.result c.last_token-last.ensures
-    (sym c.if-contains.ensures) in
+    outside_ranges c.args.ranges.now (placed_by c.args.placers.now.before) (placed_by c.args.placers.now.after) c.args.row.now c.last_token-last.result c.last_token-last.ensures
+    (sym c.contains.ensures ∙ c.if-not-contains.true) in
     subst (λ (row : DeltaRow). OnOk c.push_unchanged.result (AreWithRow c.args.changes.now row c.push_unchanged.new.self)) is c.push_unchanged.ensures
+
+pub returns : goal.returns
+returns g c =
+    let is =
+    within_ranges c.args.ranges.now (placed_by c.args.placers.now.before) (placed_by c.args.placers.now.after) c.args.row.now c.last_token-last.result c.last_token-last.ensures _ _
+    (sym c.contains.ensures ∙ c.if-not-contains.false) c.in_ok-before.ensures.placement c.in_ok-after.ensures.placement in
+    subst (λ (row : DeltaRow). OnOk c.push.result (AreWithRow c.args.changes.now row c.push.new.self)) is c.push.ensures

@@ -98,15 +98,19 @@ pub fn cuts_of(alloc: Global, cuts: &[i64]) -> Result<TokenList, Fail>
     Ok(TokenList::ascending(alloc, tokens.as_slice())?)
 }
 
+fn is_chosen(rows: &[TokenRange], chosen: &[bool], t: Token) -> bool {
+    rows.iter()
+        .zip(chosen)
+        .any(|(row, is_chosen)| row.last_token() == t && *is_chosen)
+}
+
 fn chosen_of(alloc: Global, cuts: &[Token], chosen: &[bool]) -> Result<RangeList, Fail>
     requires { IsStrictlySortedBy int_cmp cuts.now }
     ensures { IfOk result (λ ranges. AreCutOut cuts.now ranges) }
 {
     let rows = rows_between(alloc, cuts)?;
-    if rows.as_slice().len() != chosen.len() {
-        return Err("another number of rows")?;
-    }
-    Ok(RangeList::from_rows(alloc, cuts, chosen)?)
+    let rows = rows.as_slice();
+    Ok(RangeList::of_rows(alloc, cuts, |t| is_chosen(rows, chosen, t))?)
 }
 
 fn ranges_of(alloc: Global, cuts: &[i64], chosen: &[bool]) -> Result<RangeList, Fail> {

@@ -1,6 +1,5 @@
-use Rattle.std.proofs.Common.{Ok, Err}
+use Rattle.std.proofs.Common.{Ok}
 use Rattle.follower_log.proofs.AdvanceLemmas.{advances_on, ends_if, leads_if}
-use Rattle.follower_log.specs.Kept.{widened_fault}
 use Rattle.follower_log.specs.declared.took.Took.TheVariants.{At}
 use Rattle.follower_log.proofs.follower.Follower.apply_waiting.Goals as goal
 
@@ -11,6 +10,3 @@ loop-self-preserved c result end goes =
 pub returns-in-Ok-false : goal.returns-in-Ok-false
 returns-in-Ok-false c =
     c.loop-self.invariant (Ok (At c.epoch.result)) c.apply_first.new.self (ends_if c.loop-self.self c.apply_first.new.self c.in-Ok-false.field-0 c.epoch.result c.in-Ok-false.field-0-test c.epoch.ensures c.in-Ok-false.ensures)
-
-pub returns-in-Err : goal.returns-in-Err
-returns-in-Err c = c.loop-self.invariant (Err (widened_fault c.in-Err.fault)) c.apply_first.new.self c.in-Err.ensures

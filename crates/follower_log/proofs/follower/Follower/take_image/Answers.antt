@@ -1,14 +1,13 @@
-use Rattle.std.proofs.Common.{◌≡◌, ℕ, ◌<◌, true, false, List, Ok, filter, Result, nat_le, nat_lt, refl, ap, ◌∙◌, subst, arith}
+use Rattle.std.proofs.Common.{◌≡◌, ℕ, ◌<◌, false, List, filter, Result, nat_le, nat_lt, refl, ap, ◌∙◌, subst, arith}
 use Rattle.std.proofs.lemmas.Bool.Decides.{nat_tests}
 use Rattle.transformations.specs.declared.entry.Entry.{Entry}
 use Rattle.transformations.specs.declared.image.Image.{Image}
 use Rattle.follower_log.proofs.AdvanceLemmas.{any_before}
 use Rattle.follower_log.proofs.KeptLemmas.{can_wait-filter}
 use Rattle.follower_log.specs.Follower.{Performs, FollowerState, advanced, hand_valid}
-use Rattle.follower_log.specs.Kept.{Advances, CanWait, widened}
+use Rattle.follower_log.specs.Kept.{Advances, CanWait}
 use Rattle.follower_log.specs.declared.fault.FollowerFault.{FollowerFault}
 use Rattle.follower_log.specs.declared.took.Took.{Took}
-use Rattle.follower_log.specs.declared.took.Took.TheVariants.{Old}
 use Rattle.follower_log.proofs.follower.Follower.take_image.Goals as goal
 
 -- the entries once the image is taken
@@ -34,13 +33,8 @@ invariant_of-self c =
     left_waits c.args.metadata c.args.metadata c.epoch-2.result c.self.inside.waiting c.drop_to.new.self refl c.epoch-2.ensures c.drop_to.ensures
     c.replace.new.dest c.self.inside.metadata.epoch c.replace.ensures.after c.self.invariant
 
-pub returns-then-epoch : goal.returns-then-epoch
-returns-then-epoch c =
-    let low : nat_le c.args.metadata.epoch c.args.self.now.image.epoch ≡ true = grind (arith, nat_tests, c.if-epoch.true, c.epoch.ensures, c.epoch-epoch.ensures) in
-    rw low (ap (λ e. Ok (Old e)) c.epoch-epoch.ensures, refl)
-
 pub returns : goal.returns
 returns c =
     let past : c.args.self.now.image.epoch < c.args.metadata.epoch = omega (arith, c.if-epoch.false, c.epoch.ensures, c.epoch-epoch.ensures) in
     goes_on c.args.metadata c.args.metadata c.epoch-2.result c.self.inside.waiting c.drop_to.new.self refl c.epoch-2.ensures c.drop_to.ensures
-    c.args.self.now c.apply_waiting.new.self (widened c.apply_waiting.result) c.replace.new.dest c.self.inside.metadata c.self.view_is c.replace.ensures.after past c.apply_waiting.ensures
+    c.args.self.now c.apply_waiting.new.self c.apply_waiting.result c.replace.new.dest c.self.inside.metadata c.self.view_is c.replace.ensures.after past c.apply_waiting.ensures

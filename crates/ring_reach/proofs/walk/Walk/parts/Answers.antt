@@ -1,10 +1,7 @@
-use Rattle.std.proofs.Common.{◌<◌, ◌≤◌, ◌++◌, ℤ, List, ap, sym, ◌∙◌, length, subst, arith}
-use Rattle.std.specs.List.{list_any}
-use Rattle.std.specs.List.Sorted.{IsStrictlySortedBy}
-use Rattle.std.specs.Ordering.{int_cmp}
+use Rattle.std.proofs.Common.{◌<◌, ◌≤◌, ◌++◌, List, ap, sym, ◌∙◌, length, subst, arith}
 use Rattle.cluster_terms.specs.Pair.{tokens_of}
 use Rattle.ring_reach.specs.Moved.{AreTokensAmong}
-use Rattle.ring_reach.specs.Walk.{course_of, leaves}
+use Rattle.ring_reach.specs.Walk.{course_of}
 use Rattle.ring_reach.specs.Windows.{window_bounds, have}
 use Rattle.ring_reach.specs.declared.windows.Window.{Window}
 use Rattle.ring_reach.proofs.PartLemmas.{part_more, all_parts-have, all_parts-among}
@@ -13,29 +10,26 @@ use Rattle.ring_reach.proofs.walk.Walk.parts.Goals as goal
 pub loop-token-preserved : goal.loop-token-preserved
 loop-token-preserved c =
     let course = course_of c.args.self.now in
-    let tokens = c.as_slice-tokens.result.now in
+    let tokens = c.args.moved.now in
     let i = c.loop-token.token-index in
     let in_i : i < length tokens = omega arith in
     let inv = c.loop-token.invariant in
-    let more = part_more course tokens i c.loop-token.windows c.push.new.self c.loop-token.left c.token-item.result c.part.result in_i c.token-item.is inv.left inv.rights inv.parts c.part.ensures.reach c.in_ok-push.ensures in
+    let more = part_more course tokens i c.loop-token.windows.items c.push.new.self.items c.loop-token.left c.token-item.result c.part.result in_i c.token-item.is inv.left inv.rights inv.parts c.part.ensures.reach c.in_ok-push.ensures.items in
     record { asks = c.part.ensures.asks; left = more.left; rights = more.rights; parts = more.parts }
 
 pub returns-clause-reach : goal.returns-clause-reach
 returns-clause-reach c x =
     let course = course_of c.args.self.now in
-    let tokens = c.as_slice-tokens.result.now in
-    let ws = c.loop-token.windows in
+    let tokens = c.args.moved.now in
+    let ws = c.loop-token.windows.items in
     let inv = c.loop-token.invariant in
-    let up = subst (IsStrictlySortedBy int_cmp) (sym c.as_slice-tokens.ensures.tokens) c.as_slice-tokens.ensures.ascend in
     let all : length tokens ≤ c.loop-token.token-index = omega arith in
     ap (λ (l : List Window). have l x) c.from_ascending.ensures
-    ∙ all_parts-have course tokens c.loop-token.token-index ws up all inv.rights inv.parts x
-    ∙ ap (list_any (leaves course x)) c.as_slice-tokens.ensures.tokens
+    ∙ all_parts-have course tokens c.loop-token.token-index ws c.requires.ascending all inv.rights inv.parts x
 
 pub returns-clause-bounds : goal.returns-clause-bounds
 returns-clause-bounds c =
     let course = course_of c.args.self.now in
-    let tokens = c.as_slice-tokens.result.now in
-    subst (λ (ts : List ℤ). AreTokensAmong (window_bounds c.from_ascending.result) (tokens_of course.fixed ++ ts)) c.as_slice-tokens.ensures.tokens
-    (subst (λ (ws : List Window). AreTokensAmong (window_bounds ws) (tokens_of course.fixed ++ tokens)) (sym c.from_ascending.ensures)
-    (all_parts-among course tokens c.loop-token.windows c.loop-token.invariant.parts))
+    let tokens = c.args.moved.now in
+    subst (λ (ws : List Window). AreTokensAmong (window_bounds ws) (tokens_of course.fixed ++ tokens)) (sym c.from_ascending.ensures)
+    (all_parts-among course tokens c.loop-token.windows.items c.loop-token.invariant.parts)

@@ -11,7 +11,7 @@ use Rattle.ring_reach.proofs.walk.Walk.parts.Given as goal
 abbrev pub invariant-loop-token : goal.invariant-loop-token
 invariant-loop-token l = record {
   asks : AsksAs (course_of l.self) l.tally;
-  left : is_member int_eq l.tokens l.left ≡ true;
-  rights : rights_of l.windows ≡ take l.token-index l.tokens;
-  parts : All (IsPartOf (course_of l.self) l.tokens) l.windows;
+  left : is_member int_eq l.moved l.left ≡ true;
+  rights : rights_of l.windows.items ≡ take l.token-index l.moved;
+  parts : All (IsPartOf (course_of l.self) l.moved) l.windows.items;
 }

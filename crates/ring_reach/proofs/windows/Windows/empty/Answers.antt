@@ -6,4 +6,4 @@ use Rattle.ring_reach.specs.Windows.{rights_of}
 use Rattle.ring_reach.proofs.windows.Windows.empty.Goals as goal
 
 pub invariant_of-result : goal.invariant_of-result
-invariant_of-result c = subst (λ ws. IsStrictlySortedBy int_cmp (rights_of ws)) (sym c.empty.ensures) none_ascend
+invariant_of-result c = subst (λ ws. IsStrictlySortedBy int_cmp (rights_of ws)) (sym c.new.ensures.items) none_ascend

@@ -11,7 +11,7 @@ returns-then-before-windows c =
     let d = c.index-windows-before.result in
     let within : n < length ws = omega arith in
     rw (← c.self.view_is)
-    (ap (λ (w : Window). Some w) c.index-windows-before.is ∙ nearest-within ws c.args.t n d c.count_before-before.ensures.split within ∙ ap (λ (l : List Window). nearest l c.args.t) c.as_slice-windows.ensures)
+    (ap (λ (w : Window). Some w) c.index-windows-before.is ∙ nearest-within ws c.args.t n d c.count_before-before.ensures.split within ∙ ap (λ (l : List Window). nearest l c.args.t) c.as_slice-windows.ensures.value)
 
 pub returns-else-before-windows : goal.returns-else-before-windows
 returns-else-before-windows c =
@@ -19,4 +19,4 @@ returns-else-before-windows c =
     let n = c.count_before-before.result in
     let d = c.in_ok-first.first.now in
     let past : length ws ≤ n = omega arith in
-    rw (← c.self.view_is) (nearest-past ws c.args.t n d c.count_before-before.ensures.split c.in_ok-first.ensures.value past ∙ ap (λ (l : List Window). nearest l c.args.t) c.as_slice-windows.ensures)
+    rw (← c.self.view_is) (nearest-past ws c.args.t n d c.count_before-before.ensures.split c.in_ok-first.ensures.value past ∙ ap (λ (l : List Window). nearest l c.args.t) c.as_slice-windows.ensures.value)

@@ -1,23 +1,21 @@
 use Rattle.std.proofs.Common.{map, take}
-use Rattle.transformations.proofs.ranges.RowsServed.{cuts_ascend}
 use Rattle.token_ring.specs.declared.book.RangeRow.{RangeRow}
+use Rattle.sequence_plans.proofs.BookLemmas.{all_at}
 use Rattle.sequence_plans.proofs.DeltaBookLemmas.{replications_more, steps_more}
-use Rattle.sequence_plans.proofs.LowMaps.{replication_at}
 use Rattle.sequence_plans.proofs.deltas.DeltaBooks.of_movement.Goals as goal
 
-pub near_cuts-requires-clause-ascending : goal.near_cuts-requires-clause-ascending
-near_cuts-requires-clause-ascending g c = rw c.requires.cuts (cuts_ascend c.args.image.now)
+pub deltas_under-requires-clause-ranges : goal.deltas_under-requires-clause-ranges
+deltas_under-requires-clause-ranges g c = all_at _ c.args.ranges.now c.loop-row.row-index c.row-item.result c.requires.ranges.ranges c.loop-row-test.true c.row-item.is
 
-pub placers-requires-clause-place : goal.placers-requires-clause-place
-placers-requires-clause-place g c =
-    replication_at _ c.args.ranges.now c.loop-at.at c.index-ranges-at.result c.requires.rows c.loop-at-test.true c.index-ranges-at.is
+pub deltas_under-requires-clause-bounds : goal.deltas_under-requires-clause-bounds
+deltas_under-requires-clause-bounds g c = all_at _ c.args.ranges.now c.loop-row.row-index c.row-item.result c.requires.ranges.bounds c.loop-row-test.true c.row-item.is
 
-pub loop-at-preserved : goal.loop-at-preserved
-loop-at-preserved g c =
-    let loop = c.loop-at in
+pub loop-row-preserved : goal.loop-row-preserved
+loop-row-preserved g c =
+    let loop = c.loop-row in
     let rows = c.args.ranges.now in
-    let row = c.index-ranges-at.result in
+    let row = c.row-item.result in
     let pushed = c.in_ok-push.ensures in
-    steps_more (map (λ (r : RangeRow). r.replication) (take loop.at rows)) row.replication c.args.image.now c.args.row.now loop.books.gain loop.books.swap loop.books.lose
-    c.in_ok-deltas.deltas _ _ _ _ loop.invariant c.in_ok-deltas.ensures (replications_more rows loop.at row c.loop-at-test.true c.index-ranges-at.is)
+    steps_more (map (λ (r : RangeRow). r.replication) (take loop.row-index rows)) row.replication c.args.rings.now.image.now c.args.rings.now.row.now loop.books.gain loop.books.swap loop.books.lose
+    c.in_ok-deltas.deltas _ _ _ _ loop.invariant c.in_ok-deltas.ensures (replications_more rows loop.row-index row c.loop-row-test.true c.row-item.is)
     pushed.gain pushed.swap pushed.lose

@@ -3,5 +3,5 @@ use Rattle.sequence_plans.specs.DeltaParts.{AreBooks}
 use Rattle.sequence_plans.proofs.deltas.DeltaBooks.of_movement.Given as goal
 
 -- the deltas under the replications so far
-abbrev pub invariant-loop-at : goal.invariant-loop-at
-invariant-loop-at g l = AreBooks l.image l.row (take l.at l.ranges) l.books
+abbrev pub invariant-loop-row : goal.invariant-loop-row
+invariant-loop-row g l = AreBooks l.rings.image.now l.rings.row.now (take l.row-index l.ranges) l.books

@@ -1,8 +1,13 @@
 use Rattle.cluster_terms.specs.Pair.{tokens_of}
 use Rattle.token_ring.proofs.DistinctLemmas.{distinct_tokens}
-use Rattle.transformations.proofs.pairs.WidestLemmas.{applied-tokens}
+use Rattle.transformations.proofs.pairs.WidestLemmas.{applied-tokens, widest-tokens}
 use Rattle.transformations.specs.Rings.{low_ring, replaced}
 use Rattle.sequence_plans.proofs.movement_rings.MovementRings.new.Goals as goal
+
+pub from_distinct-requires : goal.from_distinct-requires
+from_distinct-requires c =
+    let image = c.args.image.now in
+    rw (c.as_slice.ensures, c.tokens.ensures) (distinct_tokens (tokens_of (low_ring image)) (widest-tokens image c.requires.sound).0)
 
 pub from_list-requires : goal.from_list-requires
 from_list-requires c =

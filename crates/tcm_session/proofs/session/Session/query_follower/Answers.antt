@@ -1,19 +1,16 @@
-use Rattle.std.proofs.Common.{◌≡◌, ◌++◌, OnOk, position, sym, subst, ◌∙◌, ap}
+use Rattle.std.proofs.Common.{◌≡◌, ◌++◌, OnOk, ap, subst, ◌∙◌}
 use Rattle.tcm_session.specs.Machine.{SessionState, follower_named, image_named, query_text}
-use Rattle.tcm_session.proofs.FollowerLemmas.{named}
-use Rattle.tcm_session.proofs.HandedLemmas.{asked_image, asked_none}
 use Rattle.tcm_session.proofs.session.Session.query_follower.Goals as goal
 
-pub returns-in_default-clause-text : goal.returns-in_default-clause-text
-returns-in_default-clause-text c =
-    let at = sym (c.in_default.ensures ∙ ap (position (named c.args.name.now)) (c.deref.ensures.value ∙ ap (λ (s : SessionState). s.followers) c.self.view_is)) in
-    asked_none c.args.self.now c.args.name.now c.args.query _ _ c.no_text.result at c.no_text.ensures.added
+pub returns-in-None-clause-text : goal.returns-in-None-clause-text
+returns-in-None-clause-text c =
+    let followers = c.deref.ensures.value ∙ ap (λ (s : SessionState). s.followers) c.self.view_is in
+    subst (λ o. OnOk c.no_text.result (c.no_text.new.out ≡ c.args.out.now ++ query_text (image_named o) c.args.query))
+    (c.in-None.ensures ∙ (λ i. follower_named (followers i) (c.as_str.ensures.text i))) c.no_text.ensures.added
 
-pub returns-clause-text : goal.returns-clause-text
-returns-clause-text c =
-    let name = c.args.name.now in
-    let s : SessionState = record { log = c.self.inside.log; followers = c.self.inside.followers.items } in
-    let at = sym (c.in-Some.ensures ∙ ap (position (named name)) c.deref.ensures.value) in
-    let added = rw c.metadata-metadata.ensures at c.answer_from.ensures.added in
-    subst (λ (s : SessionState). OnOk c.answer_from.result (c.answer_from.new.out ≡ c.args.out.now ++ query_text (image_named (follower_named s.followers name)) c.args.query)) c.self.view_is
-    (asked_image s name c.args.query _ _ c.answer_from.result c.in-Some.place c.index.result.now c.index.result.now at c.index.ensures added)
+pub returns-in-Some-clause-text : goal.returns-in-Some-clause-text
+returns-in-Some-clause-text c =
+    let followers = c.deref.ensures.value ∙ ap (λ (s : SessionState). s.followers) c.self.view_is in
+    let added = rw c.metadata.ensures at c.answer_from.ensures.added in
+    subst (λ o. OnOk c.answer_from.result (c.answer_from.new.out ≡ c.args.out.now ++ query_text (image_named o) c.args.query))
+    (c.in-Some.ensures ∙ (λ i. follower_named (followers i) (c.as_str.ensures.text i))) added

@@ -1,6 +1,5 @@
 use Rattle.std.proofs.Common.{◌≡◌, ◌<◌, ◌||◌, ℕ, List, length, take, drop, ap, sym, ◌∙◌}
 use Rattle.std.proofs.lemmas.List.{drop-map, take-map}
-use Rattle.std.proofs.lemmas.Result.{on_ok_weaker}
 use Rattle.std.specs.Borrow.{Bor}
 use Rattle.cluster_terms.specs.Group.{nodes_of}
 use Rattle.cluster_terms.specs.Replication.{datacenter_group}
@@ -17,8 +16,7 @@ first_at-first-requires c = rw c.deref.ensures.value (listed_ring _ _ _ _ c.self
 
 pub returns-clause-nodes : goal.returns-clause-nodes
 returns-clause-nodes c =
-    on_ok_weaker c.add_nodes.result
-    (λ added v.
+    λ v.
     let part = c.self.inside in
     let own = part.racked.pairs.items in
     let bors = part.racked.racks.items in
@@ -38,6 +36,5 @@ returns-clause-nodes c =
     c.args.t j part.shape first c.self.invariant.1.1.0 begun middle found c.begin-walk.ensures
     (c.go_among.ensures ∙ (λ i. found_among part.shape.wanted (nodes_of (rest i)) (rest_racks i) begun))
     (c.go_among-2.ensures ∙ (λ i. found_among part.shape.wanted (nodes_of (front i)) (front_racks i) middle)) v in
-    added v ∙ ap (λ l. has_node old v || has_node l v) c.nodes.ensures
-    ∙ ap (λ b. has_node old v || b) (walked ∙ ap (λ (r : RingPart). is_replica_in r c.args.t v) c.self.view_is))
-    c.add_nodes.ensures.nodes
+    c.in_ok-placed.ensures.nodes v ∙ ap (λ l. has_node old v || has_node l v) c.nodes.ensures
+    ∙ ap (λ b. has_node old v || b) (walked ∙ ap (λ (r : RingPart). is_replica_in r c.args.t v) c.self.view_is)
