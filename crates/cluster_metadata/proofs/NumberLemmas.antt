@@ -3,12 +3,12 @@ use Rattle.std.proofs.Common.{◌≡◌, ℕ, true, IsTrue, List, [], ◌∷◌,
 use Rattle.std.proofs.lemmas.Slice.Eq.{bytes_eq-Decides}
 use Rattle.std.specs.List.{AllByRecursion}
 use Rattle.std.specs.Str.{bytes_eq}
-use Rattle.cluster_terms.proofs.ReplicationLemmas.{same_replication-exact}
+use Rattle.cluster_terms.proofs.texts.ReplicationLemmas.{same_replication-exact}
 use Rattle.cluster_terms.specs.Replication.{same_replication}
 use Rattle.cluster_terms.specs.declared.replication.Replication.{Replication}
 use Rattle.node_directory.specs.Directory.{Registry, is_directory}
 use Rattle.range_placements.specs.declared.map_row.MapRow.{MapRow}
-use Rattle.token_ring.specs.declared.book.LockRow.{LockRow}
+use Rattle.token_ring.specs.declared.range_book.LockRow.{LockRow}
 use Rattle.sequence_plans.specs.Locks.{AreLocksOf}
 use Rattle.transformations.specs.Meeting.{HaveReplications}
 use Rattle.transformations.specs.Rings.{reads_at, writes_at}
@@ -16,11 +16,12 @@ use Rattle.transformations.specs.Valid.{IsValid}
 use Rattle.transformations.specs.declared.image.Image.{Image}
 use Rattle.transformations.specs.declared.sequence.SeqRow.{SeqRow}
 use Rattle.transformations.specs.declared.keyspace.KeyspaceRow.{KeyspaceRow}
-use Rattle.cluster_metadata.specs.Change.{directory_of}
-use Rattle.cluster_metadata.specs.Held.{DiffersInNumbers, IsHeld}
-use Rattle.cluster_metadata.specs.Maps.{IsMapOf, placement_rows}
-use Rattle.cluster_metadata.specs.Running.{HaveDeltas, IsRunning}
-use Rattle.cluster_metadata.specs.declared.running.Running.{Running}
+use Rattle.cluster_metadata.specs.Metadata.{directory_of}
+use Rattle.cluster_metadata.specs.code.MetadataParts.{DiffersInNumbers, IsMetadata}
+use Rattle.cluster_metadata.specs.Maps.{placement_rows}
+use Rattle.cluster_metadata.specs.code.ShownMaps.{IsMapOf}
+use Rattle.cluster_metadata.specs.code.Running.{HaveDeltas, IsRunning}
+use Rattle.cluster_metadata.specs.declared.movements.running.Running.{Running}
 
 pub same_keyspace : (row other : KeyspaceRow) (name name' : List ℕ) → name ≡ row.name → name' ≡ other.name → bytes_eq name name' ≡ true → same_replication row.replication other.replication ≡ true → row ≡ other
 same_keyspace row other name name' is is' named replicated = λ i. record {
@@ -73,8 +74,8 @@ module _ (image other : Image) (differs : DiffersInNumbers image other) where
       by [] none (row ∷ table) are = absurd are
       by (s ∷ sequences) none table are = absurd (omega (arith, ap length none))
 
-  pub renumbered : (dir dir' : Registry) (book : List MapRow) (values : List Running) (table : List LockRow) → IsValid other → HaveReplications other → IsHeld image dir book values table
-      → dir' ≡ record { rows = dir.rows; next = other.next } → IsHeld with_numbers dir' book values table
+  pub renumbered : (dir dir' : Registry) (book : List MapRow) (values : List Running) (table : List LockRow) → IsValid other → HaveReplications other → IsMetadata image dir book values table
+      → dir' ≡ record { rows = dir.rows; next = other.next } → IsMetadata with_numbers dir' book values table
   renumbered dir dir' book values table valid replications held is = record {
     valid = subst IsValid differs.rest valid;
     replications = subst HaveReplications differs.rest replications;

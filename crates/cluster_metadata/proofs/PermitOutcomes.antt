@@ -1,9 +1,9 @@
 -- What the ranges of the movements and the quorums say of a valid image, and of the one that a permit leads to.
 use Rattle.std.proofs.Common.{◌≡◌, ◌<◌, true, None, ◌∙◌, subst, sym}
-use Rattle.transformations.proofs.cut_changes.CutsFollowed.{cuts_followed}
-use Rattle.transformations.proofs.deltas.ChangedByCommands.{changes_by_deltas}
+use Rattle.transformation_laws.proofs.cut_changes.CutsFollowed.{cuts_followed}
+use Rattle.transformation_laws.proofs.deltas.ChangedByCommands.{changes_by_deltas}
 use Rattle.transformations.proofs.quorums.AdjacentLemmas.{meet_next}
-use Rattle.transformations.proofs.histories.HistoryMeetings.{next_replications}
+use Rattle.transformation_laws.proofs.histories.HistoryMeetings.{next_replications}
 use Rattle.transformations.proofs.ranges.OutcomeLemmas.{are_outcomes, placed_by_outcomes, placed_by_ranges}
 use Rattle.transformations.proofs.ranges.RangesKept.{ranges_kept}
 use Rattle.transformations.proofs.histories.ValidLemmas.{valid_next}
@@ -14,10 +14,10 @@ use Rattle.transformations.specs.Refusals.{refusal_of}
 use Rattle.transformations.specs.Valid.{IsValid}
 use Rattle.transformations.specs.declared.command.Command.{Command}
 use Rattle.transformations.specs.declared.image.Image.{Image}
-use Rattle.cluster_metadata.specs.Change.{IsChange, changed}
+use Rattle.cluster_metadata.specs.code.Change.{IsChange, changed}
 use Rattle.cluster_metadata.specs.CutDeltas.{ActsByDelta, CutsMove}
-use Rattle.cluster_metadata.specs.Permission.{IsPermitted}
-use Rattle.cluster_metadata.specs.declared.change.Change.{Change}
+use Rattle.cluster_metadata.specs.code.PermitParts.{IsPermitted}
+use Rattle.cluster_metadata.specs.declared.changes.change.Change.{Change}
 
 pub placed : (image : Image) → IsValid image → PlacedByRanges image
 placed image valid = placed_by_ranges image valid.sound
@@ -30,14 +30,14 @@ placements image valid = placed_by_outcomes image valid.sound
 
 -- the image that a change leads to is valid, if the change is that of a command that is accepted
 pub valid_changed : (image : Image) (c : Command) (change : Change) → IsValid image → is_command c ≡ true → refusal_of image c ≡ None → image.epoch < most_epochs → IsChange image c change → IsValid (changed image change)
-valid_changed image c change valid formed accepted room makes = subst IsValid (sym makes.made) (valid_next image c valid formed accepted room)
+valid_changed image c change valid formed accepted below_limit makes = subst IsValid (sym makes.made) (valid_next image c valid formed accepted below_limit)
 
 module _ (image after : Image) (c : Command) (change : Change) (permitted : IsPermitted image c change) (made : after ≡ changed image change) (valid : IsValid image) where
   leads : next_image image c ≡ after
   leads = sym (made ∙ permitted.makes.made)
 
   pub valid_after : IsValid after
-  valid_after = subst IsValid leads (valid_next image c valid permitted.formed permitted.accepted permitted.room)
+  valid_after = subst IsValid leads (valid_next image c valid permitted.formed permitted.accepted permitted.below_limit)
 
   pub keeps_ranges : KeepsRanges image after
   keeps_ranges = subst (λ i. KeepsRanges image i) leads (ranges_kept image c valid permitted.formed permitted.accepted)
@@ -48,7 +48,7 @@ module _ (image after : Image) (c : Command) (change : Change) (permitted : IsPe
   -- the quorums of both meet where the command makes a movement epoch
   pub quorums_meet : HaveReplications image → makes_movement_epoch c ≡ true → QuorumsMeet image after
   quorums_meet have moves =
-      subst (λ i. QuorumsMeet image i) leads (meet_next image c valid have permitted.formed permitted.accepted moves permitted.room)
+      subst (λ i. QuorumsMeet image i) leads (meet_next image c valid have permitted.formed permitted.accepted moves permitted.below_limit)
 
   -- it changes the reads and the writes by its delta, and the cuts by the movement that begins or ends
   pub acts_by_delta : makes_movement_epoch c ≡ true → ActsByDelta image after c

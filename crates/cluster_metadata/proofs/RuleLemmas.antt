@@ -3,7 +3,8 @@ use Rattle.std.proofs.Common.{◌≡◌, None, ap, ◌∙◌}
 use Rattle.std.specs.Option.{option_or}
 use Rattle.transformations.specs.ImageRules.{bad_of, broken_rule}
 use Rattle.transformations.specs.declared.image.Image.{Image}
-use Rattle.cluster_metadata.specs.ImageFaults.{IsCause, overlap_of}
+use Rattle.cluster_metadata.specs.ImageFaults.{IsCause}
+use Rattle.cluster_metadata.specs.code.Overlaps.{overlap_of}
 use Rattle.cluster_metadata.specs.declared.image_fault.ImageFault.{ImageFault}
 use Rattle.cluster_metadata.specs.declared.image_fault.ImageFault.TheVariants.{Bad, Memory}
 

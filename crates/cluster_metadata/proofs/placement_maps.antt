@@ -3,10 +3,12 @@
 pub mod ArrangedMaps
 pub mod ChangeMoves
 pub mod ChangeSteps
+pub mod DeltasAcross
 pub mod EditedMaps
 pub mod ExchangedMaps
 pub mod IdleMaps
 pub mod ImageMaps
+pub mod ImageRings
 pub mod KeptRows
 pub mod MapBooks
 pub mod RevisedBooks

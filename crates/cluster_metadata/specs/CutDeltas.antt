@@ -6,7 +6,7 @@ use Rattle.cluster_terms.specs.Arc.{IsToken}
 use Rattle.cluster_terms.specs.declared.replication.Replication.{Replication}
 use Rattle.transformations.specs.CutSteps.{CutsChange, ended_by}
 use Rattle.transformations.specs.DeltaSteps.{AreChanged, delta_of_command}
-use Rattle.transformations.specs.Deltas.{gained_at, lost_at}
+use Rattle.transformations.specs.MovementDeltas.{gained_at, lost_at}
 use Rattle.transformations.specs.Refusals.{prepared_by}
 use Rattle.transformations.specs.declared.command.Command.{Command}
 use Rattle.transformations.specs.declared.image.Image.{Image}

@@ -1,10 +1,7 @@
 -- Why no metadata is made from an image.
-use Rattle.std.specs.Prelude.{◌≡◌, ℕ, Bool, true, false, pos, List, Option, Some, Result, Ok, Err}
-use Rattle.std.specs.List.{list_any}
-use Rattle.transformations.specs.ImageRules.{broken, overlap, rule_18}
-use Rattle.transformations.specs.declared.image.Image.{Image}
+use Rattle.std.specs.Prelude.{◌≡◌, Option, Some}
+use Rattle.transformations.specs.ImageRules.{broken}
 use Rattle.transformations.specs.declared.image_rules.BadImage.{BadImage}
-use Rattle.transformations.specs.declared.sequence.SeqRow.{SeqRow}
 use Rattle.cluster_metadata.specs.declared.image_fault.ImageFault.{ImageFault}
 use Rattle.cluster_metadata.specs.declared.image_fault.ImageFault.TheVariants.{Bad, Memory}
 
@@ -12,21 +9,3 @@ use Rattle.cluster_metadata.specs.declared.image_fault.ImageFault.TheVariants.{B
 abbrev pub IsCause : Option BadImage → ImageFault → Type 0
 IsCause broken (Bad bad) = broken ≡ Some bad
 IsCause broken Memory = Unit {0}
-
--- ---- of the code: no promise rests on these
-
--- the last rule, if the image breaks it; and the last rule with the node of a movement
-abbrev pub overlap_of : Image → Option BadImage
-overlap_of image = broken 18 (rule_18 image)
-
-abbrev pub overlapping_at : ℕ → BadImage
-overlapping_at node = record { rule = 18; value = pos node }
-
--- whether a movement overlaps any of these; and it is refused exactly if it does
-abbrev pub overlaps_any : Image → SeqRow → List SeqRow → Bool
-overlaps_any image s earlier = list_any (overlap image s) earlier
-
-abbrev pub FindsOverlap : {X : Type 0} → Image → SeqRow → List SeqRow → Result X ImageFault → Type 0
-FindsOverlap image s earlier (Ok x) = overlaps_any image s earlier ≡ false
-FindsOverlap image s earlier (Err (Bad bad)) = (overlaps_any image s earlier ≡ true) × (bad ≡ overlapping_at s.node)
-FindsOverlap image s earlier (Err Memory) = Unit {0}

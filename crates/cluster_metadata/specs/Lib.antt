@@ -1,15 +1,7 @@
-pub mod Arrangements
-pub mod Change
 pub mod CutDeltas
-pub mod Held
 pub mod ImageFaults
-pub mod Locking
-pub mod MapBasis
-pub mod MapChanges
-pub mod MapSteps
 pub mod Maps
-pub mod Nodes
+pub mod Metadata
 pub mod Permission
-pub mod Running
 pub mod Served
-pub mod Turns
+pub mod code

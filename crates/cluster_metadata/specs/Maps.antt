@@ -1,15 +1,11 @@
 -- The placement maps of an image: under each replication, the rows between cuts with their reads and writes.
-use Rattle.std.specs.Prelude.{◌≡◌, List, map}
-use Rattle.std.specs.List.{AllByRecursion}
-use Rattle.cluster_terms.specs.Arc.{IsToken}
+use Rattle.std.specs.Prelude.{List, map}
 use Rattle.cluster_terms.specs.Row.{last_token, rows_between}
 use Rattle.cluster_terms.specs.declared.replication.Replication.{Replication}
 use Rattle.cluster_terms.specs.declared.row.TokenRange.{TokenRange}
 use Rattle.range_placements.specs.declared.placement_row.PlacementRow.{PlacementRow}
-use Rattle.sequence_plans.specs.Replications.{replications_of}
 use Rattle.transformations.specs.Rings.{cuts, reads_at, writes_at}
 use Rattle.transformations.specs.declared.image.Image.{Image}
-use Rattle.range_placements.specs.declared.map_row.MapRow.{MapRow}
 
 -- a row between cuts, with the nodes that are read and the nodes that are written at its last token
 abbrev pub placement_row : Image → Replication → TokenRange → PlacementRow
@@ -19,16 +15,3 @@ placement_row image r row =
 -- the placement map of a replication: the rows between the cuts of the image
 abbrev pub placement_rows : Image → Replication → List PlacementRow
 placement_rows image r = map (placement_row image r) (rows_between (cuts image))
-
--- a row of a book has the placement map of its replication; and the cuts of the image are tokens
-abbrev pub IsMapOf : Image → MapRow → Type 0
-IsMapOf image row = (row.map ≡ placement_rows image row.replication) × AllByRecursion IsToken (cuts image)
-
--- a book has the placement map of each of these replications
-pub record AreMapsOf (image : Image) (rs : List Replication) (book : List MapRow) : Type 0 where
-  pub replications : map (λ row. row.replication) book ≡ rs
-  pub placements : AllByRecursion (IsMapOf image) book
-
--- a book has the placement map of each replication that a keyspace has
-abbrev pub AreMaps : Image → List MapRow → Type 0
-AreMaps image book = AreMapsOf image (replications_of image.keyspaces) book

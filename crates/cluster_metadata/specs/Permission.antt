@@ -1,28 +1,15 @@
 -- Permits, and the commands that they allow.
-use Rattle.std.specs.Prelude.{◌≡◌, ◌<◌, true, MatchResult, Option, Some, None, Result}
-use Rattle.transformations.specs.History.{is_command, most_epochs}
-use Rattle.transformations.specs.Meeting.{HasReplication}
-use Rattle.transformations.specs.Refusals.{refusal_of}
+use Rattle.std.specs.Prelude.{◌≡◌, MatchResult, Option, Some, None, Result}
 use Rattle.transformations.specs.declared.command.Command.{Command}
 use Rattle.transformations.specs.declared.image.Image.{Image}
 use Rattle.transformations.specs.declared.refusal.Refusal.{Refusal}
-use Rattle.cluster_metadata.specs.Change.{IsChange}
 use Rattle.cluster_metadata.specs.declared.admit_fault.AdmitFault.{AdmitFault}
 use Rattle.cluster_metadata.specs.declared.admit_fault.AdmitFault.TheVariants.{Refused, Memory}
-use Rattle.cluster_metadata.specs.declared.change.Change.{Change}
 
 -- an image, and a command that it accepts
 pub record Permission : Type 0 where
   pub image : Image
   pub command : Command
-
--- a command is accepted in an image, and makes this change in it (the invariant of `Permit`)
-pub record IsPermitted (image : Image) (command : Command) (change : Change) : Type 0 where
-  pub room : image.epoch < most_epochs
-  pub formed : is_command command ≡ true
-  pub accepted : refusal_of image command ≡ None
-  pub makes : IsChange image command change
-  pub replicated : HasReplication command
 
 -- a fault that shows the first refusal, if there is one; or memory ran out
 abbrev pub ShowsRefusal : Option Refusal → AdmitFault → Type 0

@@ -22,7 +22,7 @@ fn counted<L: Ledger>(
     requires name { blank.name ≡ L.name }
     requires parts { blank.parts ≡ L.parts }
     requires some { 0 < blank.parts }
-    requires room { metadata.now.epoch < most_epochs }
+    requires below_limit { metadata.now.epoch < most_epochs }
     requires formed { IsTrue (is_command command.now) }
     ensures permit { IfOk result (λ permit. permit ≡ record { image = metadata.now; command = command.now }) }
     ensures refusal { AdmitsUnless (refusal_of metadata.now command.now) result }
@@ -36,7 +36,7 @@ impl Metadata {
     ///
     /// Errors and cost: those of `admit`.
     pub fn permit(&self, command: &Command) -> Result<Permit, AdmitFault>
-        requires room { self.now.epoch < most_epochs }
+        requires below_limit { self.now.epoch < most_epochs }
         requires formed { IsTrue (is_command command.now) }
         ensures permit { IfOk result (λ permit. permit ≡ record { image = self.now; command = command.now }) }
         ensures refusal { AdmitsUnless (refusal_of self.now command.now) result }
@@ -49,7 +49,7 @@ impl Metadata {
     /// Errors: `Refused` with the first refusal of the command; `Memory` if memory runs out. After an error, the
     /// metadata is unchanged. Cost: that of `admit` and `enact`.
     pub fn apply(&mut self, command: &Command) -> Result<(), AdmitFault>
-        requires room { self.old.epoch < most_epochs }
+        requires below_limit { self.old.epoch < most_epochs }
         requires formed { IsTrue (is_command command.now) }
         ensures ok { OnOk result (self.new ≡ next_image self.old command.now) }
         ensures refusal { AdmitsUnless (refusal_of self.old command.now) result }

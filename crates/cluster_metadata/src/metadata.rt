@@ -12,26 +12,28 @@ ghost use Rattle.transformations.specs.Meeting.{HaveReplications, QuorumsExistTo
 ghost use Rattle.transformations.specs.Refusals.{early_refusal_of, prepared_by, refusal_of};
 ghost use Rattle.transformations.specs.Rings.{cuts, writes_at};
 ghost use Rattle.transformations.specs.Valid.{IsValid};
-ghost use Rattle.cluster_metadata.specs.Change.{directory_of};
+ghost use Rattle.cluster_metadata.specs.Metadata.{directory_of};
 ghost use Rattle.cluster_metadata.specs.CutDeltas.{ActsByDelta, CutsMove, DeltasSameAcross};
-ghost use Rattle.cluster_metadata.specs.Held.{DiffersInNumbers};
+ghost use Rattle.cluster_metadata.specs.code.MetadataParts.{DiffersInNumbers};
 ghost use Rattle.cluster_metadata.specs.ImageFaults.{IsCause};
 ghost use Rattle.sequence_plans.specs.Locks.{AreLocksOf};
 ghost use Rattle.cluster_metadata.specs.Maps.{placement_rows};
 ghost use Rattle.cluster_metadata.specs.Served as spec;
 
 use crate::admit_fault::AdmitFault;
-use crate::advancing::empty_image;
-use crate::enact::{exchange, make};
+use crate::changes::command_change::change_of;
+use crate::changes::enact::{exchange, make};
+use crate::changes::keyspaces::keyspace_of;
+use crate::changes::next_image::empty_image;
 use crate::image_fault::ImageFault;
-use crate::keyspaces::keyspace_of;
-use crate::map_book::MapBook;
-use crate::maps::find_map;
-use crate::numbers::differs_in_numbers;
-use crate::parts::parts_of;
-use crate::permit::{Permit, permit_for};
-use crate::running::{Running, close_all};
-use cluster_terms::{Memory, Name, Replication, Steps, Token, TryCopy};
+use crate::image_numbers::differs_in_numbers;
+use crate::maps::image_map::find_map;
+use crate::maps::map_book::MapBook;
+use crate::maps::maps_after::maps_for;
+use crate::metadata_parts::parts_of;
+use crate::movements::running::{Running, close_all};
+use crate::permit::{Permit, first_refusal, grown_to, room_for};
+use cluster_terms::{Memory, Name, Replication, Room, Steps, Token, TryCopy};
 use locked_ranges::LockTable;
 use node_directory::Directory;
 use node_sets::NodeSet;
@@ -39,6 +41,7 @@ use range_placements::PlacementMap;
 use std::alloc::Global;
 use std::marker::Model;
 use std::mem::replace;
+use std::snapshot::Snapshot;
 use std::sync::ledger::Ledger;
 use transformations::{Command, Image, KeyspaceRow};
 
@@ -67,13 +70,13 @@ pub struct Metadata {
 
 impl Model for Metadata {
     ghost use Rattle.transformations.specs.declared.image.Image.{Image};
-    ghost use Rattle.cluster_metadata.specs.Held.{IsHeld};
+    ghost use Rattle.cluster_metadata.specs.code.MetadataParts.{IsMetadata};
 
     ghost Value = { Image };
 
     ghost view = { λ m. m.image };
 
-    ghost invariant = { λ m. IsHeld m.image m.directory m.maps m.running.items m.locks };
+    ghost invariant = { λ m. IsMetadata m.image m.directory m.maps m.running.items m.locks };
 }
 
 impl Metadata {
@@ -247,7 +250,7 @@ impl Metadata {
         cmd: &Command,
         walks: &mut Steps<L>,
     ) -> Result<Permit, AdmitFault>
-        requires room { self.now.epoch < most_epochs }
+        requires below_limit { self.now.epoch < most_epochs }
         requires formed { IsTrue (is_command cmd.now) }
         ensures permit { IfOk result (λ permit. permit ≡ record { image = self.now; command = cmd.now }) }
         ensures refusal { AdmitsUnless (refusal_of self.now cmd.now) result }
@@ -258,16 +261,22 @@ impl Metadata {
         ensures rings { AreOutcomes self.now }
         ensures placements { ArePlacedByOutcomes self.now }
     {
-        permit_for(
-            self.alloc,
-            &self.image,
-            &self.directory,
-            &self.maps,
-            self.running.as_slice(),
-            &self.locks,
-            cmd,
-            walks,
-        )
+        let (alloc, image, directory) = (self.alloc, &self.image, &self.directory);
+        if let Some(refusal) = first_refusal(alloc, image, directory, cmd)? {
+            return Err(AdmitFault::Refused(refusal));
+        }
+        let change = change_of(alloc, image, directory, &self.locks, cmd, walks)?;
+        let running = self.running.as_slice();
+        let maps = maps_for(alloc, image, directory, &self.maps, running, &change)?;
+        let count = grown_to(&change);
+        Ok(Permit {
+            change,
+            lock: Room::for_items(alloc, count)?,
+            room: room_for(alloc, count)?,
+            maps,
+            image: Snapshot::of(image),
+            command: Snapshot::of(cmd),
+        })
     }
 
     /// Carries out the permit's command and returns the new epoch. It can't be refused and allocates no memory: it

@@ -1,32 +1,21 @@
-ghost use Rattle.std.specs.Prelude.{◌≡◌, ◌<◌, ◌≤◌, None, IfOk, IsSome, IsTrue, vec_capacity, vec_len};
-ghost use Rattle.transformations.specs.History.{is_command, most_epochs};
-ghost use Rattle.transformations.specs.Refusals.{early_refusal_of, prepared_by, refusal_of};
-ghost use Rattle.transformations.specs.Valid.{IsSound, IsValid};
-ghost use Rattle.cluster_metadata.specs.Change.{grown_to};
-ghost use Rattle.sequence_plans.specs.Locks.{AreLocksOf};
-ghost use Rattle.cluster_metadata.specs.Maps.{AreMaps};
-ghost use Rattle.cluster_metadata.specs.Running.{HaveDeltas, IsRunning};
-ghost use Rattle.cluster_metadata.specs.Permission.{AdmitsUnless};
+ghost use Rattle.std.specs.Prelude.{◌≡◌, ◌≤◌, IfOk, vec_capacity, vec_len};
+ghost use Rattle.transformations.specs.Refusals.{early_refusal_of};
+ghost use Rattle.transformations.specs.Valid.{IsSound};
+ghost use Rattle.cluster_metadata.specs.code.Change.{grown_to};
 
-use crate::admit_fault::AdmitFault;
-use crate::change::Change;
-use crate::changes::change_of;
-use crate::map_book::MapBook;
-use crate::map_change::MapChange;
-use crate::map_changes::maps_for;
-use crate::running::Running;
-use cluster_terms::{Memory, Room, Steps};
-use locked_ranges::LockTable;
+use crate::changes::change::Change;
+use crate::maps::map_change::MapChange;
+use crate::movements::running::Running;
+use cluster_terms::{Memory, Room};
 use node_directory::Directory;
 use std::alloc::Global;
 use std::marker::Model;
 use std::snapshot::Snapshot;
-use std::sync::ledger::Ledger;
 use token_ring::LockRow;
 use transformations::{Command, Image, Refusal, early_refusal, register_refusal};
 
 /// How many movements there are after a change that begins one, and 0 for any other change.
-fn grown_to(change: &Change) -> usize
+pub fn grown_to(change: &Change) -> usize
     ensures { result ≡ grown_to change.now }
 {
     match change {
@@ -36,7 +25,7 @@ fn grown_to(change: &Change) -> usize
 }
 
 /// An empty vector with room for the values of this many movements.
-fn room_for(alloc: Global, count: usize) -> Result<Vec<Running>, Memory>
+pub fn room_for(alloc: Global, count: usize) -> Result<Vec<Running>, Memory>
     ensures { IfOk result (λ room. (vec_len room ≡ 0) × (count ≤ vec_capacity room)) }
 {
     Ok(Vec::with_capacity(alloc, count)?)
@@ -44,7 +33,7 @@ fn room_for(alloc: Global, count: usize) -> Result<Vec<Running>, Memory>
 
 /// The first refusal of a command, apart from `Locked`. The name of a new node is looked up in the directory, which
 /// must hold the nodes of the image. Fails only if memory runs out.
-fn first_refusal(
+pub fn first_refusal(
     alloc: Global,
     image: &Image,
     directory: &Directory,
@@ -76,9 +65,10 @@ pub struct Permit {
 
 impl Model for Permit {
     ghost use Rattle.std.specs.Prelude.{◌≡◌, ◌≤◌, vec_capacity, vec_len};
-    ghost use Rattle.cluster_metadata.specs.Change.{grown_to};
-    ghost use Rattle.cluster_metadata.specs.MapChanges.{BringsMaps};
-    ghost use Rattle.cluster_metadata.specs.Permission.{Permission, IsPermitted};
+    ghost use Rattle.cluster_metadata.specs.code.Change.{grown_to};
+    ghost use Rattle.cluster_metadata.specs.code.MapChanges.{BringsMaps};
+    ghost use Rattle.cluster_metadata.specs.Permission.{Permission};
+    ghost use Rattle.cluster_metadata.specs.code.PermitParts.{IsPermitted};
 
     ghost Value = { Permission };
 
@@ -103,46 +93,4 @@ impl Permit {
         } = self;
         room.destroy_empty();
     }
-}
-
-/// A permit for a command in an image. Errors: `Refused` with its first refusal; `Memory` if memory runs out.
-pub(crate) fn permit_for<L: Ledger>(
-    alloc: Global,
-    image: &Image,
-    directory: &Directory,
-    maps: &MapBook,
-    running: &[Running],
-    locks: &LockTable,
-    cmd: &Command,
-    walks: &mut Steps<L>,
-) -> Result<Permit, AdmitFault>
-    requires valid { IsValid image.now }
-    requires nodes { directory.now.rows ≡ image.now.nodes }
-    requires maps { AreMaps image.now maps.now }
-    requires running { IsRunning image.now.sequences running.now }
-    requires deltas { HaveDeltas image.now running.now }
-    requires locks { AreLocksOf image.now image.now.sequences locks.now }
-    requires room { image.now.epoch < most_epochs }
-    requires formed { IsTrue (is_command cmd.now) }
-    ensures permit { IfOk result (λ permit. permit ≡ record { image = image.now; command = cmd.now }) }
-    ensures refusal { AdmitsUnless (refusal_of image.now cmd.now) result }
-    ensures uncounted { prepared_by image.now.tokens cmd.now ≡ None → walks.new ≡ walks.old }
-    ensures early { IsSome (early_refusal_of image.now cmd.now) → walks.new ≡ walks.old }
-{
-    if let Some(refusal) = first_refusal(alloc, image, directory, cmd)? {
-        return Err(AdmitFault::Refused(refusal));
-    }
-    let change = change_of(alloc, image, directory, locks, cmd, walks)?;
-    let maps = maps_for(alloc, image, directory, maps, running, &change)?;
-    let count = grown_to(&change);
-    let lock = Room::for_items(alloc, count)?;
-    let room = room_for(alloc, count)?;
-    Ok(Permit {
-        change,
-        room,
-        lock,
-        maps,
-        image: Snapshot::of(image),
-        command: Snapshot::of(cmd),
-    })
 }

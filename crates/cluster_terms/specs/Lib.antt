@@ -2,9 +2,9 @@ pub mod Arc
 pub mod Ascending
 pub mod Factors
 pub mod Group
+pub mod IdSets
 pub mod Name
 pub mod NodeRow
-pub mod NodeSets
 pub mod Pair
 pub mod Quorum
 pub mod Reach

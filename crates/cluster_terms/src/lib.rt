@@ -27,7 +27,7 @@ pub use name::Name;
 pub use node::{NodeId, NodeRow, NodeRows};
 pub use replication::Replication;
 pub use rf::Rf;
-pub use ring_row::{RingRow, row_index, row_index_near};
+pub use ring_row::{RingRow, row_index, row_index_by_hint};
 pub use room::Room;
 pub use row::{Rows, TokenRange, rows_between};
 pub use steps::Steps;

@@ -65,7 +65,7 @@ impl Name {
     }
 
     /// The name with these bytes. Returns `None` if and only if they are not a name. Never returns `Memory`.
-    #[tactic(auto, using(crate::proofs::NameTexts::no_name))]
+    #[tactic(auto, using(crate::proofs::texts::NameTexts::no_name))]
     pub fn from_bytes(alloc: Global, bytes: &[u8]) -> Result<Option<Name>, Memory>
         ensures name { IfOk result (λ found. found ≡ (if spec.is_name bytes.now then Some bytes.now else None)) }
         ensures sure { IsOk result }

@@ -114,7 +114,7 @@ fn rows_of(alloc: Global, words: &[&[u8]]) -> Result<Option<SmallList<(Name, Rf)
 }
 
 /// Parses a word DC:RF. Returns `None` if and only if the word does not have this form.
-#[tactic(auto, using(crate::proofs::ReplicationTexts::no_colon), unfolding(crate::specs::ReplicationText::factor_row_of))]
+#[tactic(auto, using(crate::proofs::texts::ReplicationTexts::no_colon), unfolding(crate::specs::ReplicationText::factor_row_of))]
 fn factor_row_of(alloc: Global, word: &[u8]) -> Result<Option<(Name, Rf)>, Memory>
     ensures { IfOk result (λ found. found ≡ spec.factor_row_of word.now) }
 {
@@ -159,7 +159,7 @@ fn write_row(row: &(Name, Rf), out: &mut ByteText) -> Result<(), Memory>
 }
 
 /// Parsing the text of a valid replication gives the replication back.
-#[tactic(auto, using(crate::proofs::RoundTrip::round_trip))]
+#[tactic(auto, using(crate::proofs::texts::RoundTrip::round_trip))]
 pub fn texts_read_back()
     ensures { (r : AnyReplication) → IsReplication r → spec.replication_of (spec.text_of r) ≡ Some r }
 {}

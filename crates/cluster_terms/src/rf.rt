@@ -37,7 +37,7 @@ impl Rf {
     }
 
     /// Parses a number from 1 to 16 in decimal digits, without a leading zero. Returns `None` for any other text.
-    #[tactic(auto, using(crate::proofs::FactorTexts::no_factor))]
+    #[tactic(auto, using(crate::proofs::texts::FactorTexts::no_factor))]
     pub fn from_text(text: &[u8]) -> Option<Rf>
         ensures { result ≡ factor_of text.now }
     {
@@ -53,7 +53,7 @@ impl Rf {
     }
 
     /// Appends the factor in decimal digits. If memory runs out, leaves `out` unchanged.
-    #[tactic(auto, using(crate::proofs::FactorTexts::two_digits, std::proofs::lemmas::Fmt::decimal_digit))]
+    #[tactic(auto, using(crate::proofs::texts::FactorTexts::two_digits, std::proofs::lemmas::Fmt::decimal_digit))]
     pub fn write(self, out: &mut ByteText) -> Result<(), Memory>
         ensures text { MatchResult result (λ _. out.new ≡ out.old ++ decimal self) (λ _. out.new ≡ out.old) }
         ensures valid { IsFactor self }

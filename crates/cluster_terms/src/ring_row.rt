@@ -44,16 +44,16 @@ fn is_row_of<R: RingRow>(rows: &[R], at: usize, t: Token) -> bool
     rows[at - 1].right_end().last_token() < t
 }
 
-/// The index of the row of a token: `near` or the next index, if that is right, and otherwise by a binary search.
-pub fn row_index_near<R: RingRow>(rows: &[R], near: usize, t: Token) -> usize
+/// The index of the row of a token: `hint` or the next index, if that is right, and otherwise by a binary search.
+pub fn row_index_by_hint<R: RingRow>(rows: &[R], hint: usize, t: Token) -> usize
     requires { CoverRing R.right rows.now }
     ensures bound { result < length rows.now }
     ensures row { EndBefore R.right t rows.now result }
 {
-    if is_row_of(rows, near, t) {
-        return near;
+    if is_row_of(rows, hint, t) {
+        return hint;
     }
-    let next = near.saturating_add(1);
+    let next = hint.saturating_add(1);
     if is_row_of(rows, next, t) {
         return next;
     }

@@ -3,7 +3,7 @@ ghost use Rattle.std.specs.Prelude.{◌≡◌, ◌+◌, ◌<◌};
 use std::marker::Model;
 use std::sync::ledger::{Blank, Book, Ledger, Share};
 
-/// A counter of steps. It takes no bytes and does nothing at run time. Only `tick` changes it.
+/// A counter of walks or of comparisons. It takes no bytes and does nothing at run time. Only `tick` changes it.
 #[derive(Drop)]
 pub struct Steps<L: Ledger> {
     book: Book<L>,
@@ -32,7 +32,7 @@ impl<L: Ledger> Steps<L> {
         Steps { book, share }
     }
 
-    /// Counts one step.
+    /// Adds one to the count.
     pub fn tick(&mut self)
         ensures { self.new ≡ self.old + 1 }
     {

@@ -9,7 +9,7 @@ ghost use Rattle.cluster_terms.specs.Row.{is_within, last_token, rows_between};
 
 /// Ascending cuts divide the tokens into rows: each token is in exactly one row between the cuts, and each row contains
 /// its last token.
-#[tactic(auto, using(crate::proofs::RowLemmas::one_row, crate::proofs::RowLemmas::each_has_last))]
+#[tactic(auto, using(crate::proofs::rows::RowLemmas::one_row, crate::proofs::rows::RowLemmas::each_has_last))]
 pub fn each_token_has_one_row()
     ensures one { (cuts : List ℤ) (x : ℤ) → IsStrictlySortedBy int_cmp cuts → All IsToken cuts → IsToken x
         → length (filter (is_within x) (rows_between cuts)) ≡ 1 }

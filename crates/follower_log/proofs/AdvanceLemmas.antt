@@ -11,7 +11,7 @@ use Rattle.transformations.specs.declared.entry.Entry.{Entry}
 use Rattle.transformations.specs.declared.image.Image.{Image}
 use Rattle.transformations.specs.declared.refusal.Refusal.{Refusal}
 use Rattle.follower_log.specs.Follower.{Performs, FollowerState, IsAdvance, advanced, cut_first, hand_above, is_next, is_same, stays}
-use Rattle.follower_log.specs.Kept.{Advances, ComesFirst, Leads, first_entry}
+use Rattle.follower_log.specs.code.WaitingEntries.{Advances, ComesFirst, Leads, first_entry}
 use Rattle.follower_log.specs.declared.fault.FollowerFault.{FollowerFault}
 use Rattle.follower_log.specs.declared.fault.FollowerFault.TheVariants.{Fork, Refused, BadImage, Memory, MemoryAt}
 use Rattle.follower_log.specs.declared.took.Took.{Took}

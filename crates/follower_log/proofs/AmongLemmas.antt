@@ -10,7 +10,7 @@ use Rattle.cluster_terms.specs.Ascending.{put}
 use Rattle.transformations.proofs.lists.ListLemmas.{all_filter, all_weaker, filter_all, find_none}
 use Rattle.transformations.specs.Log.{are_numbered}
 use Rattle.transformations.specs.declared.entry.Entry.{Entry}
-use Rattle.follower_log.proofs.KeptLemmas.{put_first}
+use Rattle.follower_log.proofs.EntriesByEpoch.{put_first}
 use Rattle.follower_log.proofs.PrefixLemmas.{among, numbered_from}
 use Rattle.follower_log.specs.Follower.{by_epoch, waiting_at}
 

@@ -1,9 +1,9 @@
 pub mod AdvanceLemmas
 pub mod AmongLemmas
-pub mod CutLemmas
 pub mod EndLemmas
+pub mod EntriesByEpoch
 pub mod GrowthLemmas
-pub mod KeptLemmas
 pub mod PrefixLemmas
 pub mod ShowsLemmas
+pub mod StepsCutShort
 pub mod WaitingLemmas

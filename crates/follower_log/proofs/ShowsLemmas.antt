@@ -8,7 +8,7 @@ use Rattle.std.specs.List.{AllByRecursion, Contains, list_any}
 use Rattle.cluster_terms.specs.Ascending.{put}
 use Rattle.transformations.proofs.commands.SameLemmas.{same_command_tells}
 use Rattle.transformations.proofs.histories.HistoryLemmas.{epoch_after, valid_at}
-use Rattle.transformations.proofs.images.ValidLaws.{valid_to}
+use Rattle.transformation_laws.proofs.images.ValidLaws.{valid_to}
 use Rattle.transformations.proofs.histories.LogLemmas.{length-commands_of}
 use Rattle.transformations.specs.History.{state_after}
 use Rattle.transformations.specs.ImageRules.{bad_of}

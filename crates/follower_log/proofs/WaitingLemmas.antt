@@ -13,7 +13,7 @@ use Rattle.std.specs.declared.cmp.Ordering.TheVariants.{Less, Equal, Greater}
 use Rattle.cluster_terms.specs.Ascending.{put}
 use Rattle.transformations.specs.declared.entry.Entry.{Entry}
 use Rattle.follower_log.specs.Follower.{by_epoch, waiting_at}
-use Rattle.follower_log.specs.Kept.{AreAbove, AreKeyed, first_entry}
+use Rattle.follower_log.specs.code.WaitingEntries.{AreAbove, AreKeyed, first_entry}
 
 -- a look-up finds the entry of the epoch
 pub found : (epoch : ℕ) (pairs : List (ℕ × Entry)) → AreKeyed pairs → lookup (is_at (nat_cmp epoch)) pairs ≡ waiting_at (values_of pairs) epoch

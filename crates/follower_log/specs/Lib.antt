@@ -1,3 +1,3 @@
 pub mod Follower
-pub mod Kept
 pub mod Prefix
+pub mod code

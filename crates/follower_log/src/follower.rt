@@ -4,7 +4,7 @@ ghost use Rattle.transformations.specs.History.{is_command, most_epochs, state_a
 ghost use Rattle.transformations.specs.Log.{IsLog, commands_of};
 ghost use Rattle.transformations.specs.declared.entry.Entry.{Entry as LogEntry};
 ghost use Rattle.follower_log.specs.Follower.{Performs, FollowerState, IsAdvance, IsCutFrom, advanced, by_epoch, empty_follower, hand_above, hand_entry, hand_image, hand_new, hand_valid, is_next, lacks_only, waiting_at};
-ghost use Rattle.follower_log.specs.Kept.{Advances, ComesFirst};
+ghost use Rattle.follower_log.specs.code.WaitingEntries.{Advances, ComesFirst};
 ghost use Rattle.follower_log.specs.declared.took.Took.{Took};
 ghost use Rattle.follower_log.specs.Prefix.{IsEntryOf, IsImageOf, StandsAfter, StandsFor, Taken, nothing_taken, with_entry, with_image};
 
@@ -34,7 +34,7 @@ pub struct Follower {
 
 impl Model for Follower {
     ghost use Rattle.follower_log.specs.Follower.{FollowerState};
-    ghost use Rattle.follower_log.specs.Kept.{CanWait};
+    ghost use Rattle.follower_log.specs.code.WaitingEntries.{CanWait};
 
     ghost Value = { FollowerState };
 

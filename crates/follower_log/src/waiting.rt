@@ -4,7 +4,7 @@ ghost use Rattle.std.specs.Prelude.{◌≡◌, [], drop, filter, length, nat_lt,
 ghost use Rattle.std.specs.Option.{option_copied};
 ghost use Rattle.cluster_terms.specs.Ascending.{put};
 ghost use Rattle.follower_log.specs.Follower.{by_epoch, waiting_at};
-ghost use Rattle.follower_log.specs.Kept.{AreAbove, first_entry};
+ghost use Rattle.follower_log.specs.code.WaitingEntries.{AreAbove, first_entry};
 
 use cluster_terms::{Memory, TryCopy};
 use std::alloc::Global;
@@ -22,7 +22,7 @@ impl Model for Waiting {
     ghost use Rattle.std.specs.Prelude.{List};
     ghost use Rattle.std.specs.BTreeMap.{values};
     ghost use Rattle.transformations.specs.declared.entry.Entry.{Entry};
-    ghost use Rattle.follower_log.specs.Kept.{AreKeyed};
+    ghost use Rattle.follower_log.specs.code.WaitingEntries.{AreKeyed};
 
     ghost Value = { List Entry };
 

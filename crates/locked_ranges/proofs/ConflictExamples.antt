@@ -4,8 +4,8 @@ use Rattle.cluster_terms.specs.declared.replication.Replication.{Replication}
 use Rattle.cluster_terms.specs.declared.row.TokenRange.{TokenRange}
 use Rattle.cluster_terms.specs.declared.token.RightEnd.{RightEnd}
 use Rattle.cluster_terms.specs.declared.token.RightEnd.TheVariants.{At, Max}
-use Rattle.token_ring.specs.declared.book.LockRow.{LockRow}
-use Rattle.token_ring.specs.declared.book.RangeRow.{RangeRow}
+use Rattle.token_ring.specs.declared.range_book.LockRow.{LockRow}
+use Rattle.token_ring.specs.declared.range_book.RangeRow.{RangeRow}
 use Rattle.locked_ranges.specs.Conflict.{conflict_of}
 use Rattle.locked_ranges.specs.Table.{lock_row, other_locks}
 

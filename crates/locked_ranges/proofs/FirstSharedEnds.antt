@@ -11,10 +11,10 @@ use Rattle.cluster_terms.specs.Row.{is_last, rows_from}
 use Rattle.cluster_terms.specs.declared.row.TokenRange.{TokenRange}
 use Rattle.cluster_terms.specs.declared.token.RightEnd.{RightEnd}
 use Rattle.cluster_terms.specs.declared.token.RightEnd.TheVariants.{At, Max}
-use Rattle.token_ring.specs.Ranges.{first_common_end, have_token, is_common}
-use Rattle.token_ring.specs.declared.book.RangeRow.{RangeRow}
+use Rattle.token_ring.specs.TokenRanges.{first_common_end, have_token, is_common}
+use Rattle.token_ring.specs.declared.range_book.RangeRow.{RangeRow}
 use Rattle.locked_ranges.specs.Conflict.{first_shared_end, share_row}
-use Rattle.locked_ranges.specs.FirstEnd.{first_end, lesser_end}
+use Rattle.locked_ranges.specs.code.FirstEnd.{first_end, lesser_end}
 use Rattle.locked_ranges.specs.Sharing.{ShareNoToken}
 
 -- ---- the lesser of right ends

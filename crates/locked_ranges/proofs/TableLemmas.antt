@@ -8,16 +8,13 @@ use Rattle.std.proofs.lemmas.List.Quantifiers.{all_pairs_push}
 use Rattle.std.proofs.lemmas.List.Elements.{recursion_from_All}
 use Rattle.cluster_terms.specs.Arc.{IsToken}
 use Rattle.token_ring.proofs.RangeLemmas.{to_all}
-use Rattle.token_ring.specs.Ranges.{have_token}
-use Rattle.token_ring.specs.declared.book.LockRow.{LockRow}
-use Rattle.token_ring.specs.declared.book.RangeRow.{RangeRow}
+use Rattle.token_ring.specs.TokenRanges.{have_token}
+use Rattle.token_ring.specs.declared.range_book.LockRow.{LockRow}
+use Rattle.token_ring.specs.declared.range_book.RangeRow.{RangeRow}
 use Rattle.locked_ranges.specs.Sharing.{ShareNoToken, IsInside, share_token}
 use Rattle.locked_ranges.specs.Table.{AreWider, IsLockTable, has_row, lock_row, other_locks}
 
 -- ---- rows
-
-pub table_nil : IsLockTable []
-table_nil = record { nodes = λ i j d lt within. absurd (omega arith); apart = λ i j d lt within. absurd (omega arith) }
 
 -- two books share a token whichever comes first
 swapped : (one other : List RangeRow) (t : ℤ) → share_token one other t ≡ share_token other one t

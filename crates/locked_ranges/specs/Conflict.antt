@@ -3,8 +3,8 @@ use Rattle.std.specs.Prelude.{Bool, ℕ, ℤ, List, Option, option_map, find, fi
 use Rattle.cluster_terms.specs.Row.{last_token, rows_between}
 use Rattle.cluster_terms.specs.declared.row.TokenRange.{TokenRange}
 use Rattle.cluster_terms.specs.declared.token.RightEnd.{RightEnd}
-use Rattle.token_ring.specs.declared.book.LockRow.{LockRow}
-use Rattle.token_ring.specs.declared.book.RangeRow.{RangeRow}
+use Rattle.token_ring.specs.declared.range_book.LockRow.{LockRow}
+use Rattle.token_ring.specs.declared.range_book.RangeRow.{RangeRow}
 use Rattle.locked_ranges.specs.Sharing.{share_token}
 
 -- whether two books share a row, by its last token; and the right end of the first row that they share

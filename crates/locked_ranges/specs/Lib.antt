@@ -1,4 +1,4 @@
 pub mod Conflict
-pub mod FirstEnd
 pub mod Sharing
 pub mod Table
+pub mod code

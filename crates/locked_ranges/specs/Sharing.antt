@@ -3,8 +3,8 @@
 use Rattle.std.specs.Prelude.{◌≡◌, Bool, true, false, ◌&&◌, ℤ, List, map, zip}
 use Rattle.std.specs.List.{AllByRecursion, list_any}
 use Rattle.cluster_terms.specs.Arc.{IsToken}
-use Rattle.token_ring.specs.Ranges.{have_token}
-use Rattle.token_ring.specs.declared.book.RangeRow.{RangeRow}
+use Rattle.token_ring.specs.TokenRanges.{have_token}
+use Rattle.token_ring.specs.declared.range_book.RangeRow.{RangeRow}
 
 -- whether a token is in the ranges of both books under one replication
 abbrev pub share_token : List RangeRow → List RangeRow → ℤ → Bool

@@ -2,8 +2,8 @@
 use Rattle.std.specs.Prelude.{◌≡◌, ◌≢◌, ℕ, Bool, not, ◌==◌, List, map, filter, AllPairs, nat_eq}
 use Rattle.std.specs.List.{AllByRecursion}
 use Rattle.std.specs.Set.{is_member}
-use Rattle.token_ring.specs.declared.book.LockRow.{LockRow}
-use Rattle.token_ring.specs.declared.book.RangeRow.{RangeRow}
+use Rattle.token_ring.specs.declared.range_book.LockRow.{LockRow}
+use Rattle.token_ring.specs.declared.range_book.RangeRow.{RangeRow}
 use Rattle.locked_ranges.specs.Sharing.{ShareNoToken, IsInside}
 
 -- the nodes are distinct, and no two rows share a token

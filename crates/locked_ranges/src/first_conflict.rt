@@ -2,7 +2,7 @@ ghost use Rattle.std.specs.Prelude.{◌≡◌, ◌↔◌, IsNone};
 ghost use Rattle.std.specs.List.{AllByRecursion};
 ghost use Rattle.std.specs.List.Sorted.{IsStrictlySortedBy};
 ghost use Rattle.std.specs.Ordering.{int_cmp};
-ghost use Rattle.token_ring.specs.Ranges.{AreCutOut};
+ghost use Rattle.token_ring.specs.TokenRanges.{AreCutOut};
 ghost use Rattle.locked_ranges.specs.Conflict.{conflict_of};
 ghost use Rattle.locked_ranges.specs.Sharing.{ShareNoToken};
 

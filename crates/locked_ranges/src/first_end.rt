@@ -4,9 +4,9 @@ ghost use Rattle.std.specs.Prelude.{◌≡◌, ◌↔◌, IsNone};
 ghost use Rattle.std.specs.List.{AllByRecursion};
 ghost use Rattle.std.specs.List.Sorted.{IsStrictlySortedBy};
 ghost use Rattle.std.specs.Ordering.{int_cmp};
-ghost use Rattle.token_ring.specs.Ranges.{AreCutOut};
+ghost use Rattle.token_ring.specs.TokenRanges.{AreCutOut};
 ghost use Rattle.locked_ranges.specs.Conflict.{first_shared_end};
-ghost use Rattle.locked_ranges.specs.FirstEnd.{first_end, lesser_end};
+ghost use Rattle.locked_ranges.specs.code.FirstEnd.{first_end, lesser_end};
 ghost use Rattle.locked_ranges.specs.Sharing.{ShareNoToken};
 
 use cluster_terms::{RightEnd, Token};

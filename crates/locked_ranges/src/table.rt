@@ -2,7 +2,7 @@ ghost use Rattle.std.specs.Prelude.{◌≡◌, ◌<◌, ◌≤◌, ◌↔◌, tr
 ghost use Rattle.std.specs.List.{AllByRecursion, insert};
 ghost use Rattle.std.specs.List.Sorted.{IsStrictlySortedBy};
 ghost use Rattle.std.specs.Ordering.{int_cmp};
-ghost use Rattle.token_ring.specs.Ranges.{AreCutOut};
+ghost use Rattle.token_ring.specs.TokenRanges.{AreCutOut};
 ghost use Rattle.locked_ranges.specs.Conflict.{conflict_of};
 ghost use Rattle.locked_ranges.specs.Sharing.{ShareNoToken};
 ghost use Rattle.locked_ranges.specs.Table.{AreWider, IsLockTable, has_row, other_locks, lock_row};
@@ -26,7 +26,7 @@ pub struct LockTable {
 
 impl Model for LockTable {
     ghost use Rattle.std.specs.Prelude.{List};
-    ghost use Rattle.token_ring.specs.declared.book.LockRow.{LockRow};
+    ghost use Rattle.token_ring.specs.declared.range_book.LockRow.{LockRow};
     ghost use Rattle.locked_ranges.specs.Table.{IsLockTable};
 
     ghost Value = { List LockRow };

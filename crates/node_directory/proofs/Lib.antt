@@ -1,9 +1,9 @@
-pub mod ChangeLemmas
+pub mod DirectoryChanges
 pub mod DirectoryLemmas
-pub mod KeptLemmas
 pub mod MetLists
 pub mod NodeRows
 pub mod RoomLemmas
+pub mod RowSearch
 pub mod SameRows
-pub mod SearchLemmas
+pub mod StoredRowLemmas
 pub mod TallyLemmas

@@ -7,8 +7,8 @@ use Rattle.std.specs.Bool.{Decides, beq}
 use Rattle.std.specs.List.{list_all, zip}
 use Rattle.std.specs.Str.{bytes_eq}
 use Rattle.cluster_terms.specs.declared.node.NodeRow.{NodeRow}
-use Rattle.cluster_terms.proofs.ReplicationLemmas.{beside}
-use Rattle.node_directory.specs.Directory.{same_node}
+use Rattle.cluster_terms.proofs.texts.ReplicationLemmas.{beside}
+use Rattle.node_directory.specs.code.StoredRows.{same_node}
 
 -- rows that the test takes for the same are the same
 node_Decides : (a b : NodeRow) → Decides (same_node a b) (a ≡ b)

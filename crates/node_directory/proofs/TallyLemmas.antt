@@ -8,11 +8,12 @@ use Rattle.std.proofs.lemmas.List.{length_push}
 use Rattle.std.specs.Cmp.{IsEquivalence, nat_eq_equiv}
 use Rattle.std.specs.Set.{is_member, distinct_count}
 use Rattle.std.specs.Str.{bytes_eq}
-use Rattle.cluster_terms.proofs.DistinctCounts.{is_member-alike, is_member-push}
-use Rattle.cluster_terms.proofs.GroupLemmas.{has, node_count-same, rack_count-same}
+use Rattle.cluster_terms.proofs.lists.DistinctCounts.{is_member-alike, is_member-push}
+use Rattle.cluster_terms.proofs.placement.GroupLemmas.{has, node_count-same, rack_count-same}
 use Rattle.cluster_terms.specs.Group.{Group, node_count, rack_count}
 use Rattle.cluster_terms.specs.Replication.{whole_group}
-use Rattle.node_directory.specs.Tally.{Tallied, nothing, with_new, met_with, met, met_all, lacks, has_all}
+use Rattle.node_directory.specs.Tally.{Tallied, nothing, with_new, met_with, met, lacks}
+use Rattle.node_directory.specs.code.GroupTally.{met_all, has_all}
 
 -- ---- distinct keys, no more of them than are asked for
 

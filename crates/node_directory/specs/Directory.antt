@@ -1,6 +1,5 @@
 -- The registered nodes of a cluster.
 use Rattle.std.specs.Prelude.{ℕ, ◌+◌, Bool, true, false, not, ◌&&◌, ◌==◌, nat_le, nat_lt, List, [], ◌∷◌, map, filter, find, ◌++◌, Option}
-use Rattle.std.specs.Bool.{beq}
 use Rattle.std.specs.Option.{option_map}
 use Rattle.std.specs.Set.{is_member}
 use Rattle.std.specs.Str.{bytes_eq}
@@ -32,12 +31,6 @@ names_are_distinct (name ∷ names) = not (is_member bytes_eq names name) && nam
 -- name comes twice
 abbrev pub is_directory : ℕ → List NodeRow → ℕ → Bool
 is_directory least rows next = are_ascending least (ids_of rows) next && names_are_distinct (node_names rows)
-
--- whether two rows are equal
-abbrev pub same_node : NodeRow → NodeRow → Bool
-same_node row other =
-    (row.id == other.id) && beq row.left other.left && bytes_eq row.name other.name && bytes_eq row.dc other.dc
-    && bytes_eq row.rack other.rack
 
 -- the node with this name, which may be a node that left; None if no node has the name
 abbrev pub node_named : List NodeRow → List ℕ → Option ℕ

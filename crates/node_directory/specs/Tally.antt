@@ -1,6 +1,6 @@
 -- Tallies of the nodes and the racks met so far, up to the numbers asked for.
 -- Of the code: the contracts of `Tally` and `has_rack` cite some of these, and no other promise rests on them.
-use Rattle.std.specs.Prelude.{◌≡◌, ℕ, Bool, not, ◌&&◌, ◌||◌, if◌then◌else◌, List, [], ◌∷◌, ◌++◌, length, map, nat_eq, nat_lt, Option, Some, None}
+use Rattle.std.specs.Prelude.{ℕ, Bool, not, ◌&&◌, ◌||◌, if◌then◌else◌, List, [], ◌∷◌, ◌++◌, length, map, nat_eq, nat_lt, Option, Some, None}
 use Rattle.std.specs.Borrow.{Bor}
 use Rattle.std.specs.Set.{is_member}
 use Rattle.std.specs.Str.{bytes_eq}
@@ -31,26 +31,10 @@ met_with n None tally = tally
 met_with n (Some rack) tally =
     record tally { nodes = with_new nat_eq tally.most_nodes n tally.nodes; racks = with_new bytes_eq tally.most_racks rack tally.racks }
 
--- the tally after a node is met, and after several nodes are met, one after another
+-- the tally after a node is met
 abbrev pub met : Group → ℕ → Tallied → Tallied
 met g n tally = met_with n (g.rack_of n) tally
-
-abbrev pub met_all : Group → List ℕ → Tallied → Tallied
-met_all g [] tally = tally
-met_all g (n ∷ ns) tally = met_all g ns (met g n tally)
-
--- the tally of these nodes in a group, with at most as many nodes and racks as the group is to have replicas
-abbrev pub group_tally : Group → List ℕ → Tallied
-group_tally g ns = met_all g ns (nothing g.rf g.rf)
 
 -- whether the tally has fewer nodes or fewer racks than asked for
 abbrev pub lacks : Tallied → Bool
 lacks tally = nat_lt (length tally.nodes) tally.most_nodes || nat_lt (length tally.racks) tally.most_racks
-
--- whether the tally has as many nodes as asked for, and the rack of the group of all nodes, which has the empty name
-abbrev pub has_all : Tallied → Bool
-has_all tally = not (nat_lt (length tally.nodes) tally.most_nodes) && is_member bytes_eq tally.racks []
-
--- no nodes of the group change the tally
-abbrev pub IsComplete : Group → Tallied → Type 0
-IsComplete g tally = (ns : List ℕ) → met_all g ns tally ≡ tally

@@ -3,12 +3,13 @@ ghost use Rattle.std.specs.List.{list_all, zip};
 ghost use Rattle.std.specs.Option.{option_copied, option_map};
 ghost use Rattle.cluster_terms.specs.NodeRow.{row_of};
 ghost use Rattle.cluster_terms.specs.Replication.{rack_within};
-ghost use Rattle.node_directory.specs.Directory.{is_directory, node_named, place_in, registered, same_node, other_rows, marked_left};
-ghost use Rattle.node_directory.specs.Kept.{IsPlace, IsPlaceOf};
+ghost use Rattle.node_directory.specs.Directory.{is_directory, node_named, place_in, registered, other_rows, marked_left};
+ghost use Rattle.node_directory.specs.code.StoredRows.{same_node};
+ghost use Rattle.node_directory.specs.code.StoredRows.{IsPlace, IsPlaceOf};
 ghost use Rattle.node_directory.specs.Room.{IsRoomFor};
 
-use crate::kept::{by_name, ids_ascend, push_copy};
-use crate::room::{DirectoryRoom, reserve_at};
+use crate::directory_room::{DirectoryRoom, reserve_at};
+use crate::stored_rows::{by_name, ids_ascend, push_copy};
 use cluster_terms::{Memory, Name, NodeId, NodeRow, TryCopy};
 use indexmap::IndexMap;
 use std::alloc::Global;
@@ -33,7 +34,7 @@ impl Model for Directory {
     ghost use Rattle.std.specs.Map.{values_of};
     ghost use Rattle.indexmap.specs.IndexMap.{spare};
     ghost use Rattle.node_directory.specs.Directory.{Registry};
-    ghost use Rattle.node_directory.specs.Kept.{IsKept};
+    ghost use Rattle.node_directory.specs.code.StoredRows.{IsKept};
     ghost use Rattle.node_directory.specs.Room.{reserve_at};
 
     ghost Value = { Registry };

@@ -2,14 +2,14 @@
 #![tactic(auto)]
 
 pub mod directory;
-mod kept;
+pub mod directory_room;
 mod members;
-pub mod room;
 mod shape;
+mod stored_rows;
 mod tally;
 
 pub use directory::Directory;
+pub use directory_room::DirectoryRoom;
 pub use members::Members;
-pub use room::DirectoryRoom;
 pub use shape::{Shape, shape_of};
 pub use tally::{Tally, has_rack};

@@ -2,7 +2,7 @@ ghost use Rattle.std.specs.Prelude.{◌≡◌, ◌≤◌, IsTrue};
 ghost use Rattle.cluster_terms.specs.Group.{nodes_of};
 ghost use Rattle.node_directory.specs.Members.{group_of};
 ghost use Rattle.node_directory.specs.Shape as spec;
-ghost use Rattle.node_directory.specs.Tally.{IsComplete, group_tally};
+ghost use Rattle.node_directory.specs.code.GroupTally.{IsComplete, group_tally};
 
 use crate::members::Members;
 use crate::tally::Tally;

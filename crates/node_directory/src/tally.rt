@@ -4,6 +4,7 @@ ghost use Rattle.std.specs.Set.{is_member};
 ghost use Rattle.std.specs.Str.{bytes_eq};
 ghost use Rattle.node_directory.specs.Members.{group_of};
 ghost use Rattle.node_directory.specs.Tally as spec;
+ghost use Rattle.node_directory.specs.code.GroupTally as code;
 
 use crate::members::Members;
 use cluster_terms::{Few, NodeId};
@@ -113,7 +114,7 @@ impl<'a> Tally<'a> {
 
     /// Whether the tally has as many nodes as asked for, and the rack with the empty name.
     pub(crate) fn has_all(&self) -> bool
-        ensures { result ≡ spec.has_all self.now }
+        ensures { result ≡ code.has_all self.now }
     {
         self.most_nodes <= self.nodes.len() && has_rack(self.racks.as_slice(), &[])
     }

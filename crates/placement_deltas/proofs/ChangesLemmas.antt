@@ -1,8 +1,8 @@
 -- Changes that are joined row by row.
 use Rattle.std.proofs.Common.{◌≡◌, List, [], ◌∷◌, ◌++◌, Option, Some, None, ap, sym, ◌∙◌, append_assoc}
 use Rattle.std.proofs.lemmas.List.{append-nil}
-use Rattle.placement_deltas.specs.Changes.{AreJoined, AreWithRow, RowsSoFar}
-use Rattle.placement_deltas.specs.Joining.{closed, joined_from, row_ended}
+use Rattle.placement_deltas.specs.code.Changes.{AreJoined, AreWithRow, RowsSoFar}
+use Rattle.placement_deltas.specs.code.JoinedRows.{closed, joined_from, row_ended}
 use Rattle.placement_deltas.specs.declared.delta_row.DeltaRow.{DeltaRow}
 
 -- one row more, and those that are left

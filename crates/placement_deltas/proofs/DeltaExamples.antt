@@ -5,7 +5,7 @@ use Rattle.cluster_terms.specs.Row.{rows_between}
 use Rattle.cluster_terms.specs.declared.token.RightEnd.{RightEnd}
 use Rattle.cluster_terms.specs.declared.token.RightEnd.TheVariants.{At, Max}
 use Rattle.placement_deltas.specs.Deltas.{change, delta_at, inverse_of}
-use Rattle.placement_deltas.specs.Joining.{change_rows, joined_from}
+use Rattle.placement_deltas.specs.code.JoinedRows.{change_rows, joined_from}
 use Rattle.placement_deltas.specs.declared.delta_row.DeltaRow.{DeltaRow}
 
 abbrev row : RightEnd → List ℕ → List ℕ → DeltaRow

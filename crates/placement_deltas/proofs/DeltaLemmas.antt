@@ -1,9 +1,9 @@
 -- Deltas: the row of a token, and the inverse.
-use Rattle.std.proofs.Common.{◌≡◌, ℕ, ◌<◌, ◌≤◌, Bool, true, false, if◌then◌else◌, ℤ, ◌≤ℤ◌, int_lt, int_le, List, [], ◌∷◌, length, get_or, refl, sym, ap, ◌∙◌, arith}
+use Rattle.std.proofs.Common.{◌≡◌, ℕ, ◌<◌, ◌≤◌, true, false, ℤ, ◌≤ℤ◌, int_lt, List, [], ◌∷◌, length, get_or, refl, sym, ap, ◌∙◌, arith}
 use Rattle.std.proofs.lemmas.Int.{ints}
-use Rattle.cluster_terms.proofs.RingRows.{climb_high, told_by_row}
+use Rattle.cluster_terms.proofs.rows.RingRows.{climb_high, told_by_row}
 use Rattle.cluster_terms.specs.Row.{CoverRing, EndBefore, last_token}
-use Rattle.placement_deltas.specs.Deltas.{IsDelta, change_in, delta_at, exchanged, inverse_of}
+use Rattle.placement_deltas.specs.Deltas.{IsDelta, change_in, delta_at, inverse_of}
 use Rattle.placement_deltas.specs.declared.delta_row.DeltaRow.{DeltaRow}
 
 -- ---- the row of a token
@@ -40,13 +40,3 @@ inverse_is [] delta = delta
 inverse_is (row ∷ []) delta = delta
 inverse_is (row ∷ next ∷ rows) delta =
     (delta.0, λ same. delta.1 (ap (λ (p : List ℕ × List ℕ). (p.1, p.0)) same), inverse_is (next ∷ rows) delta.2)
-
--- at each token the inverse gains what the delta loses, and loses what it gains
-pub inverse_at : (rows : List DeltaRow) (x : ℤ) → delta_at (inverse_of rows) x ≡ ((delta_at rows x).1, (delta_at rows x).0)
-inverse_at [] x = refl
-inverse_at (row ∷ rows) x = by (int_le x (last_token row.right)) (inverse_at rows x)
-  where
-    by : (b : Bool) → delta_at (inverse_of rows) x ≡ ((delta_at rows x).1, (delta_at rows x).0)
-        → (if b then change_in (exchanged row) else delta_at (inverse_of rows) x) ≡ ((if b then change_in row else delta_at rows x).1, (if b then change_in row else delta_at rows x).0)
-    by true rest = refl
-    by false rest = rest

@@ -9,16 +9,16 @@ use Rattle.std.proofs.lemmas.Bool.{and_parts, and_from, or_left, or_right, trueâ
 use Rattle.std.proofs.lemmas.Bool.Decides.{Decides-eqb, Decides-int_eq}
 use Rattle.std.proofs.lemmas.Int.{ints}
 use Rattle.std.proofs.lemmas.Slice.Eq.{slice_eq-Decides}
-use Rattle.cluster_terms.proofs.AscendingLemmas.{weaker}
-use Rattle.cluster_terms.proofs.RowLemmas.{AreNext, rows_next, past_more}
+use Rattle.cluster_terms.proofs.lists.AscendingLemmas.{weaker}
+use Rattle.cluster_terms.proofs.rows.RowLemmas.{AreNext, rows_next, past_more}
 use Rattle.cluster_terms.specs.Arc.{IsToken, greatest_token}
 use Rattle.cluster_terms.specs.Row.{CoverRing, is_last, is_past, is_within, last_token, rows_between, rows_from}
 use Rattle.cluster_terms.specs.declared.row.TokenRange.{TokenRange}
 use Rattle.cluster_terms.specs.declared.token.RightEnd.TheVariants.{At, Max}
 use Rattle.placement_deltas.specs.Deltas.{EndAtCuts, IsDelta, ShowsChanges, change, change_in, delta_at}
-use Rattle.placement_deltas.specs.Joining.{change_row, change_rows, joined_from, same_change}
+use Rattle.placement_deltas.specs.code.JoinedRows.{change_row, change_rows, joined_from, same_change}
 use Rattle.placement_deltas.specs.declared.delta_row.DeltaRow.{DeltaRow}
-use Rattle.token_ring.specs.Ranges.{is_cut_right}
+use Rattle.token_ring.specs.TokenRanges.{is_cut_right}
 
 -- ---- the test of two changes
 

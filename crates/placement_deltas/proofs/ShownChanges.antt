@@ -1,14 +1,13 @@
 -- What a delta shows at a token, where the sets of the rows are those at their last tokens.
-use Rattle.std.proofs.Common.{◌≡◌, ℕ, true, ℤ, List, [], ◌∷◌, ◌++◌, map, sym, ap, ◌∙◌, subst}
+use Rattle.std.proofs.Common.{◌≡◌, ℕ, true, ℤ, List, [], ◌∷◌, ◌++◌, map, sym, ◌∙◌, subst}
 use Rattle.std.specs.List.{AllByRecursion}
 use Rattle.std.specs.List.Sorted.{IsStrictlySortedBy}
 use Rattle.std.specs.Ordering.{int_cmp}
-use Rattle.cluster_terms.proofs.RowLemmas.{row_with}
+use Rattle.cluster_terms.proofs.rows.RowLemmas.{row_with}
 use Rattle.cluster_terms.specs.Arc.{IsToken}
 use Rattle.cluster_terms.specs.Row.{is_within, last_token, rows_between}
 use Rattle.cluster_terms.specs.declared.row.TokenRange.{TokenRange}
-use Rattle.placement_deltas.proofs.DeltaLemmas.{inverse_at}
-use Rattle.placement_deltas.specs.Deltas.{ShowsChanges, change, delta_at, inverse_of}
+use Rattle.placement_deltas.specs.Deltas.{ShowsChanges, change, delta_at}
 use Rattle.placement_deltas.specs.declared.delta_row.DeltaRow.{DeltaRow}
 use Rattle.token_ring.proofs.RangeLemmas.{all_at}
 
@@ -45,12 +44,3 @@ shown_at cuts before after delta f g up tokens shows before_is after_is stand_f 
     let same_f = stands_at f x w.pre w.row w.suf token w.within (subst (StandInRows f) w.split stand_f) in
     let same_g = stands_at g x w.pre w.row w.suf token w.within (subst (StandInRows g) w.split stand_g) in
     shown_in f g delta x w.pre w.row w.suf w.within shown ∙ (λ i. change (sym same_f i) (sym same_g i))
-
--- the inverse shows the changes back
-pub inverse_shows : (ranges : List TokenRange) (before after : List (List ℕ)) (delta : List DeltaRow) → ShowsChanges ranges before after delta → ShowsChanges ranges after before (inverse_of delta)
-inverse_shows [] before after delta shows = tt
-inverse_shows (range ∷ ranges) [] [] delta shows = tt
-inverse_shows (range ∷ ranges) [] (a ∷ after) delta shows = tt
-inverse_shows (range ∷ ranges) (b ∷ before) [] delta shows = tt
-inverse_shows (range ∷ ranges) (b ∷ before) (a ∷ after) delta shows =
-    (λ x within. inverse_at delta x ∙ ap (λ (p : List ℕ × List ℕ). (p.1, p.0)) (shows.0 x within), inverse_shows ranges before after delta shows.1)

@@ -15,7 +15,7 @@ use Rattle.node_sets.specs.NodeSets.{has_node, without}
 use Rattle.placement_deltas.proofs.DeltaLemmas.{covers_ring}
 use Rattle.placement_deltas.proofs.JoinedDeltas.{joined_at, joined_is}
 use Rattle.placement_deltas.specs.Deltas.{IsDelta, change_in, delta_at, only}
-use Rattle.placement_deltas.specs.Joining.{change_row, joined_from, row_of_side}
+use Rattle.placement_deltas.specs.code.JoinedRows.{change_row, joined_from, row_of_side}
 use Rattle.placement_deltas.specs.declared.delta_row.DeltaRow.{DeltaRow}
 use Rattle.placement_deltas.specs.declared.side.Side.{Side}
 use Rattle.placement_deltas.specs.declared.side.Side.TheVariants.{Gained, Lost}

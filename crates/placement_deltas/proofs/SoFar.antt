@@ -6,8 +6,8 @@ use Rattle.std.proofs.lemmas.Option.{slice_get-get_or}
 use Rattle.cluster_terms.specs.declared.token.RightEnd.{RightEnd}
 use Rattle.cluster_terms.specs.declared.token.RightEnd.TheVariants.{Max}
 use Rattle.placement_deltas.proofs.JoinedDeltas.{same_yes}
-use Rattle.placement_deltas.specs.Changes.{AreWithRow, RowsSoFar, is_continued, so_far, with_end}
-use Rattle.placement_deltas.specs.Joining.{closed, row_ended}
+use Rattle.placement_deltas.specs.code.Changes.{AreWithRow, RowsSoFar, is_continued, so_far, with_end}
+use Rattle.placement_deltas.specs.code.JoinedRows.{closed, row_ended}
 use Rattle.placement_deltas.specs.declared.delta_row.DeltaRow.{DeltaRow}
 
 -- ---- all rows but the last have ended

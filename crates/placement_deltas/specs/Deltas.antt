@@ -8,7 +8,7 @@ use Rattle.node_sets.specs.NodeSets.{without}
 use Rattle.placement_deltas.specs.declared.delta_row.DeltaRow.{DeltaRow}
 use Rattle.placement_deltas.specs.declared.side.Side.{Side}
 use Rattle.placement_deltas.specs.declared.side.Side.TheVariants.{Gained, Lost}
-use Rattle.token_ring.specs.Ranges.{is_cut_right}
+use Rattle.token_ring.specs.TokenRanges.{is_cut_right}
 
 -- the nodes gained and the nodes lost between two sets of nodes
 abbrev pub change : List ℕ → List ℕ → List ℕ × List ℕ

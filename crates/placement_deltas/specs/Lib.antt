@@ -1,3 +1,2 @@
-pub mod Changes
 pub mod Deltas
-pub mod Joining
+pub mod code

@@ -1,9 +1,9 @@
 ghost use Rattle.std.specs.Prelude.{◌≡◌, [], ◌++◌, IfOk, OnOk};
-ghost use Rattle.placement_deltas.specs.Changes.{AreJoined, AreWithRow};
-ghost use Rattle.placement_deltas.specs.Joining as spec;
+ghost use Rattle.placement_deltas.specs.code.Changes.{AreJoined, AreWithRow};
+ghost use Rattle.placement_deltas.specs.code.JoinedRows as spec;
 
 use crate::delta_row::{DeltaRow, DeltaRows};
-use crate::joining::{change_row, end_with_ring, push_joined, unchanged_row};
+use crate::joined_rows::{change_row, end_with_ring, push_joined, unchanged_row};
 use cluster_terms::{Memory, RightEnd};
 use node_sets::NodeSet;
 use std::alloc::Global;
@@ -19,7 +19,7 @@ pub struct Changes {
 }
 
 impl Model for Changes {
-    ghost use Rattle.placement_deltas.specs.Changes.{RowsSoFar, so_far};
+    ghost use Rattle.placement_deltas.specs.code.Changes.{RowsSoFar, so_far};
 
     ghost Value = { RowsSoFar };
 

@@ -3,17 +3,17 @@ ghost use Rattle.std.specs.List.Sorted.{IsPartitionPoint, IsStrictlySortedBy};
 ghost use Rattle.std.specs.Ordering.{int_cmp};
 ghost use Rattle.cluster_terms.specs.Arc.{IsToken};
 ghost use Rattle.cluster_terms.specs.Row.{last_token, rows_between};
-ghost use Rattle.placement_deltas.specs.Changes.{AreJoined, MakeDelta};
+ghost use Rattle.placement_deltas.specs.code.Changes.{AreJoined, MakeDelta};
 ghost use Rattle.placement_deltas.specs.Deltas.{ChangesNothing, EndAtCuts, IsDelta, ShowsChanges, change_in, delta_at, exchanged, inverse_of, only};
-ghost use Rattle.placement_deltas.specs.Joining.{joined_from};
+ghost use Rattle.placement_deltas.specs.code.JoinedRows.{joined_from};
 ghost use Rattle.placement_deltas.specs.declared.delta_row.DeltaRow.{DeltaRow as AnyRow};
 
 use crate::changes::Changes;
 use crate::delta_row::{DeltaRow, DeltaRows};
-use crate::joining::{joined, joined_side};
+use crate::joined_rows::{joined, joined_side};
 use crate::side::Side;
 use crate::unchanged::Unchanged;
-use cluster_terms::{Memory, Token, TryCopy, row_index, row_index_near, rows_between};
+use cluster_terms::{Memory, Token, TryCopy, row_index, row_index_by_hint, rows_between};
 use node_sets::NodeSet;
 use std::alloc::Global;
 use std::marker::Model;
@@ -106,36 +106,36 @@ impl Delta {
 
     /// The nodes gained and the nodes lost at a token, as `at` gives them. Takes no memory.
     ///
-    /// `near` may be any position, and becomes that of the token's row. If it was this position or the one before, only
+    /// `hint` may be any position, and becomes that of the token's row. If it was this position or the one before, only
     /// these rows are looked at, so for ascending tokens that miss no row a look-up costs a few comparisons. Otherwise
     /// the cost is a binary search.
     #[inline(always)]
-    pub fn at_near(&self, t: Token, near: &mut usize) -> (&NodeSet, &NodeSet)
+    pub fn at_by_hint(&self, t: Token, hint: &mut usize) -> (&NodeSet, &NodeSet)
         ensures delta { (result.0.now, result.1.now) ≡ delta_at self.now t }
         ensures first { IsPartitionPoint (λ r. int_lt (last_token r.right) t ≡ true)
-            (λ r. int_lt (last_token r.right) t ≡ false) self.now near.new }
+            (λ r. int_lt (last_token r.right) t ≡ false) self.now hint.new }
     {
         let rows = self.rows();
-        let found = row_index_near(rows, *near, t);
-        *near = found;
+        let found = row_index_by_hint(rows, *hint, t);
+        *hint = found;
         let row = &rows[found];
         (&row.gained, &row.lost)
     }
 
     /// The tokens from `t` up to the end of its row, if the delta changes nothing at `t`. Returns `None` if and only if
-    /// it changes something there. Takes no memory. `near` and the cost are as for `at_near`.
-    pub fn unchanged_from(&self, t: Token, near: &mut usize) -> Option<Unchanged>
+    /// it changes something there. Takes no memory. `hint` and the cost are as for `at_by_hint`.
+    pub fn unchanged_from(&self, t: Token, hint: &mut usize) -> Option<Unchanged>
         ensures changed { IsNone result → delta_at self.now t ≢ ([], []) }
         ensures ends { IfSome result (λ tokens. (tokens.first ≡ t) × (t ≤ℤ tokens.last)) }
         ensures unchanged { IfSome result (λ tokens. ChangesNothing self.now tokens.first tokens.last) }
         ensures first { IsPartitionPoint (λ r. int_lt (last_token r.right) t ≡ true)
-            (λ r. int_lt (last_token r.right) t ≡ false) self.now near.new }
+            (λ r. int_lt (last_token r.right) t ≡ false) self.now hint.new }
         ensures end { IfSome result
-            (λ tokens. (d : AnyRow) → tokens.last ≡ last_token (get_or self.now near.new d).right) }
+            (λ tokens. (d : AnyRow) → tokens.last ≡ last_token (get_or self.now hint.new d).right) }
     {
         let rows = self.rows();
-        let found = row_index_near(rows, *near, t);
-        *near = found;
+        let found = row_index_by_hint(rows, *hint, t);
+        *hint = found;
         let row = &rows[found];
         if !changes_nothing(row) {
             return None;

@@ -2,18 +2,18 @@
 //! and the ranges of the other movements.
 #![tactic(auto)]
 
-pub mod book;
 pub mod changes;
 pub mod delta;
+pub mod delta_book;
 pub mod delta_row;
-mod joining;
+mod joined_rows;
 pub mod plan;
 pub mod side;
 pub mod unchanged;
 
-pub use book::{DeltaBook, DeltaBookRow};
 pub use changes::Changes;
 pub use delta::Delta;
+pub use delta_book::{DeltaBook, DeltaBookRow};
 pub use delta_row::{DeltaRow, DeltaRows};
 pub use plan::Plan;
 pub use side::Side;

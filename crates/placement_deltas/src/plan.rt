@@ -1,4 +1,4 @@
-use crate::book::DeltaBook;
+use crate::delta_book::DeltaBook;
 use cluster_terms::TokenList;
 use token_ring::{LockRows, RangeBook};
 use transformations::SeqRow;

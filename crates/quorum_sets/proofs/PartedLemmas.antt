@@ -10,9 +10,9 @@ use Rattle.std.proofs.lemmas.Map.Made.{distinct_count-le, length-le_from_is_memb
 use Rattle.std.specs.Cmp.{nat_eq_equiv}
 use Rattle.std.specs.List.{AllByRecursion, IsDistinct, list_any}
 use Rattle.std.specs.Set.{distinct_count}
-use Rattle.cluster_terms.proofs.DistinctCounts.{distinct_count-within}
-use Rattle.cluster_terms.proofs.GroupLemmas.{has}
-use Rattle.cluster_terms.proofs.QuorumLemmas.{has_filter}
+use Rattle.cluster_terms.proofs.lists.DistinctCounts.{distinct_count-within}
+use Rattle.cluster_terms.proofs.placement.GroupLemmas.{has}
+use Rattle.cluster_terms.proofs.quorums.QuorumLemmas.{has_filter}
 use Rattle.cluster_terms.specs.Quorum.{have_common}
 use Rattle.quorum_sets.specs.Parted.{ArePartable}
 

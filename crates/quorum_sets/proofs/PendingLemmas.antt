@@ -10,8 +10,8 @@ use Rattle.std.specs.List.Sorted.{IsStrictlyIncreasing, IsStrictlySortedBy}
 use Rattle.std.specs.Ordering.{nat_cmp}
 use Rattle.std.specs.Str.{bytes_eq}
 use Rattle.std.specs.Set.{is_member}
-use Rattle.cluster_terms.proofs.AscendingLemmas.{ascending_same}
-use Rattle.cluster_terms.proofs.QuorumLemmas.{has_filter, quorums_exist}
+use Rattle.cluster_terms.proofs.lists.AscendingLemmas.{ascending_same}
+use Rattle.cluster_terms.proofs.quorums.QuorumLemmas.{has_filter, quorums_exist}
 use Rattle.cluster_terms.specs.Ascending.{ascending}
 use Rattle.cluster_terms.specs.NodeRow.{row_of}
 use Rattle.cluster_terms.specs.Quorum.{datacenter_of, local_sets, pending, quorum_of, within, write_need}

@@ -129,8 +129,3 @@ adds_make (e ∷ edits) keep = let rest = adds_make edits keep in omega (arith, 
 pub keep_passes : (edits : List RowEdit) (keep : ℕ) → keep ≤ rows_passed edits keep
 keep_passes [] keep = omega arith
 keep_passes (e ∷ edits) keep = let rest = keep_passes edits keep in omega (arith, rest)
-
--- ---- the first edit
-
-pub first_makes : (edit : RowEdit) (edits : List RowEdit) (last : ℕ) → rows_made (edit ∷ edits) last ≡ rows_made (edit ∷ []) 0 + rows_made edits last
-first_makes edit edits last = omega arith

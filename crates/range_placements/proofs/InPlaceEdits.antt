@@ -5,7 +5,7 @@ use Rattle.std.proofs.Math.ListN.{drop_of_length-le}
 use Rattle.std.proofs.lemmas.List.{append-nil, drop-drop, drop-take, length-drop, length-take, take-take, take_all}
 use Rattle.range_placements.proofs.EditedRows.{first_append, one_adds, one_edited, one_passes}
 use Rattle.range_placements.specs.Editing.{edited_rows, row_count, rows_added, rows_passed, with_first}
-use Rattle.range_placements.specs.InPlace.{LeadsTo}
+use Rattle.range_placements.specs.code.InPlace.{LeadsTo}
 use Rattle.range_placements.specs.declared.placement_row.PlacementRow.{PlacementRow}
 use Rattle.range_placements.specs.declared.row_edits.RowEdit.{RowEdit}
 
@@ -100,12 +100,3 @@ begin edits keep rows opened front count =
       order = omega arith;
       bound = omega (arith, count);
     }
-
-pub all_made : (keep from to : ℕ) (rows last after : List PlacementRow) → LeadsTo [] keep from to rows last
-    → drop (to - keep) after ≡ drop (from - keep) (take from rows) ++ drop to rows → drop (to - keep) after ≡ last
-all_made keep from to rows last after leads back =
-    let all : from ≡ keep = leads.passed in
-    let none : from - keep ≡ 0 = omega (arith, all) in
-    back ∙ ap (λ n. drop n (take from rows) ++ drop to rows) none
-    ∙ ap (λ l. l ++ drop to rows) (sym (take-take from from rows (omega arith)) ∙ ap (λ n. take n (take from rows)) all)
-    ∙ leads.leads

@@ -1,8 +1,8 @@
+pub mod ChangedRows
 pub mod EditedRows
 pub mod Exchanges
 mod Halving
 pub mod InPlaceEdits
-pub mod MapChanges
 pub mod MapCuts
 mod MapExamples
 pub mod MapRows

@@ -2,8 +2,8 @@
 use Rattle.std.proofs.Common.{◌≡◌, ℕ, zero, suc, ◌-◌, ◌<◌, ◌≤◌, true, false, if◌then◌else◌, ℤ, ◌≤ℤ◌, int_lt, int_le, List, [], ◌∷◌, length, get_or, refl, ap, ◌∙◌, arith}
 use Rattle.std.specs.List.{AllByRecursion}
 use Rattle.std.proofs.lemmas.Int.{ints}
-use Rattle.cluster_terms.proofs.AscendingLemmas.{weaker}
-use Rattle.cluster_terms.proofs.RingRows.{told_by_row}
+use Rattle.cluster_terms.proofs.lists.AscendingLemmas.{weaker}
+use Rattle.cluster_terms.proofs.rows.RingRows.{told_by_row}
 use Rattle.cluster_terms.specs.Arc.{greatest_token}
 use Rattle.cluster_terms.specs.Row.{EndBefore, last_token}
 use Rattle.range_placements.specs.Placements.{IsPlacementMap, map_at, placement_in}

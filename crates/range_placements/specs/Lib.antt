@@ -1,5 +1,4 @@
-pub mod Changing
 pub mod Editing
 pub mod Exchanging
-pub mod InPlace
 pub mod Placements
+pub mod code

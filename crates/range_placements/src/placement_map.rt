@@ -13,7 +13,7 @@ ghost use Rattle.range_placements.specs.declared.placement_row.PlacementRow.{Pla
 use crate::placement_row::{PlacementRow, PlacementRows};
 use crate::row_changes::RowChanges;
 use crate::row_edits::RowEdits;
-use cluster_terms::{Memory, RightEnd, Steps, Token, TryCopy, row_index, row_index_near};
+use cluster_terms::{Memory, RightEnd, Steps, Token, TryCopy, row_index, row_index_by_hint};
 use node_sets::NodeSet;
 use placement_deltas::Delta;
 use std::marker::Model;
@@ -38,7 +38,7 @@ impl Model for PlacementMap {
     ghost invariant = { λ map. IsPlacementMap map.rows.items };
 }
 
-/// Whether a row ends before the token with this number. Counts one step.
+/// Whether a row ends before the token with this number. Counts one comparison.
 fn ends_before<L: Ledger>(row: &PlacementRow, number: i64, steps: &mut Steps<L>) -> bool
     ensures answer { result ≡ int_lt (last_token row.now.right) number }
     ensures counted { steps.new ≡ steps.old + 1 }
@@ -47,7 +47,7 @@ fn ends_before<L: Ledger>(row: &PlacementRow, number: i64, steps: &mut Steps<L>)
     row.last_token().value() < number
 }
 
-/// How many rows end before a token, by a binary search. Counts one step for each comparison.
+/// How many rows end before a token, by a binary search. Counts the comparisons.
 fn find<L: Ledger>(rows: &[PlacementRow], t: Token, steps: &mut Steps<L>) -> usize
     requires { IsPlacementMap rows.now }
     ensures bound { result < length rows.now }
@@ -120,7 +120,7 @@ impl PlacementMap {
 
     /// The reads and the writes at a token. Takes no memory.
     ///
-    /// The cost is a binary search, and each comparison counts one step. For n rows 2^steps is more than n / 2 and at
+    /// The cost is a binary search, and each comparison is counted. For n rows 2^steps is more than n / 2 and at
     /// most 2 n.
     pub fn at<L: Ledger>(&self, t: Token, steps: &mut Steps<L>) -> (&NodeSet, &NodeSet)
         ensures placement { (result.0.now, result.1.now) ≡ map_at self.now t }
@@ -135,29 +135,29 @@ impl PlacementMap {
 
     /// The first row that ends at or after a token. Takes no memory.
     ///
-    /// `near` may be any position, and becomes that of the token's row. If it was this position or the one before, only
+    /// `hint` may be any position, and becomes that of the token's row. If it was this position or the one before, only
     /// these rows are looked at, so for ascending tokens that miss no row a look-up costs a few comparisons. Otherwise
     /// the cost is a binary search.
-    pub fn row_near(&self, t: Token, near: &mut usize) -> &PlacementRow
-        ensures bound { near.new < length self.now }
-        ensures row { (d : AnyRow) → result.now ≡ get_or self.now near.new d }
+    pub fn row_by_hint(&self, t: Token, hint: &mut usize) -> &PlacementRow
+        ensures bound { hint.new < length self.now }
+        ensures row { (d : AnyRow) → result.now ≡ get_or self.now hint.new d }
         ensures first { IsPartitionPoint (λ r. int_lt (last_token r.right) t ≡ true)
-            (λ r. int_lt (last_token r.right) t ≡ false) self.now near.new }
+            (λ r. int_lt (last_token r.right) t ≡ false) self.now hint.new }
         ensures placement { (result.now.reads, result.now.writes) ≡ map_at self.now t }
     {
         let rows = self.rows();
-        let found = row_index_near(rows, *near, t);
-        *near = found;
+        let found = row_index_by_hint(rows, *hint, t);
+        *hint = found;
         &rows[found]
     }
 
-    /// The reads and the writes at a token, as `at` gives them. Takes no memory. The cost is that of `row_near`.
-    pub fn at_near(&self, t: Token, near: &mut usize) -> (&NodeSet, &NodeSet)
+    /// The reads and the writes at a token, as `at` gives them. Takes no memory. The cost is that of `row_by_hint`.
+    pub fn at_by_hint(&self, t: Token, hint: &mut usize) -> (&NodeSet, &NodeSet)
         ensures placement { (result.0.now, result.1.now) ≡ map_at self.now t }
         ensures first { IsPartitionPoint (λ r. int_lt (last_token r.right) t ≡ true)
-            (λ r. int_lt (last_token r.right) t ≡ false) self.now near.new }
+            (λ r. int_lt (last_token r.right) t ≡ false) self.now hint.new }
     {
-        let row = self.row_near(t, near);
+        let row = self.row_by_hint(t, hint);
         (&row.reads, &row.writes)
     }
 

@@ -1,7 +1,7 @@
 ghost use Rattle.std.specs.Prelude.{◌≡◌, ◌+◌, ◌<◌, ◌≤◌, ◌∷◌, ◌++◌, [], IfOk, vec_capacity, vec_len};
 ghost use Rattle.cluster_terms.specs.Row.{last_token};
 ghost use Rattle.cluster_terms.specs.declared.token.RightEnd.TheVariants as right_end;
-ghost use Rattle.range_placements.specs.Changing as spec;
+ghost use Rattle.range_placements.specs.code.Changing as spec;
 ghost use Rattle.range_placements.specs.Placements.{with_change, row_until, reads_changed, writes_changed};
 
 use cluster_terms::{Memory, RightEnd, RingRow, Token, TryCopy};

@@ -12,7 +12,7 @@ pub fn a_merge_undoes_a_split()
 {}
 
 /// A node is in a changed set if and only if it is gained, or it is in the set and is not lost.
-#[tactic(auto, using(crate::proofs::MapChanges::changed_nodes))]
+#[tactic(auto, using(crate::proofs::ChangedRows::changed_nodes))]
 pub fn a_change_adds_and_removes_nodes()
     ensures { (set gained lost : List ℕ) (n : ℕ)
         → has_node (with_change set gained lost) n
@@ -20,7 +20,7 @@ pub fn a_change_adds_and_removes_nodes()
 {}
 
 /// The change between two sets leads from the first to the second.
-#[tactic(auto, using(crate::proofs::MapChanges::changed_to))]
+#[tactic(auto, using(crate::proofs::ChangedRows::changed_to))]
 pub fn a_change_leads_to_the_other_set()
     ensures { (before after : List ℕ) → IsNodeSet before → IsNodeSet after
         → with_change before (change before after).0 (change before after).1 ≡ after }

@@ -1,8 +1,8 @@
-pub mod ChangeLemmas
 pub mod MappedItems
 pub mod PartLemmas
+pub mod ReachedByChange
+pub mod ReachedRows
 pub mod RoundLemmas
-pub mod RowLemmas
 pub mod TokenLemmas
-pub mod WalkLemmas
+pub mod WalkBackLemmas
 pub mod WindowLemmas

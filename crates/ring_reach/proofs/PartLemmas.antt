@@ -10,19 +10,19 @@ use Rattle.std.specs.List.{All, AllByRecursion, list_any}
 use Rattle.std.specs.List.Sorted.{IsStrictlySortedBy}
 use Rattle.std.specs.Ordering.{int_cmp, int_eq}
 use Rattle.std.specs.Set.{is_member}
-use Rattle.cluster_terms.proofs.PairLemmas.{ahead-within}
-use Rattle.cluster_terms.proofs.SettledLemmas.{arc-through}
+use Rattle.cluster_terms.proofs.rows.PairLemmas.{ahead-within}
+use Rattle.cluster_terms.proofs.reach.SettledLemmas.{arc-through}
 use Rattle.cluster_terms.specs.Arc.{in_arc}
 use Rattle.cluster_terms.specs.Group.{nodes_of, node_count, rack_count, ahead_of}
 use Rattle.cluster_terms.specs.Pair.{tokens_of}
 use Rattle.token_ring.proofs.RangeLemmas.{from_all}
 use Rattle.node_directory.specs.Tally.{lacks}
 use Rattle.ring_reach.proofs.TokenLemmas.{at_member, any_member, member_left, member_right, member_at}
-use Rattle.ring_reach.proofs.WalkLemmas.{few-within, none_yet}
+use Rattle.ring_reach.proofs.WalkBackLemmas.{few-within, none_yet}
 use Rattle.ring_reach.proofs.WindowLemmas.{first-all, nearest-first}
-use Rattle.ring_reach.specs.Moved.{AreTokensAmong}
-use Rattle.ring_reach.specs.Walk.{Course, leaves, IsPart}
-use Rattle.ring_reach.specs.Windows.{is_inside, window, rights_of, window_bounds, first_upto, have}
+use Rattle.ring_reach.specs.code.Moved.{AreTokensAmong}
+use Rattle.ring_reach.specs.code.WalkBack.{Course, leaves, IsPart}
+use Rattle.ring_reach.specs.code.Windows.{is_inside, window, rights_of, window_bounds, first_upto, have}
 use Rattle.ring_reach.specs.declared.windows.Window.{Window}
 
 -- of the tokens, y is the nearest to x clockwise

@@ -18,9 +18,9 @@ use Rattle.token_ring.proofs.OrderLemmas.{IsRing-head, IsRing-tail}
 use Rattle.token_ring.proofs.RangeLemmas.{from_all}
 use Rattle.token_ring.proofs.RingLemmas.{IsCut, cut-from_first}
 use Rattle.ring_reach.proofs.TokenLemmas.{itself}
-use Rattle.ring_reach.proofs.WalkLemmas.{IsRound, comes_before, back-ended, back-more, ended_at, never_ended, none_yet}
-use Rattle.ring_reach.specs.Walk.{Course, stop_at, first_some, back, met_back, IsPart}
-use Rattle.ring_reach.specs.Windows.{is_inside, window}
+use Rattle.ring_reach.proofs.WalkBackLemmas.{IsRound, comes_before, back-ended, back-more, ended_at, never_ended, none_yet}
+use Rattle.ring_reach.specs.code.WalkBack.{Course, stop_at, first_some, back, met_back, IsPart}
+use Rattle.ring_reach.specs.code.Windows.{is_inside, window}
 use Rattle.ring_reach.specs.declared.windows.Window.{Window}
 use Rattle.node_directory.specs.Tally.{Tallied, lacks}
 

@@ -6,7 +6,7 @@ use Rattle.std.proofs.lemmas.List.Folds.{list_any-append, list_any_at}
 use Rattle.std.specs.List.{AllByRecursion, list_any, slice_get}
 use Rattle.std.specs.Ordering.{int_eq}
 use Rattle.std.specs.Set.{is_member}
-use Rattle.ring_reach.specs.Moved.{AreTokensAmong}
+use Rattle.ring_reach.specs.code.Moved.{AreTokensAmong}
 
 pub itself : (t : ℤ) (ts : List ℤ) → is_member int_eq (t ∷ ts) t ≡ true
 itself t ts = or_left (int_eq t t) (is_member int_eq ts t) ((Decides-int_eq t t).1 refl)

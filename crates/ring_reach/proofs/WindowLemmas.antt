@@ -6,9 +6,9 @@ use Rattle.std.specs.Ordering.{int_cmp}
 use Rattle.std.specs.declared.cmp.Ordering.TheVariants.{Less}
 use Rattle.std.proofs.lemmas.Int.{ints}
 use Rattle.std.proofs.lemmas.Map.Keys.{sorted_head, sorted_tail}
-use Rattle.cluster_terms.proofs.ReachLemmas.{arc-between}
+use Rattle.cluster_terms.proofs.reach.ReachLemmas.{arc-between}
 use Rattle.cluster_terms.specs.Arc.{in_arc}
-use Rattle.ring_reach.specs.Windows.{is_inside, rights_of, window_bounds, first_upto, nearest, have, any_have}
+use Rattle.ring_reach.specs.code.Windows.{is_inside, rights_of, window_bounds, first_upto, nearest, have, any_have}
 use Rattle.ring_reach.specs.declared.windows.Window.{Window}
 
 -- ---- by search

@@ -1,5 +1,2 @@
-pub mod Change
-pub mod Moved
 pub mod Settled
-pub mod Walk
-pub mod Windows
+pub mod code

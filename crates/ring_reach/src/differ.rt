@@ -3,7 +3,7 @@ ghost use Rattle.cluster_terms.specs.Replication.{groups_of};
 ghost use Rattle.node_directory.specs.Members.{group_of};
 ghost use Rattle.ring_reach.specs.Settled.{is_in_any_unsettled, is_in_unsettled};
 
-use crate::shape::common_shape;
+use crate::common_shape::common_shape;
 use cluster_terms::{Name, NodeId, Pair, Replication, Rf};
 use node_directory::{Directory, Members};
 use token_ring::Ring;

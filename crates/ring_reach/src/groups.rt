@@ -1,12 +1,12 @@
 ghost use Rattle.std.specs.Prelude.{◌≡◌, ℤ, IfOk};
 ghost use Rattle.std.specs.List.{flat_map};
 ghost use Rattle.cluster_terms.specs.Replication.{groups_of};
-ghost use Rattle.token_ring.specs.Ranges.{AreCutOut, HaveTokens};
-ghost use Rattle.ring_reach.specs.Change.{reaches_any, tokens_of_both};
-ghost use Rattle.ring_reach.specs.Moved.{AreTokensAmong};
-ghost use Rattle.ring_reach.specs.Windows.{any_have, window_bounds};
+ghost use Rattle.token_ring.specs.TokenRanges.{AreCutOut, HaveTokens};
+ghost use Rattle.ring_reach.specs.code.RingChange.{reaches_any, tokens_of_both};
+ghost use Rattle.ring_reach.specs.code.Moved.{AreTokensAmong};
+ghost use Rattle.ring_reach.specs.code.Windows.{any_have, window_bounds};
 
-use crate::change::Change;
+use crate::ring_change::RingChange;
 use crate::rows::ranges_of;
 use crate::windows::Windows;
 use cluster_terms::{Memory, Name, Replication, Rf};
@@ -17,7 +17,7 @@ use token_ring::RangeList;
 /// The windows of the tokens that a change reaches in each of these datacenters.
 fn windows_in_datacenters<'a>(
     alloc: Global,
-    change: &Change<'a>,
+    change: &RingChange<'a>,
     dir: &'a Directory,
     factors: &'a [(Name, Rf)],
 ) -> Result<Vec<Windows>, Memory>
@@ -35,10 +35,10 @@ fn windows_in_datacenters<'a>(
 }
 
 /// The ranges of the tokens that a change reaches in the groups of a replication. The cost is that of
-/// `Change::windows` for each group, and of `ranges_of`.
+/// `RingChange::windows` for each group, and of `ranges_of`.
 pub fn ranges_in_groups<'a>(
     alloc: Global,
-    change: &Change<'a>,
+    change: &RingChange<'a>,
     dir: &'a Directory,
     replication: &'a Replication,
 ) -> Result<RangeList, Memory>

@@ -1,13 +1,13 @@
 //! Reach: the tokens whose placement may change when pairs of a ring come or go.
 #![tactic(auto)]
 
-mod change;
+mod common_shape;
 mod differ;
 mod groups;
 mod reach;
+mod ring_change;
 mod rows;
-mod shape;
-mod walk;
+mod walk_back;
 mod windows;
 
 pub use differ::shape_differs;

@@ -4,11 +4,11 @@ ghost use Rattle.cluster_terms.specs.Group.{place};
 ghost use Rattle.cluster_terms.specs.Reach.{DifferWithin, IsBetween, is_reached};
 ghost use Rattle.cluster_terms.specs.Replication.{groups_of};
 ghost use Rattle.cluster_terms.specs.declared.token.Pair.{Pair};
-ghost use Rattle.token_ring.specs.Ranges.{AreCutOut, HaveTokens, have_token};
+ghost use Rattle.token_ring.specs.TokenRanges.{AreCutOut, HaveTokens, have_token};
 ghost use Rattle.cluster_terms.specs.Pair.{tokens_of};
 
-use crate::change::Change;
 use crate::groups::ranges_in_groups;
+use crate::ring_change::RingChange;
 use cluster_terms::{Memory, Pair, Replication};
 use node_directory::Directory;
 use std::alloc::Global;
@@ -46,7 +46,7 @@ pub fn reached(
         → place (groups_of dir.now.rows replication.now) x one
         ≡ place (groups_of dir.now.rows replication.now) x other) }
 {
-    let change = Change {
+    let change = RingChange {
         fixed,
         widest,
         moved,

@@ -2,9 +2,9 @@ ghost use Rattle.std.specs.Prelude.{◌≡◌, ◌++◌, IfOk, OnOk};
 ghost use Rattle.std.specs.List.{flat_map};
 ghost use Rattle.std.specs.List.Sorted.{IsStrictlySortedBy};
 ghost use Rattle.std.specs.Ordering.{int_cmp};
-ghost use Rattle.token_ring.specs.Ranges.{AreCutOut, HaveTokens};
-ghost use Rattle.ring_reach.specs.Moved.{HaveSameTokens};
-ghost use Rattle.ring_reach.specs.Windows.{any_have, window_bounds};
+ghost use Rattle.token_ring.specs.TokenRanges.{AreCutOut, HaveTokens};
+ghost use Rattle.ring_reach.specs.code.Moved.{HaveSameTokens};
+ghost use Rattle.ring_reach.specs.code.Windows.{any_have, window_bounds};
 
 use crate::windows::{Window, Windows};
 use cluster_terms::{Memory, Token, put_in_order};

@@ -1,7 +1,7 @@
 ghost use Rattle.std.specs.Prelude.{◌≡◌, ◌≤◌, [], ◌∷◌, int_lt, length, true, false, IfOk};
 ghost use Rattle.std.specs.List.Sorted.{IsPartitionPoint, IsStrictlySortedBy};
 ghost use Rattle.std.specs.Ordering.{int_cmp};
-ghost use Rattle.ring_reach.specs.Windows as spec;
+ghost use Rattle.ring_reach.specs.code.Windows as spec;
 
 use cluster_terms::{Memory, Token};
 use std::alloc::Global;
@@ -39,7 +39,7 @@ impl Model for Windows {
     ghost use Rattle.std.specs.Prelude.{List};
     ghost use Rattle.std.specs.List.Sorted.{IsStrictlySortedBy};
     ghost use Rattle.std.specs.Ordering.{int_cmp};
-    ghost use Rattle.ring_reach.specs.Windows.{rights_of};
+    ghost use Rattle.ring_reach.specs.code.Windows.{rights_of};
     ghost use Rattle.ring_reach.specs.declared.windows.Window.{Window};
 
     ghost Value = { List Window };

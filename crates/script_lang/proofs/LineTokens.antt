@@ -15,7 +15,7 @@ use Rattle.std.proofs.lemmas.Map.Keys.{sorted_head, sorted_tail}
 use Rattle.std.proofs.lemmas.Option.{IfSome_then}
 use Rattle.cluster_terms.specs.Arc.{IsToken}
 use Rattle.cluster_terms.specs.Ascending.{ascending}
-use Rattle.cluster_terms.proofs.AscendingLemmas.{All-put_all, ascending_sorted}
+use Rattle.cluster_terms.proofs.lists.AscendingLemmas.{All-put_all, ascending_sorted}
 use Rattle.transformations.specs.History as history
 use Rattle.script_lang.specs.Grammar as spec
 use Rattle.script_lang.proofs.OptionValues.{chained, mapped, where_true}

@@ -7,7 +7,7 @@ use Rattle.std.specs.Str.{bytes_eq}
 use Rattle.std.specs.Str.Parse.{digits_value}
 use Rattle.std.proofs.lemmas.Bool.Decides.{nat_tests}
 use Rattle.std.proofs.lemmas.List.Elements.{All-from_recursion}
-use Rattle.cluster_terms.proofs.FactorsLemmas.{factors_in_order, length-by_name}
+use Rattle.cluster_terms.proofs.texts.FactorsLemmas.{factors_in_order, length-by_name}
 use Rattle.cluster_terms.specs.Ascending.{ascending}
 use Rattle.cluster_terms.specs.Factors.{IsFactorRow, IsFactors, are_factors, by_datacenter, names_of}
 use Rattle.cluster_terms.specs.Name.{is_name}

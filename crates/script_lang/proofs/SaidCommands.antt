@@ -127,74 +127,74 @@ module _ (P : Command → Type 0) (of : HoldsOfForms P) where
 
   -- ---- lines
 
-  abbrev IsHeld : ScriptLine → Type 0
-  IsHeld = HoldsOfLine P
+  abbrev IsSo : ScriptLine → Type 0
+  IsSo = HoldsOfLine P
 
-  of_commit : (words : List (List ℕ)) → IfSome (spec.commit_in words) IsHeld
+  of_commit : (words : List (List ℕ)) → IfSome (spec.commit_in words) IsSo
   unfolding spec.commit_in
   of_commit [] = tt
   of_commit (id ∷ words) =
-      chained _ (λ n. n < 2 ^ 64) IsHeld (λ n is. mapped (Commit n) IsHeld (spec.command_of words) (IfSome_then (spec.command_of words) {P = P} {Q = λ c. IsHeld (Commit n c)} (of_command words) (λ c holds. (is, holds))))
+      chained _ (λ n. n < 2 ^ 64) IsSo (λ n is. mapped (Commit n) IsSo (spec.command_of words) (IfSome_then (spec.command_of words) {P = P} {Q = λ c. IsSo (Commit n c)} (of_command words) (λ c holds. (is, holds))))
       (spec.number_below (2 ^ 64) id) (of_number (2 ^ 64) id)
 
-  of_follower : (words : List (List ℕ)) → IfSome (spec.follower_in words) IsHeld
+  of_follower : (words : List (List ℕ)) → IfSome (spec.follower_in words) IsSo
   unfolding spec.follower_in
   of_follower [] = tt
-  of_follower (name ∷ []) = where_true IsHeld (is_name name) (Follower name) (λ e. tt)
+  of_follower (name ∷ []) = where_true IsSo (is_name name) (Follower name) (λ e. tt)
   of_follower (name ∷ word ∷ words) = tt
 
   -- a follower's name and an epoch
-  of_handed : (line : List ℕ → ℕ → ScriptLine) (holds : (name : List ℕ) (epoch : ℕ) → IsHeld (line name epoch)) (name epoch : List ℕ)
-      → IfSome (if is_name name then option_map (line name) (spec.number_below (2 ^ 64) epoch) else None) IsHeld
-  of_handed line holds name epoch = either IsHeld (is_name name) _ None (each_mapped (line name) IsHeld (holds name) (spec.number_below (2 ^ 64) epoch)) tt
+  of_handed : (line : List ℕ → ℕ → ScriptLine) (holds : (name : List ℕ) (epoch : ℕ) → IsSo (line name epoch)) (name epoch : List ℕ)
+      → IfSome (if is_name name then option_map (line name) (spec.number_below (2 ^ 64) epoch) else None) IsSo
+  of_handed line holds name epoch = either IsSo (is_name name) _ None (each_mapped (line name) IsSo (holds name) (spec.number_below (2 ^ 64) epoch)) tt
 
-  of_deliver : (words : List (List ℕ)) → IfSome (spec.deliver_in words) IsHeld
+  of_deliver : (words : List (List ℕ)) → IfSome (spec.deliver_in words) IsSo
   unfolding spec.deliver_in
   of_deliver [] = tt
   of_deliver (name ∷ []) = tt
   of_deliver (name ∷ epoch ∷ []) = of_handed Deliver (λ name epoch. tt) name epoch
   of_deliver (name ∷ epoch ∷ word ∷ words) = tt
 
-  of_snapshot : (words : List (List ℕ)) → IfSome (spec.snapshot_in words) IsHeld
+  of_snapshot : (words : List (List ℕ)) → IfSome (spec.snapshot_in words) IsSo
   unfolding spec.snapshot_in
   of_snapshot [] = tt
   of_snapshot (name ∷ []) = tt
   of_snapshot (name ∷ epoch ∷ []) = of_handed Snapshot (λ name epoch. tt) name epoch
   of_snapshot (name ∷ epoch ∷ word ∷ words) = tt
 
-  of_place : (words : List (List ℕ)) → IfSome (spec.place_line words) IsHeld
+  of_place : (words : List (List ℕ)) → IfSome (spec.place_line words) IsSo
   unfolding spec.place_line
   of_place [] = tt
   of_place (target ∷ []) = tt
-  of_place (target ∷ name ∷ []) = either IsHeld (is_name name) _ None (each_mapped (λ t. Place t name) IsHeld (λ t. tt) (spec.target_of target)) tt
+  of_place (target ∷ name ∷ []) = either IsSo (is_name name) _ None (each_mapped (λ t. Place t name) IsSo (λ t. tt) (spec.target_of target)) tt
   of_place (target ∷ name ∷ word ∷ words) = tt
 
-  of_nodes : (words : List (List ℕ)) → IfSome (spec.nodes_line words) IsHeld
+  of_nodes : (words : List (List ℕ)) → IfSome (spec.nodes_line words) IsSo
   unfolding spec.nodes_line
   of_nodes [] = tt
-  of_nodes (target ∷ []) = each_mapped Nodes IsHeld (λ t. tt) (spec.target_of target)
+  of_nodes (target ∷ []) = each_mapped Nodes IsSo (λ t. tt) (spec.target_of target)
   of_nodes (target ∷ word ∷ words) = tt
 
-  of_quorum : (words : List (List ℕ)) → IfSome (spec.quorum_line words) IsHeld
+  of_quorum : (words : List (List ℕ)) → IfSome (spec.quorum_line words) IsSo
   unfolding spec.quorum_line
   of_quorum [] = tt
   of_quorum (target ∷ []) = tt
   of_quorum (target ∷ name ∷ []) = tt
   of_quorum (target ∷ name ∷ token ∷ []) =
-      either IsHeld (is_name name) _ None (each_chained _ IsHeld (λ t. mapped (Quorum t name) IsHeld (spec.token_of token) (of_token token)) (spec.target_of target)) tt
+      either IsSo (is_name name) _ None (each_chained _ IsSo (λ t. mapped (Quorum t name) IsSo (spec.token_of token) (of_token token)) (spec.target_of target)) tt
   of_quorum (target ∷ name ∷ token ∷ word ∷ words) = tt
 
-  of_local : (words : List (List ℕ)) → IfSome (spec.local_line words) IsHeld
+  of_local : (words : List (List ℕ)) → IfSome (spec.local_line words) IsSo
   unfolding spec.local_line
   of_local [] = tt
   of_local (target ∷ []) = tt
   of_local (target ∷ name ∷ []) = tt
   of_local (target ∷ name ∷ dc ∷ []) = tt
   of_local (target ∷ name ∷ dc ∷ token ∷ []) =
-      either IsHeld (is_name name && is_name dc) _ None (each_chained _ IsHeld (λ t. mapped (Local t name dc) IsHeld (spec.token_of token) (of_token token)) (spec.target_of target)) tt
+      either IsSo (is_name name && is_name dc) _ None (each_chained _ IsSo (λ t. mapped (Local t name dc) IsSo (spec.token_of token) (of_token token)) (spec.target_of target)) tt
   of_local (target ∷ name ∷ dc ∷ token ∷ word ∷ words) = tt
 
-  pub of_words : (words : List (List ℕ)) → IfSome (spec.line_of_words words) IsHeld
+  pub of_words : (words : List (List ℕ)) → IfSome (spec.line_of_words words) IsSo
   unfolding spec.line_of_words
   of_words [] = tt
   of_words (word ∷ words) =
@@ -207,6 +207,6 @@ module _ (P : Command → Type 0) (of : HoldsOfForms P) where
       (either _ (bytes_eq word (codes "quorum")) _ _ (of_quorum words)
       (either _ (bytes_eq word (codes "local")) _ _ (of_local words) tt)))))))
 
-  pub of_line : (bytes : List ℕ) → IfSome (spec.line_of bytes) IsHeld
+  pub of_line : (bytes : List ℕ) → IfSome (spec.line_of bytes) IsSo
   unfolding spec.line_of
-  of_line bytes = either IsHeld (nat_le (length bytes) 16384) _ None (of_words (words_of bytes)) tt
+  of_line bytes = either IsSo (nat_le (length bytes) 16384) _ None (of_words (words_of bytes)) tt

@@ -6,8 +6,8 @@ use Rattle.std.proofs.lemmas.Bool.Decides.{nat_tests}
 use Rattle.std.proofs.lemmas.Cmp.{int_cmp_total}
 use Rattle.std.proofs.lemmas.Map.Made.{distinct_count-le}
 use Rattle.cluster_terms.specs.Ascending.{ascending}
-use Rattle.cluster_terms.proofs.AscendingLemmas.{length-ascending}
-use Rattle.cluster_terms.proofs.ReadWords.{AreRead, all_found, all_read, not_read}
+use Rattle.cluster_terms.proofs.lists.AscendingLemmas.{length-ascending}
+use Rattle.cluster_terms.proofs.texts.ReadWords.{AreRead, all_found, all_read, not_read}
 use Rattle.script_lang.specs.Grammar.{token_of, each_token_in_words, are_unordered_tokens}
 
 -- where a word is no token

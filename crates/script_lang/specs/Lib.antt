@@ -1,2 +1,2 @@
+pub mod AnswerTexts
 pub mod Grammar
-pub mod Texts

@@ -2,9 +2,9 @@
 //! its old content.
 
 ghost use Rattle.std.specs.Prelude.{◌≡◌, ◌++◌, codes, decimal, take, length, OnOk};
-ghost use Rattle.script_lang.specs.Texts as spec;
+ghost use Rattle.script_lang.specs.AnswerTexts as spec;
 
-use crate::refusals::refusal_text;
+use crate::refusal_texts::refusal_text;
 use crate::shown::labelled;
 use cluster_terms::{ByteText, Memory};
 use transformations::Refusal;

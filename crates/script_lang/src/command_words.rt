@@ -5,7 +5,7 @@ ghost use Rattle.transformations.specs.declared.command.Command.TheVariants.{Ste
 ghost use Rattle.script_lang.specs.Grammar as spec;
 
 use crate::number::node_of;
-use crate::tokens::{token_of, tokens_in_words};
+use crate::token_words::{token_of, tokens_in_words};
 use crate::words::is_word;
 use cluster_terms::{Memory, Name, NodeId, Replication, TokenList};
 use std::alloc::Global;

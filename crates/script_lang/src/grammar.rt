@@ -6,7 +6,7 @@ ghost use Rattle.script_lang.specs.Grammar as spec;
 use crate::command_words::command_of;
 use crate::number::number_of;
 use crate::script_line::{ScriptLine, Target};
-use crate::tokens::token_of;
+use crate::token_words::token_of;
 use crate::words::{USUAL_WORDS, is_word, put_words, words_of};
 use cluster_terms::{Few, Memory, Name};
 use std::alloc::Global;

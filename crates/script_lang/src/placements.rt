@@ -1,9 +1,9 @@
 //! The placements of a keyspace: a head, and a line for each row of its placement map.
 
 ghost use Rattle.std.specs.Prelude.{◌≡◌, ◌++◌, codes, take, length, None, OnOk};
-ghost use Rattle.script_lang.specs.Texts as spec;
+ghost use Rattle.script_lang.specs.AnswerTexts as spec;
 
-use crate::lists::list_text;
+use crate::answer_lists::list_text;
 use crate::shown::{Shown, labelled};
 use cluster_terms::{ByteText, Memory, Name, NodeId, RightEnd, Token};
 use range_placements::{PlacementMap, PlacementRow};
@@ -49,7 +49,7 @@ fn add_rows(rows: &[PlacementRow], out: &mut ByteText) -> Result<(), Memory>
 }
 
 /// Adds the line of a row that begins after this token, or with the least token.
-#[tactic(auto, unfolding(crate::specs::Texts::placed_text))]
+#[tactic(auto, unfolding(crate::specs::AnswerTexts::placed_text))]
 fn add_row(left: Option<Token>, row: &PlacementRow, out: &mut ByteText) -> Result<(), Memory>
     ensures added { OnOk result (out.new ≡ out.old ++ spec.map_row_text left row.now) }
     ensures kept { take (length out.old) out.new ≡ out.old }

@@ -2,7 +2,7 @@
 
 ghost use Rattle.std.specs.Prelude.{◌≡◌, ◌++◌, ℕ, List, decimal, take, length, OnOk};
 ghost use Rattle.std.specs.Fmt.{signed_decimal};
-ghost use Rattle.script_lang.specs.Texts as spec;
+ghost use Rattle.script_lang.specs.AnswerTexts as spec;
 
 use cluster_terms::{ByteText, Memory, Name, NodeId, Pair, RightEnd, Token};
 use itoa::Buffer;

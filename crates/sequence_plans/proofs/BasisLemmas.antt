@@ -8,9 +8,9 @@ use Rattle.std.specs.List.{AllByRecursion}
 use Rattle.std.specs.List.Sorted.{IsPermutation}
 use Rattle.std.specs.Ordering.{int_cmp, int_eq}
 use Rattle.std.specs.Set.{is_member}
-use Rattle.cluster_terms.proofs.AscendingLemmas.{member-ascending}
-use Rattle.cluster_terms.proofs.GroupLemmas.{or_elim}
-use Rattle.cluster_terms.proofs.ReachSame.{reached-same}
+use Rattle.cluster_terms.proofs.lists.AscendingLemmas.{member-ascending}
+use Rattle.cluster_terms.proofs.placement.GroupLemmas.{or_elim}
+use Rattle.cluster_terms.proofs.reach.ReachSame.{reached-same}
 use Rattle.cluster_terms.specs.Pair.{has_pair, same_pair, tokens_of}
 use Rattle.cluster_terms.specs.Reach.{is_reached}
 use Rattle.cluster_terms.specs.Replication.{groups_of}
@@ -23,7 +23,7 @@ use Rattle.node_directory.specs.Directory.{is_directory}
 use Rattle.token_ring.proofs.BoundLemmas.{out_more}
 use Rattle.token_ring.proofs.DistinctLemmas.{distinct_tokens}
 use Rattle.token_ring.proofs.OrderLemmas.{has_token-IsPermutation}
-use Rattle.token_ring.specs.Ranges.{AreCutOut, HaveTokens}
+use Rattle.token_ring.specs.TokenRanges.{AreCutOut, HaveTokens}
 use Rattle.token_ring.specs.Ring.{are_distinct}
 use Rattle.transformations.proofs.lists.ListLemmas.{IsPart, all_from_map, all_map, all_members, member_holds, part_all_of, part_distinct, part_front, part_map, part_trans, part_without_pairs}
 use Rattle.transformations.proofs.ranges.MovementRanges.{fixed_part, moved_hold}
@@ -32,7 +32,7 @@ use Rattle.transformations.specs.Rings.{cuts, fixed_ring, outgoing, widest}
 use Rattle.transformations.specs.Valid.{IsSound, brought}
 use Rattle.transformations.specs.declared.image.Image.{Image}
 use Rattle.transformations.specs.declared.sequence.SeqRow.{SeqRow}
-use Rattle.sequence_plans.specs.Basis.{MovesWithin}
+use Rattle.sequence_plans.specs.code.Basis.{MovesWithin}
 
 -- ---- the rings and the nodes of a sound image
 

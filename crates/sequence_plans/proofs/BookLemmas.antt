@@ -8,19 +8,19 @@ use Rattle.std.specs.declared.cmp.Ordering.{Ordering}
 use Rattle.std.specs.declared.cmp.Ordering.TheVariants.{Less, Equal, Greater}
 use Rattle.cluster_terms.specs.Ascending.{put}
 use Rattle.cluster_terms.specs.declared.replication.Replication.{Replication}
-use Rattle.token_ring.specs.Ranges.{AreCutOut, HaveTokens}
-use Rattle.token_ring.specs.declared.book.LockRow.{LockRow}
-use Rattle.token_ring.specs.declared.book.RangeRow.{RangeRow}
+use Rattle.token_ring.specs.TokenRanges.{AreCutOut, HaveTokens}
+use Rattle.token_ring.specs.declared.range_book.LockRow.{LockRow}
+use Rattle.token_ring.specs.declared.range_book.RangeRow.{RangeRow}
 use Rattle.transformations.proofs.ranges.MovementRanges.{moved_within}
 use Rattle.transformations.specs.Orders.{by_node}
 use Rattle.transformations.specs.Ranges.{in_ranges}
 use Rattle.transformations.specs.Refusals.{with_movement}
 use Rattle.transformations.specs.Rings.{cuts}
-use Rattle.transformations.specs.Steps.{others}
+use Rattle.transformations.specs.Movements.{others}
 use Rattle.transformations.specs.Valid.{IsSound}
 use Rattle.transformations.specs.declared.image.Image.{Image}
 use Rattle.transformations.specs.declared.sequence.SeqRow.{SeqRow}
-use Rattle.sequence_plans.specs.Basis.{MovesWithin}
+use Rattle.sequence_plans.specs.code.Basis.{MovesWithin}
 use Rattle.sequence_plans.specs.Plan.{AreLocks, IsBook, IsLockRow}
 
 -- the ranges under some replications

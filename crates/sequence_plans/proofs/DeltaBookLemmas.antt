@@ -7,20 +7,20 @@ use Rattle.cluster_terms.specs.Arc.{IsToken}
 use Rattle.cluster_terms.specs.Ascending.{put}
 use Rattle.cluster_terms.specs.Replication.{same_replication}
 use Rattle.cluster_terms.specs.declared.replication.Replication.{Replication}
-use Rattle.placement_deltas.specs.declared.book.DeltaBookRow.{DeltaBookRow}
+use Rattle.placement_deltas.specs.declared.delta_book.DeltaBookRow.{DeltaBookRow}
 use Rattle.placement_deltas.specs.declared.delta_row.DeltaRow.{DeltaRow}
-use Rattle.token_ring.specs.declared.book.RangeRow.{RangeRow}
+use Rattle.token_ring.specs.declared.range_book.RangeRow.{RangeRow}
 use Rattle.transformations.proofs.lists.ListLemmas.{all_both, all_from_map, all_pi, all_weaker, part_all_of, part_filter}
-use Rattle.transformations.specs.Deltas.{SameDeltas}
+use Rattle.transformations.specs.MovementDeltas.{SameDeltas}
 use Rattle.transformations.specs.Orders.{by_node}
 use Rattle.transformations.specs.declared.image.Image.{Image}
 use Rattle.transformations.specs.declared.keyspace.KeyspaceRow.{KeyspaceRow}
 use Rattle.transformations.specs.declared.sequence.SeqRow.{SeqRow}
 use Rattle.sequence_plans.proofs.BookLemmas.{own_put}
-use Rattle.sequence_plans.specs.DeltaParts.{AreExact}
-use Rattle.sequence_plans.specs.Deltas.{AreDeltas, AreStepDeltas, IsExact, gained_by, lost_by, no_nodes}
+use Rattle.sequence_plans.specs.code.DeltaParts.{AreExact}
+use Rattle.sequence_plans.specs.PlanDeltas.{AreDeltas, AreStepDeltas, IsExact, gained_by, lost_by, no_nodes}
 use Rattle.sequence_plans.specs.Replications.{replications_of}
-use Rattle.sequence_plans.specs.declared.deltas.Deltas.{Deltas}
+use Rattle.sequence_plans.specs.declared.plan_deltas.Deltas.{Deltas}
 
 -- a movement is among those that it is put among
 pub own_contained : (s : SeqRow) (sequences : List SeqRow) → Contains (put by_node s sequences) s

@@ -1,10 +1,11 @@
 pub mod BasisLemmas
 pub mod BookLemmas
 pub mod DeltaBookLemmas
-pub mod NearCuts
+pub mod HomeDeltas
+pub mod NearCutSearch
 pub mod NearRows
 pub mod PersistLemmas
 pub mod PlacerLemmas
 pub mod ReplicationsLemmas
-pub mod RowChanges
+pub mod RowChangeLemmas
 pub mod RowDeltas

@@ -9,19 +9,19 @@ use Rattle.std.specs.List.{AllByRecursion}
 use Rattle.std.specs.List.Sorted.{IsStrictlySortedBy}
 use Rattle.std.specs.Ordering.{int_cmp, int_eq}
 use Rattle.std.specs.Set.{is_member}
-use Rattle.cluster_terms.proofs.GroupLemmas.{or_elim}
-use Rattle.cluster_terms.proofs.RowLemmas.{rows_have_last}
+use Rattle.cluster_terms.proofs.placement.GroupLemmas.{or_elim}
+use Rattle.cluster_terms.proofs.rows.RowLemmas.{rows_have_last}
 use Rattle.cluster_terms.specs.Arc.{IsToken, in_arc}
 use Rattle.cluster_terms.specs.Row.{is_past, is_within, last_token, rows_between}
 use Rattle.cluster_terms.specs.declared.row.TokenRange.{TokenRange}
 use Rattle.cluster_terms.specs.declared.token.RightEnd.{RightEnd}
 use Rattle.cluster_terms.specs.declared.token.RightEnd.TheVariants.{At, Max}
 use Rattle.token_ring.proofs.RangeLemmas.{member_has, same_tokens}
-use Rattle.token_ring.specs.Ranges.{AreCutOut, IsRange, IsRangeList, have_token, is_cut_left, is_cut_out, is_cut_right}
+use Rattle.token_ring.specs.TokenRanges.{AreCutOut, IsRange, IsRangeList, have_token, is_cut_left, is_cut_out, is_cut_right}
 use Rattle.transformations.proofs.lists.ListLemmas.{all_both, all_members, all_weaker}
 use Rattle.transformations.proofs.ranges.RowEndLemmas.{IsUpTo, rows_upto}
-use Rattle.sequence_plans.proofs.NearCuts.{near_ascend}
-use Rattle.sequence_plans.specs.NearCuts.{is_from, is_near, near_cuts, touches}
+use Rattle.sequence_plans.proofs.NearCutSearch.{near_ascend}
+use Rattle.sequence_plans.specs.code.NearCuts.{is_from, is_near, near_cuts, touches}
 
 -- a token past a left end is at it or past it
 past_from : (left : Option ℤ) (t w : ℤ) → (is_past left t && int_le t w) ≡ true → (is_from left t && int_le t w) ≡ true

@@ -7,7 +7,7 @@ use Rattle.placement_deltas.specs.declared.plan.Plan.{Plan}
 use Rattle.transformations.proofs.deltas.DeltasAfter.{deltas_after}
 use Rattle.transformations.proofs.deltas.KeptDeltas.{deltas_of_same}
 use Rattle.transformations.proofs.lists.ListLemmas.{all_each, all_weaker}
-use Rattle.transformations.specs.Deltas.{LivesOn, MovesSame, SameDeltas, placed_before, placed_with}
+use Rattle.transformations.specs.MovementDeltas.{LivesOn, MovesSame, SameDeltas, placed_before, placed_with}
 use Rattle.transformations.specs.History.{begun, image_after}
 use Rattle.transformations.specs.Refusals.{with_movement}
 use Rattle.transformations.specs.Valid.{IsValid}
@@ -15,7 +15,7 @@ use Rattle.transformations.specs.declared.image.Image.{Image}
 use Rattle.transformations.specs.declared.keyspace.KeyspaceRow.{KeyspaceRow}
 use Rattle.transformations.specs.declared.sequence.SeqRow.{SeqRow}
 use Rattle.sequence_plans.proofs.DeltaBookLemmas.{at_each_token, own_contained, steps_like}
-use Rattle.sequence_plans.specs.Deltas.{AreStepDeltas, HasDeltas, StaysExact}
+use Rattle.sequence_plans.specs.PlanDeltas.{AreStepDeltas, HasDeltas, StaysExact}
 use Rattle.sequence_plans.specs.Replications.{replications_of}
 
 -- what a later movement with the same pairs gains and loses is what these pairs do
@@ -25,10 +25,10 @@ same_own before after r x s q m d =
     record { gained = d.gained ∙ back.gained; lost = d.lost ∙ back.lost }
 
 persists : (image : Image) (plan : Plan) → IsValid image → Contains image.sequences plan.row → HasDeltas image plan → StaysExact image plan
-persists image plan h there has commands accepted room lives =
+persists image plan h there has commands accepted below_limit lives =
     let later : Image = image_after image commands in
     let s : SeqRow = plan.row in
-    let on : LivesOn image later s = deltas_after image s commands h there accepted room lives in
+    let on : LivesOn image later s = deltas_after image s commands h there accepted below_limit lives in
     subst (λ (keyspaces : List KeyspaceRow). AreStepDeltas later s (replications_of keyspaces) plan.gain plan.swap plan.lose) (sym on.keyspaces)
     (steps_like image later s s image.keyspaces
     (at_each_token (λ x (k : KeyspaceRow). SameDeltas image later k.replication x s s) image.keyspaces

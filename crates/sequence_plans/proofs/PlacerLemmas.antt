@@ -1,13 +1,13 @@
 -- The replicas that a placer gives on a ring, in the terms of the image.
 use Rattle.std.proofs.Common.{◌≡◌, ℤ, List, ap, sym, ◌∙◌}
 use Rattle.std.specs.List.Sorted.{IsPermutation}
-use Rattle.cluster_terms.proofs.PlacementLemmas.{place-permuted}
+use Rattle.cluster_terms.proofs.placement.PlacementLemmas.{place-permuted}
 use Rattle.cluster_terms.specs.Group.{place}
 use Rattle.cluster_terms.specs.Replication.{groups_of}
 use Rattle.cluster_terms.specs.declared.node.NodeRow.{NodeRow}
 use Rattle.cluster_terms.specs.declared.replication.Replication.{Replication}
 use Rattle.cluster_terms.specs.declared.token.Pair.{Pair}
-use Rattle.transformations.specs.Deltas.{placed_before, placed_with}
+use Rattle.transformations.specs.MovementDeltas.{placed_before, placed_with}
 use Rattle.transformations.specs.Rings.{low_ring, replaced}
 use Rattle.transformations.specs.declared.image.Image.{Image}
 use Rattle.transformations.specs.declared.sequence.SeqRow.{SeqRow}

@@ -2,7 +2,7 @@
 use Rattle.std.proofs.Common.{◌≡◌, ℕ, ◌+◌, ◌<◌, Bool, true, false, not, true≢false, ◌||◌, cond, List, [], ◌∷◌, ◌++◌, filter, take, length, get_or, refl, sym, ap, ◌∙◌}
 use Rattle.std.proofs.lemmas.List.{append-nil, take_more}
 use Rattle.std.specs.List.{list_any}
-use Rattle.cluster_terms.proofs.ReplicationLemmas.{same_replication-exact}
+use Rattle.cluster_terms.proofs.texts.ReplicationLemmas.{same_replication-exact}
 use Rattle.cluster_terms.specs.Replication.{same_replication}
 use Rattle.cluster_terms.specs.declared.replication.Replication.{Replication}
 use Rattle.transformations.specs.declared.keyspace.KeyspaceRow.{KeyspaceRow}

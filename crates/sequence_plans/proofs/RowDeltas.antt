@@ -5,7 +5,7 @@ use Rattle.std.proofs.lemmas.List.Elements.{All-contains, All-from_recursion}
 use Rattle.std.specs.List.{AllByRecursion, Contains}
 use Rattle.std.specs.List.Sorted.{IsStrictlySortedBy}
 use Rattle.std.specs.Ordering.{int_cmp}
-use Rattle.cluster_terms.proofs.RowLemmas.{rows_have_last}
+use Rattle.cluster_terms.proofs.rows.RowLemmas.{rows_have_last}
 use Rattle.cluster_terms.specs.Arc.{IsToken}
 use Rattle.cluster_terms.specs.Row.{is_within, last_token, rows_between}
 use Rattle.cluster_terms.specs.declared.replication.Replication.{Replication}
@@ -14,27 +14,28 @@ use Rattle.node_sets.specs.NodeSets.{without}
 use Rattle.placement_deltas.proofs.JoinedDeltas.{between_is, between_shows}
 use Rattle.placement_deltas.proofs.ShownChanges.{StandInRows, at_ends, shown_at}
 use Rattle.placement_deltas.specs.Deltas.{IsDelta, ShowsChanges}
-use Rattle.placement_deltas.specs.Joining.{change_rows, joined_from}
+use Rattle.placement_deltas.specs.code.JoinedRows.{change_rows, joined_from}
 use Rattle.placement_deltas.specs.declared.delta_row.DeltaRow.{DeltaRow}
-use Rattle.token_ring.specs.Ranges.{AreCutOut, HaveTokens, IsRangeList, have_token}
+use Rattle.token_ring.specs.TokenRanges.{AreCutOut, HaveTokens, IsRangeList, have_token}
 use Rattle.transformations.proofs.deltas.DeltaRows.{IsWithPart, before-between, with-between, with_parts}
 use Rattle.transformations.proofs.deltas.OutsideDeltas.{none_outside}
 use Rattle.transformations.proofs.lists.ListLemmas.{all_both}
 use Rattle.transformations.proofs.ranges.RowEndLemmas.{IsUpTo}
 use Rattle.transformations.proofs.ranges.RowsServed.{cuts_ascend}
-use Rattle.transformations.specs.Deltas.{gained_at, lost_at}
-use Rattle.transformations.specs.Ranges.{in_ranges}
+use Rattle.transformations.specs.MovementDeltas.{gained_at, lost_at}
+use Rattle.transformations.specs.Ranges.{in_ranges, moved_by}
 use Rattle.transformations.specs.Rings.{cuts}
 use Rattle.transformations.specs.Valid.{IsSound}
 use Rattle.transformations.specs.declared.image.Image.{Image}
 use Rattle.transformations.specs.declared.sequence.SeqRow.{SeqRow}
-use Rattle.sequence_plans.proofs.NearCuts.{near_ascend}
+use Rattle.sequence_plans.proofs.HomeDeltas.{gained_at_homes, lost_at_homes}
+use Rattle.sequence_plans.proofs.NearCutSearch.{near_ascend}
 use Rattle.sequence_plans.proofs.NearRows.{IsNearRow, near_rows}
-use Rattle.sequence_plans.specs.Deltas.{IsExact, gained_by, lost_by}
-use Rattle.sequence_plans.specs.MovementRings.{PlacesMovement}
-use Rattle.sequence_plans.specs.NearCuts.{near_cuts}
-use Rattle.sequence_plans.specs.Placers.{placed_by}
-use Rattle.sequence_plans.specs.RowChanges.{change_at}
+use Rattle.sequence_plans.specs.PlanDeltas.{IsExact, gained_by, lost_by}
+use Rattle.sequence_plans.specs.code.MovementRings.{PlacesMovement}
+use Rattle.sequence_plans.specs.code.NearCuts.{near_cuts}
+use Rattle.sequence_plans.specs.Placers.{at_homes, placed_by}
+use Rattle.sequence_plans.specs.code.RowChanges.{change_at}
 use Rattle.sequence_plans.specs.declared.movement_rings.MovementPlacers.{MovementPlacers}
 
 -- nodes at the tokens of ranges, and none elsewhere
@@ -43,7 +44,11 @@ inside ranges nodes x = if have_token ranges x then nodes x else []
 
 module _ (image : Image) (s : SeqRow) (r : Replication) (h : IsSound image) (there : Contains image.sequences s) (ranges : List TokenRange) (have : HaveTokens (in_ranges image r s) ranges)
     (list : IsRangeList ranges) (out : AreCutOut (cuts image) ranges) (near : List ℤ) (is : near ≡ near_cuts (cuts image) ranges) (tokens : AllByRecursion IsToken near)
-    (placers : MovementPlacers) (places : PlacesMovement image s r placers) where
+    (placers : MovementPlacers) (places : PlacesMovement image s (at_homes image.nodes (moved_by s) r) placers) where
+  -- the replication in the datacenters where the movement changes something
+  abbrev homes : Replication
+  homes = at_homes image.nodes (moved_by s) r
+
   -- the nodes before the movement and after it, and those that are gained and lost
   abbrev before : ℤ → List ℕ
   before = inside ranges (placed_by placers.before)
@@ -61,14 +66,14 @@ module _ (image : Image) (s : SeqRow) (r : Replication) (h : IsSound image) (the
   gained_is x token = by (have_token ranges x) refl
     where
       by : (b : Bool) → have_token ranges x ≡ b → without (if b then placed_by placers.after x else []) (if b then placed_by placers.before x else []) ≡ gained_at image r s x
-      by true e = λ i. without (places.after x i) (places.before x i)
+      by true e = (λ i. without (places.after x i) (places.before x i)) ∙ gained_at_homes image s x r
       by false e = sym (none_outside image r s x h there (sym (have x token) ∙ e)).0
 
   lost_is : (x : ℤ) → IsToken x → lost x ≡ lost_at image r s x
   lost_is x token = by (have_token ranges x) refl
     where
       by : (b : Bool) → have_token ranges x ≡ b → without (if b then placed_by placers.before x else []) (if b then placed_by placers.after x else []) ≡ lost_at image r s x
-      by true e = λ i. without (places.before x i) (places.after x i)
+      by true e = (λ i. without (places.before x i) (places.after x i)) ∙ lost_at_homes image s x r
       by false e = sym (none_outside image r s x h there (sym (have x token) ∙ e)).1
 
   -- ---- they are the same at all tokens of a row
@@ -91,12 +96,12 @@ module _ (image : Image) (s : SeqRow) (r : Replication) (h : IsSound image) (the
       by x w one other false e upto = refl
 
   before_stands : StandInRows before (rows_between near)
-  before_stands = stands (placed_by placers.before) (λ x w one other u. places.before x ∙ before-between image x w u.upto u.clear r ∙ sym (places.before w))
+  before_stands = stands (placed_by placers.before) (λ x w one other u. places.before x ∙ before-between image x w u.upto u.clear homes ∙ sym (places.before w))
 
   after_stands : StandInRows after (rows_between near)
   after_stands =
       let part = All-contains (IsWithPart image) image.sequences s (All-from_recursion (IsWithPart image) image.sequences (with_parts image)) there in
-      stands (placed_by placers.after) (λ x w one other u. places.after x ∙ with-between image x w u.upto u.clear r s part ∙ sym (places.after w))
+      stands (placed_by placers.after) (λ x w one other u. places.after x ∙ with-between image x w u.upto u.clear homes s part ∙ sym (places.after w))
 
   -- ---- so the delta is exact
 

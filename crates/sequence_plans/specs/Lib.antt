@@ -1,10 +1,6 @@
-pub mod Basis
-pub mod DeltaParts
-pub mod Deltas
 pub mod Locks
-pub mod MovementRings
-pub mod NearCuts
 pub mod Placers
 pub mod Plan
+pub mod PlanDeltas
 pub mod Replications
-pub mod RowChanges
+pub mod code

@@ -1,8 +1,8 @@
 -- The locks of the movements in flight: what the table of locked ranges has.
 use Rattle.std.specs.Prelude.{◌≡◌, List, [], ◌∷◌, map}
 use Rattle.std.specs.List.{AllByRecursion}
-use Rattle.token_ring.specs.Ranges.{HaveTokens}
-use Rattle.token_ring.specs.declared.book.LockRow.{LockRow}
+use Rattle.token_ring.specs.TokenRanges.{HaveTokens}
+use Rattle.token_ring.specs.declared.range_book.LockRow.{LockRow}
 use Rattle.sequence_plans.specs.Replications.{replications_of}
 use Rattle.transformations.specs.Ranges.{in_ranges}
 use Rattle.transformations.specs.declared.image.Image.{Image}

@@ -4,8 +4,9 @@ use Rattle.cluster_terms.specs.Group.{place}
 use Rattle.cluster_terms.specs.Replication.{groups_of, whole_group}
 use Rattle.cluster_terms.specs.declared.node.NodeRow.{NodeRow}
 use Rattle.cluster_terms.specs.declared.replication.Replication.{Replication}
+use Rattle.cluster_terms.specs.declared.replication.Replication.TheVariants as replication
 use Rattle.cluster_terms.specs.declared.token.Pair.{Pair}
-use Rattle.topology_strategy.specs.GroupedRing.{placement_at}
+use Rattle.topology_strategy.specs.GroupedRing.{homes_of, placement_at}
 use Rattle.sequence_plans.specs.declared.placer.Placer.{Placer}
 use Rattle.sequence_plans.specs.declared.placer.Placer.TheVariants.{Simple, Topology}
 
@@ -17,3 +18,8 @@ placed_by (Topology divided) x = placement_at divided x
 -- a placer gives the replicas of a replication on a ring
 abbrev pub PlacesOn : List Pair → List NodeRow → Replication → Placer → Type 0
 PlacesOn ring nodes replication placer = (x : ℤ) → placed_by placer x ≡ place (groups_of nodes replication) x ring
+
+-- a replication in the datacenters alone that have a node of one of these pairs
+abbrev pub at_homes : List NodeRow → List Pair → Replication → Replication
+at_homes nodes pairs (replication.Simple rf) = replication.Simple rf
+at_homes nodes pairs (replication.Topology factors) = replication.Topology (homes_of nodes pairs factors)

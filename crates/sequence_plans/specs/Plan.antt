@@ -2,16 +2,16 @@
 use Rattle.std.specs.Prelude.{◌≡◌, List, [], ◌∷◌, map}
 use Rattle.std.specs.List.{AllByRecursion}
 use Rattle.cluster_terms.specs.Arc.{IsToken}
-use Rattle.token_ring.specs.Ranges.{AreCutOut, HaveTokens}
-use Rattle.token_ring.specs.declared.book.LockRow.{LockRow}
-use Rattle.token_ring.specs.declared.book.RangeRow.{RangeRow}
+use Rattle.token_ring.specs.TokenRanges.{AreCutOut, HaveTokens}
+use Rattle.token_ring.specs.declared.range_book.LockRow.{LockRow}
+use Rattle.token_ring.specs.declared.range_book.RangeRow.{RangeRow}
 use Rattle.transformations.specs.Ranges.{in_ranges}
 use Rattle.transformations.specs.Rings.{cuts}
-use Rattle.transformations.specs.Steps.{others}
+use Rattle.transformations.specs.Movements.{others}
 use Rattle.transformations.specs.declared.image.Image.{Image}
 use Rattle.transformations.specs.declared.sequence.SeqRow.{SeqRow}
 use Rattle.placement_deltas.specs.declared.plan.Plan.{Plan}
-use Rattle.sequence_plans.specs.Deltas.{HasDeltas}
+use Rattle.sequence_plans.specs.PlanDeltas.{HasDeltas}
 use Rattle.sequence_plans.specs.Replications.{replications_of}
 
 -- the ranges of a movement under each replication of the keyspaces; the tokens at which they begin and end are cuts

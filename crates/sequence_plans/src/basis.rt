@@ -1,17 +1,17 @@
 ghost use Rattle.std.specs.Prelude.{◌≡◌, IfOk};
 ghost use Rattle.std.specs.List.{Contains};
-ghost use Rattle.token_ring.specs.Ranges.{AreCutOut, HaveTokens};
+ghost use Rattle.token_ring.specs.TokenRanges.{AreCutOut, HaveTokens};
 ghost use Rattle.transformations.specs.Ranges.{in_ranges, moved_by};
 ghost use Rattle.transformations.specs.Rings as spec;
-ghost use Rattle.transformations.specs.Steps.{others};
+ghost use Rattle.transformations.specs.Movements.{others};
 ghost use Rattle.transformations.specs.Valid.{IsSound};
-ghost use Rattle.sequence_plans.specs.Basis.{IsBasis, MovesWithin};
-ghost use Rattle.sequence_plans.specs.Deltas.{AreStepDeltas};
+ghost use Rattle.sequence_plans.specs.code.Basis.{IsBasis, MovesWithin};
+ghost use Rattle.sequence_plans.specs.PlanDeltas.{AreStepDeltas};
 ghost use Rattle.sequence_plans.specs.Plan.{AreLocks, IsBook};
 ghost use Rattle.sequence_plans.specs.Replications.{replications_of};
 
-use crate::deltas::DeltaBooks;
 use crate::movement_rings::MovementRings;
+use crate::plan_deltas::DeltaBooks;
 use crate::replications::{Replications, replications_of};
 use crate::wide_image::WideImage;
 use cluster_terms::{Memory, NodeId, Pair, PairList, Replication, Steps, Token, TryCopy};
@@ -34,7 +34,7 @@ pub struct Basis<'a> {
 }
 
 /// The pairs that a movement takes out, followed by the pairs that it puts in.
-fn moved_by(row: &SeqRow) -> Result<PairList, Memory>
+pub(crate) fn moved_by(row: &SeqRow) -> Result<PairList, Memory>
     ensures { IfOk result (λ pairs. pairs ≡ moved_by row.now) }
 {
     let mut moved = row.out_pairs.copy()?;

@@ -2,10 +2,10 @@
 #![tactic(auto)]
 
 mod basis;
-mod deltas;
 mod movement_rings;
 mod near_cuts;
 pub mod placer;
+mod plan_deltas;
 mod planning;
 mod replications;
 mod row_changes;

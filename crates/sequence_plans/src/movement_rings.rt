@@ -1,21 +1,26 @@
 ghost use Rattle.std.specs.Prelude.{◌≡◌, IfOk};
 ghost use Rattle.std.specs.List.{Contains};
+ghost use Rattle.transformations.specs.Ranges as spec;
 ghost use Rattle.transformations.specs.Valid.{IsSound};
-ghost use Rattle.sequence_plans.specs.MovementRings.{AreMovementRings, PlacesMovement};
+ghost use Rattle.sequence_plans.specs.Placers.{at_homes};
+ghost use Rattle.sequence_plans.specs.code.MovementRings.{AreMovementRings, PlacesMovement};
 
+use crate::basis::moved_by;
 use crate::placer::Placer;
 use crate::wide_image::WideImage;
-use cluster_terms::{Memory, Replication};
+use cluster_terms::{Memory, PairList, Replication};
 use node_directory::Directory;
 use std::alloc::Global;
 use token_ring::Ring;
 use transformations::SeqRow;
 
-/// A movement of an image, with the low ring of the image, and the low ring with this movement applied.
+/// A movement of an image, with the pairs that it moves, the low ring of the image, and the low ring with this movement
+/// applied.
 #[derive(Drop)]
 pub struct MovementRings<'a> {
     pub image: &'a WideImage<'a>,
     pub row: &'a SeqRow,
+    pub moved: PairList,
     pub directory: &'a Directory,
     pub before: Ring,
     pub after: Ring,
@@ -49,13 +54,15 @@ impl<'a> MovementRings<'a> {
         Ok(MovementRings {
             image,
             row,
+            moved: moved_by(row)?,
             directory,
             before: Ring::from_distinct(alloc, image.tokens().as_slice())?,
             after: Ring::from_list(after)?,
         })
     }
 
-    /// The placers on these rings under a replication. Fails only if memory runs out.
+    /// The placers on these rings under a replication, in the datacenters of the moved pairs: the movement changes
+    /// nothing in the others. Fails only if memory runs out.
     pub fn placers<'b>(
         &'b self,
         alloc: Global,
@@ -63,11 +70,13 @@ impl<'a> MovementRings<'a> {
     ) -> Result<MovementPlacers<'b>, Memory>
         requires { AreMovementRings self.now }
         ensures { IfOk result
-            (PlacesMovement self.now.image.now self.now.row.now replication.now) }
+            (PlacesMovement self.now.image.now self.now.row.now
+            (at_homes self.now.image.now.nodes (spec.moved_by self.now.row.now) replication.now)) }
     {
+        let moved = self.moved.as_slice();
         Ok(MovementPlacers {
-            before: Placer::new(alloc, &self.before, self.directory, replication)?,
-            after: Placer::new(alloc, &self.after, self.directory, replication)?,
+            before: Placer::among(alloc, &self.before, self.directory, replication, moved)?,
+            after: Placer::among(alloc, &self.after, self.directory, replication, moved)?,
         })
     }
 }

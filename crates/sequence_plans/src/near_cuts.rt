@@ -3,8 +3,8 @@
 ghost use Rattle.std.specs.Prelude.{◌≡◌, int_le, filter, IfOk};
 ghost use Rattle.std.specs.List.Sorted.{IsStrictlySortedBy};
 ghost use Rattle.std.specs.Ordering.{int_cmp};
-ghost use Rattle.token_ring.specs.Ranges.{IsRangeList};
-ghost use Rattle.sequence_plans.specs.NearCuts.{is_from, near_cuts, touches};
+ghost use Rattle.token_ring.specs.TokenRanges.{IsRangeList};
+ghost use Rattle.sequence_plans.specs.code.NearCuts.{is_from, near_cuts, touches};
 
 use cluster_terms::{Memory, Token, TokenRange};
 use std::alloc::Global;

@@ -1,7 +1,7 @@
 ghost use Rattle.std.specs.Prelude.{◌≡◌, ◌+◌, IfOk};
-ghost use Rattle.sequence_plans.specs.Placers.{PlacesOn, placed_by};
+ghost use Rattle.sequence_plans.specs.Placers.{PlacesOn, at_homes, placed_by};
 
-use cluster_terms::{Memory, Replication, Rf, Steps, Token};
+use cluster_terms::{Memory, Pair, Replication, Rf, Steps, Token};
 use node_directory::Directory;
 use node_sets::NodeSet;
 use std::alloc::Global;
@@ -38,7 +38,27 @@ impl<'a> Placer<'a> {
         }
     }
 
-    /// The replicas at a token. Fails only if memory runs out. Counts one step of `walks`, even on an error.
+    /// As `new`, but under NetworkTopologyStrategy only in the datacenters that have a node of one of these pairs. The
+    /// cost is that of `DividedRing::among`, and otherwise nothing.
+    pub fn among(
+        alloc: Global,
+        ring: &'a Ring,
+        dir: &'a Directory,
+        replication: &'a Replication,
+        pairs: &[Pair],
+    ) -> Result<Placer<'a>, Memory>
+        ensures { IfOk result (PlacesOn ring.now dir.now.rows (at_homes dir.now.rows pairs.now replication.now)) }
+    {
+        match replication {
+            Replication::Simple(rf) => Ok(Placer::Simple(ring, *rf)),
+            Replication::Topology(factors) => {
+                let divided = DividedRing::among(alloc, ring, dir, factors, pairs)?;
+                Ok(Placer::Topology(divided))
+            }
+        }
+    }
+
+    /// The replicas at a token. Fails only if memory runs out. Adds one to `walks`, even on an error.
     pub fn place<L: Ledger>(
         &self,
         alloc: Global,

@@ -3,11 +3,11 @@ ghost use Rattle.transformations.specs.History.{begun};
 ghost use Rattle.transformations.specs.Refusals.{with_movement};
 ghost use Rattle.transformations.specs.Valid.{IsSound, IsValid};
 ghost use Rattle.transformations.specs.declared.sequence.Phase.TheVariants as phase;
-ghost use Rattle.sequence_plans.specs.Deltas.{StaysExact};
+ghost use Rattle.sequence_plans.specs.PlanDeltas.{StaysExact};
 ghost use Rattle.sequence_plans.specs.Plan.{IsPlan};
 
 use crate::basis::Basis;
-use crate::deltas::DeltaBooks;
+use crate::plan_deltas::DeltaBooks;
 use crate::wide_image::WideImage;
 use cluster_terms::{Memory, Steps, TokenList};
 use node_directory::Directory;

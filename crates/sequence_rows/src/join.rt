@@ -1,11 +1,11 @@
 ghost use Rattle.std.specs.Prelude.{◌≡◌, true, None, IfOk};
 ghost use Rattle.transformations.specs.History.{is_command};
 ghost use Rattle.transformations.specs.Refusals.{early_refusal_of, with_movement};
-ghost use Rattle.transformations.specs.Steps.{join_of};
+ghost use Rattle.transformations.specs.Movements.{join_of};
 ghost use Rattle.transformations.specs.Valid.{IsSound};
 ghost use Rattle.transformations.specs.declared.command.Command.TheVariants as command;
 
-use crate::pairs::pairs_with;
+use crate::row_pairs::pairs_with;
 use cluster_terms::{Memory, NodeId, PairList, Token, TokenList};
 use std::alloc::Global;
 use transformations::{Image, Kind, Phase, SeqRow};

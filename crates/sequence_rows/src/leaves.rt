@@ -1,10 +1,10 @@
 ghost use Rattle.std.specs.Prelude.{◌≡◌, None, IfOk};
 ghost use Rattle.transformations.specs.Refusals.{early_refusal_of, with_movement};
-ghost use Rattle.transformations.specs.Steps.{leave_of};
+ghost use Rattle.transformations.specs.Movements.{leave_of};
 ghost use Rattle.transformations.specs.Valid.{IsSound};
 ghost use Rattle.transformations.specs.declared.command.Command.TheVariants as command;
 
-use crate::pairs::owned;
+use crate::row_pairs::owned;
 use cluster_terms::{Memory, NodeId, Pair, PairList};
 use std::alloc::Global;
 use transformations::{Image, Kind, Phase, SeqRow};

@@ -4,11 +4,11 @@
 pub mod join;
 pub mod leaves;
 pub mod moves;
-pub mod pairs;
 pub mod replaces;
+pub mod row_pairs;
 
 pub use join::join_row;
 pub use leaves::leave_row;
 pub use moves::move_row;
-pub use pairs::pairs_with;
 pub use replaces::replace_row;
+pub use row_pairs::pairs_with;

@@ -1,10 +1,10 @@
 ghost use Rattle.std.specs.Prelude.{◌≡◌, None, IfOk};
 ghost use Rattle.transformations.specs.Refusals.{early_refusal_of, with_movement};
-ghost use Rattle.transformations.specs.Steps.{replace_of};
+ghost use Rattle.transformations.specs.Movements.{replace_of};
 ghost use Rattle.transformations.specs.Valid.{IsSound};
 ghost use Rattle.transformations.specs.declared.command.Command.TheVariants as command;
 
-use crate::pairs::{handed_over, owned};
+use crate::row_pairs::{handed_over, owned};
 use cluster_terms::{Memory, NodeId, Pair};
 use std::alloc::Global;
 use transformations::{Image, Kind, Phase, SeqRow};

@@ -1,3 +1,3 @@
 pub mod SimpleCounts
 pub mod SimplePlacement
-pub mod WalkLemmas
+pub mod SimpleWalkLemmas

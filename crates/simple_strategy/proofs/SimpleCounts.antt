@@ -6,7 +6,7 @@ use Rattle.std.proofs.lemmas.Bool.Decides.{nat_tests}
 use Rattle.std.specs.Cmp.{nat_eq_equiv}
 use Rattle.std.specs.Set.{is_member, distinct_count}
 use Rattle.std.specs.Str.{bytes_eq}
-use Rattle.cluster_terms.proofs.DistinctCounts.{distinct_count-less}
+use Rattle.cluster_terms.proofs.lists.DistinctCounts.{distinct_count-less}
 use Rattle.cluster_terms.specs.Group.{Group, node_count, rack_count, wanted, spare, is_chosen_rack}
 use Rattle.cluster_terms.specs.Replication.{whole_group}
 
@@ -21,9 +21,6 @@ module _ (rf : ℕ) where
 
   pub nodes_are : (ns : List ℕ) → node_count group ns ≡ distinct_count nat_eq ns
   nodes_are ns = ap (distinct_count nat_eq) (all_pass ns)
-
-  rack_there : (n : ℕ) (ns : List ℕ) → is_member bytes_eq (filter_map group.rack_of (n ∷ ns)) [] ≡ true
-  rack_there n ns = refl
 
   one_rack : (n : ℕ) (ns : List ℕ) → rack_count group (n ∷ ns) ≡ 1
   one_rack n [] = refl

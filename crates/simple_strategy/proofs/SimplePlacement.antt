@@ -5,19 +5,19 @@ use Rattle.std.proofs.lemmas.Bool.{false≢true, or_left, or_right}
 use Rattle.std.specs.Cmp.{nat_eq_equiv}
 use Rattle.std.specs.Ordering.{nat_cmp}
 use Rattle.std.specs.Set.{distinct_count}
-use Rattle.cluster_terms.proofs.DistinctCounts.{is_member-alike, is_member-push}
+use Rattle.cluster_terms.proofs.lists.DistinctCounts.{is_member-alike, is_member-push}
 use Rattle.cluster_terms.specs.Ascending.{ascending}
 use Rattle.cluster_terms.specs.Group.{nodes_of, is_chosen_rack, place}
 use Rattle.cluster_terms.specs.Replication.{whole_group}
 use Rattle.cluster_terms.specs.declared.token.Pair.{Pair}
-use Rattle.cluster_terms.proofs.GroupLemmas.{has, or_elim}
-use Rattle.cluster_terms.proofs.PlacementLemmas.{has-permuted, nodes_of-append, placed_by}
+use Rattle.cluster_terms.proofs.placement.GroupLemmas.{has, or_elim}
+use Rattle.cluster_terms.proofs.placement.PlacementLemmas.{has-permuted, nodes_of-append, placed_by}
 use Rattle.token_ring.proofs.PlaceLemmas.{finds, finds_at, replica_on_walk, walk_permuted}
 use Rattle.token_ring.proofs.RingLemmas.{walk_from}
 use Rattle.token_ring.specs.Ring.{IsRing, IsFirstAt}
 use Rattle.simple_strategy.proofs.SimpleCounts.{chosen_where}
-use Rattle.simple_strategy.proofs.WalkLemmas.{takes, takes_at, has-walked, taken_after-append}
-use Rattle.simple_strategy.specs.Walk.{taken_after}
+use Rattle.simple_strategy.proofs.SimpleWalkLemmas.{takes, takes_at, has-walked, taken_after-append}
+use Rattle.simple_strategy.specs.SimpleWalk.{taken_after}
 
 module _ (rf : ℕ) (some : 1 ≤ rf) where
   -- a node of a ring that isn't met yet is chosen where fewer than rf are met before it

@@ -13,7 +13,7 @@ use token_ring::Ring;
 /// takes each node that isn't taken yet, until it has `rf` nodes or has gone round once. The nodes are the placement
 /// of the group of all nodes.
 ///
-/// The walk visits each token at most once, ends once it has `rf` nodes, and takes no memory. Counts one step of
+/// The walk visits each token at most once, ends once it has `rf` nodes, and takes no memory. Adds one to
 /// `walks`, even on an error.
 pub fn replicas<L: Ledger>(
     alloc: Global,

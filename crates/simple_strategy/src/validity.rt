@@ -7,7 +7,7 @@ ghost use Rattle.cluster_terms.specs.Group.{nodes_of, place};
 ghost use Rattle.cluster_terms.specs.Replication.{whole_group};
 ghost use Rattle.cluster_terms.specs.declared.token.Pair.{Pair};
 ghost use Rattle.token_ring.specs.Ring.{IsFirstAt, IsRing};
-ghost use Rattle.simple_strategy.specs.Walk.{taken_after};
+ghost use Rattle.simple_strategy.specs.SimpleWalk.{taken_after};
 
 /// The placement of the group of all nodes, which is defined by counting, is what SimpleStrategy's walk takes: from the
 /// first token at or after `x` round the ring each node that isn't taken yet, until it has `rf` nodes. In an empty ring

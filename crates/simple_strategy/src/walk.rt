@@ -4,7 +4,7 @@ ghost use Rattle.std.specs.Set.{is_member};
 ghost use Rattle.cluster_terms.specs.Ascending.{ascending};
 ghost use Rattle.cluster_terms.specs.Group.{nodes_of, place};
 ghost use Rattle.cluster_terms.specs.Replication.{whole_group};
-ghost use Rattle.simple_strategy.specs.Walk.{taken_after};
+ghost use Rattle.simple_strategy.specs.SimpleWalk.{taken_after};
 
 use cluster_terms::{Few, NodeId, Pair, Rf, Token};
 use token_ring::Ring;
@@ -17,7 +17,7 @@ fn is_taken(taken: &[NodeId], node: NodeId) -> bool
 }
 
 /// Goes over the pairs and takes each node that isn't taken yet, until `wanted` nodes are taken.
-#[tactic(auto, using(crate::proofs::WalkLemmas::taken_full))]
+#[tactic(auto, using(crate::proofs::SimpleWalkLemmas::taken_full))]
 fn take_nodes(taken: &mut Few<NodeId, 16>, wanted: usize, pairs: &[Pair])
     requires { wanted ≤ 16 }
     ensures { taken.new ≡ taken_after wanted taken.old (nodes_of pairs.now) }

@@ -1,2 +1,2 @@
 pub mod EntryStates
-pub mod KeptLemmas
+pub mod NearestImages

@@ -1,7 +1,7 @@
 -- The images that are kept of a log.
-use Rattle.std.specs.Prelude.{◌≡◌, ℕ, ◌<◌, ◌≤◌, List, ◌∷◌, length, Option, Some, None}
-use Rattle.std.specs.List.{AllByRecursion, AllPairs, Contains}
-use Rattle.transformations.specs.History.{empty_image, state_after}
+use Rattle.std.specs.Prelude.{◌≡◌, ℕ, ◌<◌, ◌≤◌, List, length, Option, Some, None}
+use Rattle.std.specs.List.{AllByRecursion, AllPairs}
+use Rattle.transformations.specs.History.{state_after}
 use Rattle.transformations.specs.declared.command.Command.{Command}
 use Rattle.transformations.specs.declared.image.Image.{Image}
 
@@ -18,10 +18,3 @@ AreOf history images =
 abbrev pub epoch_of : Option Image → ℕ
 epoch_of None = 0
 epoch_of (Some image) = image.epoch
-
--- the nearest image at or below an epoch: it is kept or the empty one, and no kept one lies between (of the code: no
--- promise rests on it)
-pub record IsNearest (images : List Image) (e : ℕ) (image : Image) : Type 0 where
-  pub among : Contains (empty_image ∷ images) image
-  pub below : image.epoch ≤ e
-  pub greatest : AllByRecursion (λ kept. kept.epoch ≤ e → kept.epoch ≤ image.epoch) images

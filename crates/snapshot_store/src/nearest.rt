@@ -2,7 +2,8 @@
 
 ghost use Rattle.std.specs.Prelude.{◌≡◌, ◌<◌, ◌≤◌, length, IfOk};
 ghost use Rattle.std.specs.List.Sorted.{IsPartitionPoint};
-ghost use Rattle.snapshot_store.specs.Images.{Ascend, IsNearest};
+ghost use Rattle.snapshot_store.specs.Images.{Ascend};
+ghost use Rattle.snapshot_store.specs.code.NearestImage.{IsNearest};
 
 use cluster_metadata::empty_image;
 use cluster_terms::{Memory, TryCopy};

@@ -5,8 +5,8 @@ ghost use Rattle.transformations.specs.Log.{commands_of};
 ghost use Rattle.transformations.specs.Valid.{IsValid};
 ghost use Rattle.snapshot_store.specs.Images.{AreOf, epoch_of};
 
+use crate::entries_taken::take_all;
 use crate::nearest::nearest;
-use crate::replay::take_all;
 use cluster_metadata::{ImageFault, Metadata};
 use cluster_terms::Memory;
 use epoch_log::Log;

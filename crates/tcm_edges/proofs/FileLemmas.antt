@@ -1,5 +1,5 @@
 -- Lemmas on files, and on a list of files as a map.
-use Rattle.std.proofs.Common.{◌≡◌, ◌≢◌, ℕ, suc, ◌+◌, ◌<◌, ◌≤◌, Bool, true, false, cond, not, ltb, List, [], ◌∷◌, ◌++◌, Option, Some, None, refl, sym, ap, ◌∙◌, subst, length, get_or, set, position, arith, add_comm, add-one, append-nil, take, drop, take-append-drop, inl, inr, ◌==◌, leb, replicate, Result, Ok, Err, OnOk, IfErr}
+use Rattle.std.proofs.Common.{◌≡◌, ◌≢◌, ℕ, suc, ◌+◌, ◌<◌, ◌≤◌, Bool, true, false, cond, not, ltb, List, [], ◌∷◌, ◌++◌, Option, Some, None, refl, sym, ap, ◌∙◌, subst, length, get_or, set, position, arith, add_comm, add-one, take, inl, inr, ◌==◌, leb, replicate}
 use Rattle.std.specs.List.{list_any, position_or_len}
 use Rattle.std.specs.Ordering.{nat_cmp, eq_by_cmp}
 use Rattle.std.specs.Cmp.Lexicographic.{slice_cmp}
@@ -11,18 +11,12 @@ use Rattle.std.proofs.lemmas.Slice.Eq.{bytes_eq-Decides}
 use Rattle.std.proofs.lemmas.Bool.{le-leb, leb-false, leb-true, lt-leb, ltb-true, ltb-false, false≢true, false_from_ne_true, or_from, or_parts}
 use Rattle.std.proofs.lemmas.List.{length-replicate}
 use Rattle.std.proofs.Math.Seq.{get_or-append_seam, set-append_seam}
-use Rattle.std.specs.Io.KnownBytes.{Appends, Keeps}
-use Rattle.tcm_edges.specs.declared.fault.WriteFault.{WriteFault}
 use Rattle.tcm_edges.specs.declared.fault.WriteFault.TheVariants as write
-use Rattle.tcm_edges.specs.Causes.{OnFailed}
 use Rattle.tcm_edges.specs.declared.store.Loaded.{Loaded}
 use Rattle.tcm_edges.specs.declared.store.Loaded.TheVariants.{Bytes, TooLarge}
 use Rattle.tcm_edges.specs.FailingFiles.{after_append, after_failed_append, after_failed_replace}
-use Rattle.tcm_edges.specs.Files.{Files, content, file_of, told_content, untold_files, ChangesFile, GainsAll, GainsPart, IsLoad, IsOldOrNew, OthersKept, loaded_of}
-use Rattle.tcm_edges.specs.Owed.{WritesPrefix}
-use Rattle.tcm_edges.specs.Writes.{KeptAtMemory}
-use Rattle.tcm_edges.specs.StoredFiles.{is_named}
-use Rattle.tcm_edges.proofs.OwedLemmas.{WritesPrefix-refl, WritesPrefix-whole, WritesPrefix-keep}
+use Rattle.tcm_edges.specs.Files.{Files, content, file_of, untold_files, GainsPart, IsLoad, IsOldOrNew, loaded_of}
+use Rattle.tcm_edges.specs.code.StoredFiles.{is_named}
 
 -- ---- names
 
@@ -211,39 +205,6 @@ put_unplaced all name bytes files now is_all e is_name is_bytes =
     ap (λ n. as_map (files ++ (n, now.1) ∷ [])) is_name ∙ ap (λ b. as_map (files ++ (name, b) ∷ [])) is_bytes
     ∙ map.from_entries_push nat_list_cmp_total (map.slice_cmp-IsAntisymmetric map.nat_cmp-IsAntisymmetric) files name bytes (none_first name files (unplaced name files e))
     ∙ ap (λ all. map.insert all name bytes) is_all
-
--- ---- a file as a text that is written
-
--- an append that went well wrote the bytes
-pub Appends-of_append : (old new : Option Files) (name bytes : List ℕ) → ChangesFile (GainsAll bytes) old new name → Appends (told_content old name) (told_content new name) bytes
-Appends-of_append None new name bytes gained = tt
-Appends-of_append (Some old) None name bytes gained = gained
-Appends-of_append (Some old) (Some new) name bytes gained = ap content gained
-
--- an append that failed wrote a prefix of the bytes
-pub WritesPrefix-of_append : (old new : Option Files) (name bytes : List ℕ) → ChangesFile (GainsPart bytes) old new name → WritesPrefix (told_content old name) (told_content new name) bytes
-WritesPrefix-of_append None new name bytes gained = record { owed = []; owes = record { front = bytes; split = sym (append-nil bytes); appends = tt } }
-WritesPrefix-of_append (Some old) None name bytes gained = absurd gained
-WritesPrefix-of_append (Some old) (Some new) name bytes gained =
-    elim gained [
-      | inl same ↦ WritesPrefix-keep _ _ _ bytes (WritesPrefix-refl _ bytes) (ap content same)
-      | inr part ↦ record { owed = drop part.0 bytes; owes = record { front = take part.0 bytes; split = sym (take-append-drop part.0 bytes); appends = ap content part.1 } }
-    ]
-
--- an append wrote a prefix of the bytes, whatever came
-pub WritesPrefix-of_any_append : (old new : Option Files) (name bytes : List ℕ) (r : Result (Unit {0}) WriteFault)
-    → OnOk r (ChangesFile (GainsAll bytes) old new name) → IfErr r (λ fault. OnFailed fault (ChangesFile (GainsPart bytes) old new name))
-    → KeptAtMemory old new r → WritesPrefix (told_content old name) (told_content new name) bytes
-WritesPrefix-of_any_append old new name bytes (Ok x) gained part kept = WritesPrefix-whole _ _ bytes (Appends-of_append old new name bytes gained)
-WritesPrefix-of_any_append old new name bytes (Err write.Failed) gained part kept = WritesPrefix-of_append old new name bytes part
-WritesPrefix-of_any_append old new name bytes (Err write.Memory) gained part kept =
-    subst (λ all. WritesPrefix (told_content old name) (told_content all name) bytes) (sym kept) (WritesPrefix-refl (told_content old name) bytes)
-
--- no file of another name changed
-pub Keeps-of_others : (old new : Option Files) (name other : List ℕ) → OthersKept old new name → other ≢ name → Keeps (told_content old other) (told_content new other)
-Keeps-of_others None new name other kept apart = tt
-Keeps-of_others (Some old) None name other kept apart = absurd kept
-Keeps-of_others (Some old) (Some new) name other kept apart = ap content (kept other apart)
 
 -- ---- a load of a store that does not tell its files
 

@@ -1,5 +1,5 @@
 -- Lemmas on texts that are written in several writes.
-use Rattle.std.proofs.Common.{◌≡◌, ℕ, List, [], ◌++◌, Option, Some, refl, sym, ap, ◌∙◌, subst, append_assoc, append-nil, Result, Ok, Err, take, drop, take-append-drop}
+use Rattle.std.proofs.Common.{ℕ, List, [], ◌++◌, Option, refl, sym, ap, ◌∙◌, subst, append_assoc, append-nil, Result, Ok, Err, take, drop, take-append-drop}
 use Rattle.std.specs.Io.KnownBytes.{Appends, Keeps, WriteAppends}
 use Rattle.std.proofs.KnownBytes.{Appends-nil, Appends-trans, Appends-kept}
 use Rattle.tcm_edges.specs.Owed.{Owes, WritesPrefix}
@@ -42,11 +42,6 @@ Owes-then a b c first text owed wrote owes =
       appends = Appends-trans a b c first owes.front wrote owes.appends;
     }
 
--- where the bytes are told, they and what is owed are the bytes before and the text
-pub Owes-told : (xs ys text owed : List ℕ) → Owes (Some xs) (Some ys) text owed → ys ++ owed ≡ xs ++ text
-Owes-told xs ys text owed owes =
-    ap (λ l. l ++ owed) owes.appends ∙ append_assoc xs owes.front owed ∙ ap (λ l. xs ++ l) (sym owes.split)
-
 -- ---- a prefix
 
 pub WritesPrefix-refl : (a : Option (List ℕ)) (text : List ℕ) → WritesPrefix a a text
@@ -63,19 +58,6 @@ WritesPrefix-more a b text more part = record { owed = part.owed ++ more; owes =
 
 pub WritesPrefix-then : (a b c : Option (List ℕ)) (first text : List ℕ) → Appends a b first → WritesPrefix b c text → WritesPrefix a c (first ++ text)
 WritesPrefix-then a b c first text wrote part = record { owed = part.owed; owes = Owes-then a b c first text part.owed wrote part.owes }
-
--- of what is owed, a prefix of the next piece is written
-pub WritesPrefix-owed : (a b c : Option (List ℕ)) (text piece rest : List ℕ) → Owes a b text (piece ++ rest) → WritesPrefix b c piece → WritesPrefix a c text
-WritesPrefix-owed a b c text piece rest owes part =
-    let all = Owes-more b c piece part.owed rest part.owes in
-    record {
-      owed = part.owed ++ rest;
-      owes = record {
-        front = owes.front ++ all.front;
-        split = owes.split ∙ ap (λ l. owes.front ++ l) all.split ∙ sym (append_assoc owes.front all.front (part.owed ++ rest));
-        appends = Appends-trans a b c owes.front all.front owes.appends all.appends;
-      };
-    }
 
 -- one write writes a prefix
 pub WritesPrefix-of_write : {E : Type 0} (a b : Option (List ℕ)) (r : Result ℕ E) (text : List ℕ) → WriteAppends a b r text → WritesPrefix a b text

@@ -2,7 +2,6 @@
 use Rattle.std.specs.Prelude.{◌≡◌, ◌≢◌, ℕ, List, [], ◌++◌, length, take, ⊤, Option, None, Some, nat_le, if◌then◌else◌, unwrap_or, ◌⊎◌, IfSome}
 use Rattle.std.specs.Ordering.{nat_cmp}
 use Rattle.std.specs.Cmp.Lexicographic.{slice_cmp}
-use Rattle.std.specs.Option.{option_map}
 use Rattle.std.specs.FinMap as map
 use Rattle.tcm_edges.specs.declared.store.Loaded.{Loaded}
 use Rattle.tcm_edges.specs.declared.store.Loaded.TheVariants.{Bytes, Absent, TooLarge}
@@ -33,10 +32,6 @@ untold_files = None
 -- the contents of a file, which are empty if it is absent
 abbrev pub content : Option (List ℕ) → List ℕ
 content file = unwrap_or file []
-
--- the contents of a file, if the store tells its files (of the code: no promise rests on it)
-abbrev pub told_content : Option Files → List ℕ → Option (List ℕ)
-told_content all name = option_map (λ all. content (file_of all name)) all
 
 -- a file has gained the bytes; an absent file is made
 abbrev pub GainsAll : List ℕ → Option (List ℕ) → Option (List ℕ) → Type 0

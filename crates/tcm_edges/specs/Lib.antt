@@ -7,5 +7,5 @@ pub mod FailingText
 pub mod Feed
 pub mod Files
 pub mod Owed
-pub mod StoredFiles
 pub mod Writes
+pub mod code

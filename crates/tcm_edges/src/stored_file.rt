@@ -1,5 +1,5 @@
 ghost use Rattle.std.specs.Prelude.{◌≡◌, position};
-ghost use Rattle.tcm_edges.specs.StoredFiles as spec;
+ghost use Rattle.tcm_edges.specs.code.StoredFiles as spec;
 
 use std::marker::Model;
 

@@ -3,10 +3,10 @@ use Rattle.std.specs.Prelude.{ℕ, zero, suc, ◌+◌, ◌^◌, Bool, false, tru
 use Rattle.std.specs.List.{starts_with}
 use Rattle.std.specs.Str.{bytes_eq}
 use Rattle.script_lang.specs.Grammar.{number_below}
-use Rattle.script_lang.specs.Texts.{line}
+use Rattle.script_lang.specs.AnswerTexts.{line}
 use Rattle.tcm_session.specs.GeneratedLines.{generated_lines}
-use Rattle.tcm_session.specs.Machine.{follower_named, reply, session_next, session_over}
-use Rattle.tcm_session.specs.declared.followers.NamedFollower.{NamedFollower}
+use Rattle.tcm_session.specs.session.Machine.{follower_named, reply, session_next, session_over}
+use Rattle.tcm_session.specs.declared.session.followers.NamedFollower.{NamedFollower}
 use Rattle.tcm_session.specs.declared.generated.kinds.AnswerKind.{AnswerKind}
 use Rattle.tcm_session.specs.declared.generated.kinds.AnswerKind.TheVariants.{Accepted, Refused, Other}
 use Rattle.tcm_session.specs.declared.generated.generation.Generation.{Generation}

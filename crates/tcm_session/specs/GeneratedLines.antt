@@ -1,7 +1,7 @@
 -- The generated script, line by line: its draws, its opening and its rounds.
 use Rattle.std.specs.Prelude.{ℕ, zero, suc, ◌+◌, ◌-◌, ◌*◌, ◌/◌, ◌%◌, ◌^◌, ℤ, pos, ◌-ℤ◌, List, [], ◌∷◌, ◌++◌, length, codes, decimal}
 use Rattle.std.specs.Fmt.{signed_decimal}
-use Rattle.tcm_session.specs.Machine.{SessionState, session_after, session_over}
+use Rattle.tcm_session.specs.session.Machine.{SessionState, session_after, session_over}
 
 -- ---- draws
 

@@ -1,6 +1,6 @@
 -- The limit of an input, and of a file.
 use Rattle.std.specs.Prelude.{ℕ, List, codes}
-use Rattle.script_lang.specs.Texts.{line}
+use Rattle.script_lang.specs.AnswerTexts.{line}
 
 -- the most bytes of an input, and of a file; of an input one more byte is read, to see whether it is larger
 abbrev pub input_limit : ℕ

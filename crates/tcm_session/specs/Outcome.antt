@@ -6,16 +6,17 @@ use Rattle.tcm_edges.specs.Files.{Files, file_of, loaded_of}
 use Rattle.tcm_edges.specs.declared.store.Loaded.{Loaded}
 use Rattle.tcm_edges.specs.declared.store.Loaded.TheVariants as loaded
 use Rattle.transformations.specs.declared.entry.Entry.{Entry}
-use Rattle.script_lang.specs.Texts.{line}
+use Rattle.script_lang.specs.AnswerTexts.{line}
 use Rattle.tcm_session.specs.Lines.{whole_lines, script_lines}
 use Rattle.tcm_session.specs.Generated.{gen_numbers, summary}
 pub use Rattle.tcm_session.specs.Limits.{input_limit, too_large_text}
-use Rattle.tcm_session.specs.LogFiles.{cut_to_lines, entry_lines, log_of, refused_line_text, with_added}
-use Rattle.tcm_session.specs.Machine.{answers, entries_added, session_over}
-use Rattle.tcm_session.specs.Replay.{replay_ending}
-use Rattle.tcm_session.specs.StateLine.{snapshot_ending, snapshot_words}
+use Rattle.tcm_session.specs.files.FileEnds.{refused_end, too_large_end}
+use Rattle.tcm_session.specs.files.LogFiles.{cut_to_lines, entry_lines, log_of, with_added}
+use Rattle.tcm_session.specs.session.Machine.{answers, entries_added, session_over}
+use Rattle.tcm_session.specs.files.Replay.{replay_ending}
+use Rattle.tcm_session.specs.files.StateLine.{snapshot_ending, snapshot_words}
 use Rattle.tcm_session.specs.declared.ending.Ending.{Ending}
-use Rattle.tcm_session.specs.declared.refused_line.RefusedLine.{RefusedLine}
+use Rattle.tcm_session.specs.declared.files.refused_line.RefusedLine.{RefusedLine}
 
 -- the log from which lines are answered, these lines, the text that is printed after their answers, and the status
 pub record Outcome : Type 0 where
@@ -38,6 +39,9 @@ usage_text = line (codes "usage: tcm commit [LOG] | replay FILE.. | snapshot LOG
 -- an outcome that reads no input, answers no line and changes no file
 abbrev pub unread_outcome : ℕ → List ℕ → Files → Outcome
 unread_outcome status last all = record { status = status; log = []; lines = []; last = last; reads = false; files = all }
+
+abbrev pub ended_outcome : Ending → Files → Outcome
+ended_outcome ending all = unread_outcome ending.status ending.text all
 
 -- ---- a script
 
@@ -103,12 +107,12 @@ names_file words = is_some (named_log words) || (is_replay words || is_some (sna
 abbrev pub outcome_from : List ℕ → Files → List ℕ → Result (List Entry) RefusedLine → List ℕ → Outcome
 outcome_from name all file (Ok log) input =
     script_outcome (record { log = log; file = Some name; files = cut_to_lines name file all }) input
-outcome_from name all file (Err refused) input = unread_outcome 3 (refused_line_text refused) all
+outcome_from name all file (Err refused) input = ended_outcome (refused_end refused) all
 
 -- a file that is absent is an empty log
 abbrev pub outcome_loaded : List ℕ → Files → Loaded → List ℕ → Outcome
 outcome_loaded name all loaded.Absent input = script_outcome (record { log = []; file = Some name; files = all }) input
-outcome_loaded name all (loaded.TooLarge size) input = unread_outcome 8 too_large_text all
+outcome_loaded name all (loaded.TooLarge size) input = ended_outcome too_large_end all
 outcome_loaded name all (loaded.Bytes file) input = outcome_from name all file (log_of file) input
 
 -- the outcome of `commit`, without and with a log file
@@ -116,41 +120,22 @@ abbrev pub commit_outcome : Option (List ℕ) → Files → List ℕ → Outcome
 commit_outcome None all input = script_outcome (record { log = []; file = None; files = all }) input
 commit_outcome (Some name) all input = outcome_loaded name all (loaded_of (file_of all name) input_limit) input
 
--- an end that reads no input, and changes no file
-abbrev pub ended_outcome : Ending → Files → Outcome
-ended_outcome ending all = unread_outcome ending.status ending.text all
+-- the end of `gen` with these numbers, or of words that name no command
+abbrev pub gen_end : Option (ℕ × ℕ) → Ending
+gen_end None = record { status = 2; text = usage_text }
+gen_end (Some (start, rounds)) = record { status = 0; text = summary start rounds }
 
--- the outcome of `replay`
-abbrev pub replay_outcome : List (List ℕ) → (ℕ → Files) → Outcome
-replay_outcome names seen = ended_outcome (replay_ending names seen) (seen 0)
+-- the end of words other than `commit` and `replay`
+abbrev pub last_end : List (List ℕ) → (ℕ → Files) → Option (List ℕ × ℕ) → Ending
+last_end words seen None = gen_end (gen_numbers words)
+last_end words seen (Some named) = snapshot_ending named.0 named.1 seen
 
--- the outcome of `snapshot` with this file and this epoch
-abbrev pub snapshot_outcome : List ℕ × ℕ → (ℕ → Files) → Outcome
-snapshot_outcome named seen = ended_outcome (snapshot_ending named.0 named.1 seen) (seen 0)
-
--- the status and the text of `gen` with these numbers, or of words that name no command
-abbrev pub gen_status : Option (ℕ × ℕ) → ℕ
-gen_status None = 2
-gen_status (Some numbers) = 0
-
-abbrev pub gen_text : Option (ℕ × ℕ) → List ℕ
-gen_text None = usage_text
-gen_text (Some (start, rounds)) = summary start rounds
-
-abbrev pub gen_outcome : Option (ℕ × ℕ) → Files → Outcome
-gen_outcome numbers all = unread_outcome (gen_status numbers) (gen_text numbers) all
-
--- the outcome of words other than `commit` and `replay`
-abbrev pub last_outcome : List (List ℕ) → (ℕ → Files) → Option (List ℕ × ℕ) → Outcome
-last_outcome words seen None = gen_outcome (gen_numbers words) (seen 0)
-last_outcome words seen (Some named) = snapshot_outcome named seen
-
--- the outcome of words other than `commit`
-abbrev pub other_outcome : List (List ℕ) → (ℕ → Files) → Outcome
-other_outcome words seen =
-    if is_replay words then replay_outcome (replayed_files words) seen else last_outcome words seen (snapshot_words words)
+-- the end of words other than `commit`
+abbrev pub other_end : List (List ℕ) → (ℕ → Files) → Ending
+other_end words seen =
+    if is_replay words then replay_ending (replayed_files words) seen else last_end words seen (snapshot_words words)
 
 -- the outcome of a run, by its words, the files as each of its loads finds them, and its input
 unfoldable pub outcome : List (List ℕ) → (ℕ → Files) → List ℕ → Outcome
 outcome words seen input =
-    if is_commit words then commit_outcome (log_file words) (seen 0) input else other_outcome words seen
+    if is_commit words then commit_outcome (log_file words) (seen 0) input else ended_outcome (other_end words seen) (seen 0)

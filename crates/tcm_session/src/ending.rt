@@ -1,15 +1,18 @@
 //! The texts with which a run ends that reads no input.
 
 ghost use Rattle.std.specs.Prelude.{◌≡◌, ◌++◌, codes, decimal, IfOk};
-ghost use Rattle.script_lang.specs.Texts.{line, no_text};
-ghost use Rattle.tcm_session.specs.Limits.{too_large_text};
-ghost use Rattle.tcm_session.specs.LogFiles as log_file;
+ghost use Rattle.script_lang.specs.AnswerTexts.{no_text};
+ghost use Rattle.tcm_session.specs.Outcome.{usage_text};
+ghost use Rattle.tcm_session.specs.files.FileEnds as spec;
 
+use crate::files::refused_line::{RefusedLine, refused_line_text};
 use crate::limits::TOO_LARGE;
-use crate::refused_line::{RefusedLine, refused_line_text};
 use cluster_terms::{ByteText, Memory};
 use script_lang::no_epoch_text;
 use std::alloc::Global;
+
+/// The text that is printed for words that name no command.
+const USAGE: &str = "usage: tcm commit [LOG] | replay FILE.. | snapshot LOG E | gen START N\n";
 
 /// The end of a run that reads no input: its status, and the text that is printed.
 #[derive(Debug, Drop)]
@@ -19,10 +22,18 @@ pub struct Ending {
 }
 
 impl Ending {
+    /// The end of words that name no command. Fails only if memory runs out.
+    pub fn usage(alloc: Global) -> Result<Ending, Memory>
+        ensures { IfOk result (λ ending. ending ≡ record { status = 2; text = usage_text }) }
+    {
+        let mut text = ByteText::empty(alloc);
+        text.extend(USAGE.as_bytes())?;
+        Ok(Ending { status: 2, text })
+    }
+
     /// The end at a file that is absent. Fails only if memory runs out.
     pub fn absent(alloc: Global, name: &str) -> Result<Ending, Memory>
-        ensures { IfOk result (λ ending. ending
-            ≡ record { status = 7; text = line (codes "NO FILE " ++ name.now) }) }
+        ensures { IfOk result (λ ending. ending ≡ spec.absent_end name.now) }
     {
         let mut text = ByteText::empty(alloc);
         text.extend(b"NO FILE ")?;
@@ -33,7 +44,7 @@ impl Ending {
 
     /// The end at a file that is too large. Fails only if memory runs out.
     pub fn too_large(alloc: Global) -> Result<Ending, Memory>
-        ensures { IfOk result (λ ending. ending ≡ record { status = 8; text = too_large_text }) }
+        ensures { IfOk result (λ ending. ending ≡ spec.too_large_end) }
     {
         let mut text = ByteText::empty(alloc);
         text.extend(TOO_LARGE.as_bytes())?;
@@ -52,8 +63,7 @@ impl Ending {
 
     /// The end at a line that is refused. Fails only if memory runs out.
     pub fn refused(alloc: Global, refused: &RefusedLine) -> Result<Ending, Memory>
-        ensures { IfOk result (λ ending. ending
-            ≡ record { status = 3; text = log_file.refused_line_text refused.now }) }
+        ensures { IfOk result (λ ending. ending ≡ spec.refused_end refused.now) }
     {
         let mut text = ByteText::empty(alloc);
         refused_line_text(alloc, refused, &mut text)?;

@@ -3,7 +3,7 @@
 ghost use Rattle.std.specs.Prelude.{◌≡◌};
 ghost use Rattle.tcm_session.specs.declared.fault.RunFault.TheVariants as run;
 ghost use Rattle.tcm_session.specs.declared.fault.StepFault.TheVariants as step;
-ghost use Rattle.tcm_session.specs.Faults.{of_append, of_load, of_step, of_write};
+ghost use Rattle.tcm_session.specs.code.RunFaults.{of_append, of_load, of_step, of_write};
 
 use cluster_terms::Memory;
 use std::alloc::AllocError;

@@ -1,13 +1,13 @@
 //! The generated script of `gen START N`: a session answers its lines, and the answers are counted.
 
+mod command_lines;
 mod draw;
+mod gen_words;
 mod generation;
 mod kinds;
 mod opening;
 mod rounds;
 mod summary;
-mod texts;
-mod words;
 
+pub use gen_words::gen_numbers;
 pub use summary::generate;
-pub use words::gen_numbers;

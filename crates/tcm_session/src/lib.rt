@@ -3,23 +3,12 @@
 
 mod ending;
 mod fault;
-mod followers;
+mod files;
 mod generated;
 mod limits;
-mod lines;
-mod loading;
-mod noting;
-mod place_text;
 mod program;
-mod query;
-mod quorum_text;
-mod reading;
-mod refused_line;
-mod replay;
-mod report;
-mod script;
+mod scripts;
 mod session;
-mod state_line;
 mod validity;
 
 pub use fault::StepFault;

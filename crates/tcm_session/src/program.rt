@@ -1,46 +1,43 @@
 //! Runs the program: the words after its name, a script as input, and the printed answers.
 
-ghost use Rattle.std.specs.Prelude.{◌≡◌, ◌≢◌, ◌≤◌, ◌⊎◌, false, not, [], length, None, Some, Ok, map, string_bytes, IsOk, OnErr, OnOk, IfErr, IfOk, IfSome, IsTrue};
+ghost use Rattle.std.specs.Prelude.{◌≡◌, ◌≢◌, ◌≤◌, ◌⊎◌, false, not, [], length, None, Some, Ok, map, string_bytes, OnErr, OnOk, IfErr, IfOk, IfSome, IsTrue};
 ghost use Rattle.std.specs.List.{list_all};
 ghost use Rattle.std.specs.Option.{option_copied, option_map};
 ghost use Rattle.std.specs.Str.{bytes_eq};
 ghost use Rattle.tcm_session.specs.Counts.{counts};
-ghost use Rattle.tcm_session.specs.Endings as spec;
-ghost use Rattle.tcm_session.specs.Faults.{counts_by};
-ghost use Rattle.tcm_session.specs.Generated.{summary};
+ghost use Rattle.tcm_session.specs.code.Endings as spec;
+ghost use Rattle.tcm_session.specs.code.RunFaults.{counts_by};
 ghost use Rattle.tcm_session.specs.Generated as generated;
-ghost use Rattle.tcm_session.specs.LogFiles.{Gains, entry_lines, log_of};
-ghost use Rattle.tcm_session.specs.LogFiles as log_file;
-ghost use Rattle.tcm_session.specs.Machine.{entries_added, session_over};
-ghost use Rattle.tcm_session.specs.Outcome.{commit_outcome, gen_status, gen_text, is_commit, is_replay, last_outcome, named_log, names_file, other_outcome, outcome, outcome_from, script_outcome};
+ghost use Rattle.tcm_session.specs.files.LogFiles.{Gains, entry_lines, log_of};
+ghost use Rattle.tcm_session.specs.files.LogFiles as log_file;
+ghost use Rattle.tcm_session.specs.session.Machine.{entries_added, session_over};
+ghost use Rattle.tcm_session.specs.Outcome.{commit_outcome, is_commit, is_replay, named_log, names_file, outcome, outcome_from, script_outcome};
 ghost use Rattle.tcm_session.specs.Outcome as outcomes;
-ghost use Rattle.tcm_session.specs.Replays.{WritesSeen};
-ghost use Rattle.tcm_session.specs.StateLine as state_line;
+ghost use Rattle.tcm_session.specs.code.Replays.{EndsSo, WritesSeen};
+ghost use Rattle.tcm_session.specs.files.StateLine as state_line;
 ghost use Rattle.tcm_session.specs.Run.{ComesSurely, HasStatus, IsRun};
-ghost use Rattle.tcm_session.specs.Runs.{IsEnd, LeavesStore, RunsOn, RunsOnAny, RunsSeen, Writes};
+ghost use Rattle.tcm_session.specs.code.Runs.{IsEnd, LeavesStore, RunsOn, RunsOnAny, RunsSeen, Writes};
 ghost use Rattle.tcm_session.specs.Left.{LeavesFiles, StopsNext};
-ghost use Rattle.tcm_session.specs.Loading.{IsCut, IsLinesPart, TakesFile};
-ghost use Rattle.tcm_session.specs.Stops.{IsKeptOrCut, LeavesLoaded, LeavesScript, Stopped};
+ghost use Rattle.tcm_session.specs.code.Loading.{IsCut, IsLinesPart};
+ghost use Rattle.tcm_session.specs.code.Stops.{IsKeptOrCut, LeavesLoaded, LeavesScript, Stopped};
 ghost use Rattle.tcm_session.specs.declared.fault.RunFault.TheVariants as fault;
 
+use crate::ending::Ending;
 use crate::fault::RunFault;
+use crate::files::log_file::{LogFault, open_log};
+use crate::files::refused_line::RefusedLine;
+use crate::files::report::replay_files;
+use crate::files::state_line::{show_state, snapshot_words};
 use crate::generated::{gen_numbers, generate};
 use crate::limits::{FILE_LIMIT, TOO_LARGE};
-use crate::loading::{Loading, load_lines};
-use crate::reading::{ReadEnd, read_script};
-use crate::refused_line::{RefusedLine, refused_line_text};
-use crate::report::replay_files;
-use crate::script::answer_line;
+use crate::scripts::answering::answer_line;
+use crate::scripts::pieces::{ReadEnd, read_script};
 use crate::session::Session;
-use crate::state_line::{show_state, snapshot_words};
-use cluster_terms::ByteText;
+use cluster_terms::{ByteText, Memory};
 use std::alloc::Global;
 use tcm_edges::{
     Loaded, Sink, Source, Store, SureSink, SureSource, SureStore, WriteFault, write_all,
 };
-
-/// The text that is printed for words that name no command.
-const USAGE: &str = "usage: tcm commit [LOG] | replay FILE.. | snapshot LOG E | gen START N\n";
 
 /// The most files of a replay.
 const MOST_FILES: usize = 64;
@@ -251,21 +248,26 @@ fn refuse_log<K: Sink>(
         (counts 0 (K.faults out.old) 0) (counts 0 (K.faults out.new) 0) result }
     ensures status { IfOk result (λ ended. ended.0 ≡ 3) }
 {
-    let mut text = ByteText::empty(alloc);
-    refused_line_text(alloc, refused, &mut text)?;
-    end_with(text.as_slice(), 3, out)
+    let ending = Ending::refused(alloc, refused)?;
+    end_with(ending.text.as_slice(), ending.status, out)
 }
 
 /// Cuts off the bytes after the whole lines of a file, if there are any. After a fault the file is as before or cut.
-fn cut_file<D: Store>(name: &str, file: &[u8], size: usize, store: &mut D) -> Result<(), RunFault>
-    requires { IsLinesPart size file.now }
-    ensures cut { OnOk result (IsCut name.now file.now (D.files store.old) (D.files store.new)) }
-    ensures stopped { OnErr result (IsKeptOrCut name.now file.now (D.files store.old) (D.files store.new)) }
+fn cut_file<D: Store>(
+    name: &str,
+    file: ByteText,
+    size: usize,
+    store: &mut D,
+) -> Result<(), RunFault>
+    requires { IsLinesPart size file }
+    ensures cut { OnOk result (IsCut name.now file (D.files store.old) (D.files store.new)) }
+    ensures stopped { OnErr result (IsKeptOrCut name.now file (D.files store.old) (D.files store.new)) }
     ensures cause { counts 0 0 (D.faults store.new)
         ≡ counts_by result (counts 0 0 (D.faults store.old)) }
 {
-    if size < file.len() {
-        match store.replace(name, &file[..size]) {
+    let bytes = file.as_slice();
+    if size < bytes.len() {
+        match store.replace(name, &bytes[..size]) {
             Ok(()) => Ok(()),
             Err(WriteFault::Failed) => Err(RunFault::Store),
             Err(WriteFault::Memory) => Err(RunFault::Memory),
@@ -275,58 +277,8 @@ fn cut_file<D: Store>(name: &str, file: &[u8], size: usize, store: &mut D) -> Re
     }
 }
 
-/// Takes over the log in a file, and cuts off an open line at its end; or returns the first line that is refused.
-fn take_log<D: Store>(
-    session: &mut Session,
-    name: &str,
-    file: ByteText,
-    store: &mut D,
-) -> Result<Option<RefusedLine>, RunFault>
-    requires { session.old ≡ session_over [] }
-    ensures taken { IfOk result (λ refused.
-        TakesFile refused name.now file session.new.log (D.files store.old) (D.files store.new)) }
-    ensures stopped { OnErr result (IsKeptOrCut name.now file (D.files store.old) (D.files store.new)) }
-    ensures good { OnErr result ((D.files store.new ≡ D.files store.old) ⊎ IsOk (log_of file)) }
-    ensures over { OnOk result (session.new ≡ session_over session.new.log) }
-    ensures cause { counts 0 0 (D.faults store.new)
-        ≡ counts_by result (counts 0 0 (D.faults store.old)) }
-{
-    match load_lines(session, file.as_slice())? {
-        Loading::Refused(refused) => Ok(Some(refused)),
-        Loading::Taken(size) => {
-            cut_file(name, file.as_slice(), size, store)?;
-            Ok(None)
-        }
-    }
-}
-
-/// Takes over the log in a file, and runs a script from there on. If a line of the log is refused, prints this line and
-/// its cause instead.
-fn resume<S: Source, K: Sink, D: Store>(
-    alloc: Global,
-    session: &mut Session,
-    name: &str,
-    file: ByteText,
-    input: &mut S,
-    out: &mut K,
-    store: &mut D,
-) -> Result<Status, RunFault>
-    requires { session.old ≡ session_over [] }
-    ensures runs { RunsOnAny (λ all. outcome_from name.now all file (log_of file))
-        (LeavesLoaded name.now file (D.files store.old) (D.files store.new))
-        S.left input.old input.new (K.written out.old) (K.written out.new)
-        (D.files store.old) (D.files store.new) (spec.status_by result) }
-    ensures cause { counts (S.faults input.new) (K.faults out.new) (D.faults store.new)
-        ≡ counts_by result (counts (S.faults input.old) (K.faults out.old) (D.faults store.old)) }
-    ensures ended { IfOk result (λ status. IsEnd status.0) }
-{
-    match take_log(session, name, file, store)? {
-        Some(refused) => refuse_log(alloc, &refused, out),
-        None => run_script(alloc, session, Some(name), input, out, store),
-    }
-}
-
-/// Runs a script from the log in a file, as `resume` does, in a new session.
+/// Cuts off an open line at the end of a log file, and runs a script from its log on. If a line of the log is refused,
+/// prints this line and its cause instead.
 fn commit_from<S: Source, K: Sink, D: Store>(
     alloc: Global,
     name: &str,
@@ -343,10 +295,19 @@ fn commit_from<S: Source, K: Sink, D: Store>(
         ≡ counts_by result (counts (S.faults input.old) (K.faults out.old) (D.faults store.old)) }
     ensures ended { IfOk result (λ status. IsEnd status.0) }
 {
-    let mut session = Session::empty(alloc)?;
-    let result = resume(alloc, &mut session, name, file, input, out, store);
-    session.close();
-    result
+    match open_log(alloc, file.as_slice()) {
+        Ok((mut session, size)) => {
+            if let Err(fault) = cut_file(name, file, size, store) {
+                session.close();
+                return Err(fault);
+            }
+            let result = run_script(alloc, &mut session, Some(name), input, out, store);
+            session.close();
+            result
+        }
+        Err(LogFault::Refused(refused)) => refuse_log(alloc, &refused, out),
+        Err(LogFault::Memory) => Err(RunFault::Memory),
+    }
 }
 
 /// Runs a script from a log file. A file that is absent is an empty log.
@@ -372,110 +333,65 @@ fn commit_to<S: Source, K: Sink, D: Store>(
     }
 }
 
-/// Replays files, and prints how the replay ends: the report of the follower, the first line that is refused, or the
-/// file that is absent or too large. No file changes.
-fn replay<K: Sink, D: Store>(
-    alloc: Global,
-    names: &[String],
-    out: &mut K,
-    store: &mut D,
-) -> Result<Status, RunFault>
-    requires { length names.now ≤ 64 }
-    ensures writes { WritesSeen (outcomes.replay_outcome (map string_bytes names.now)) (D.files store.old)
-        (K.written out.old) (K.written out.new) result }
-    ensures files { D.files store.new ≡ D.files store.old }
-    ensures cause { counts 0 (K.faults out.new) (D.faults store.new)
-        ≡ counts_by result (counts 0 (K.faults out.old) (D.faults store.old)) }
-    ensures ended { IfOk result (λ status. IsEnd status.0) }
-{
-    let ending = replay_files(alloc, names, store)?;
-    end_with(ending.text.as_slice(), ending.status, out)
-}
-
-/// Prints the state of the log in a file at an epoch, or how the run ends otherwise: the first line of the log that is
-/// refused, the file that is absent or too large, or the last epoch, if the epoch is greater. No file changes.
-fn snapshot<K: Sink, D: Store>(
-    alloc: Global,
-    name: &str,
-    epoch: u64,
-    out: &mut K,
-    store: &mut D,
-) -> Result<Status, RunFault>
-    ensures writes { WritesSeen (outcomes.snapshot_outcome (name.now, epoch)) (D.files store.old)
-        (K.written out.old) (K.written out.new) result }
-    ensures files { D.files store.new ≡ D.files store.old }
-    ensures cause { counts 0 (K.faults out.new) (D.faults store.new)
-        ≡ counts_by result (counts 0 (K.faults out.old) (D.faults store.old)) }
-    ensures ended { IfOk result (λ status. IsEnd status.0) }
-{
-    let ending = show_state(alloc, name, epoch, store)?;
-    end_with(ending.text.as_slice(), ending.status, out)
-}
-
-/// Prints the summary of the generated script with these numbers.
-fn print_summary<K: Sink>(
-    alloc: Global,
-    start: u64,
-    rounds: u64,
-    out: &mut K,
-) -> Result<Status, RunFault>
-    requires { rounds ≤ 3000 }
-    ensures writes { Writes (summary start rounds) (K.written out.old) (K.written out.new)
-        (counts 0 (K.faults out.old) 0) (counts 0 (K.faults out.new) 0) result }
-    ensures status { IfOk result (λ ended. ended.0 ≡ 0) }
-{
-    let text = generate(alloc, start, rounds)?;
-    end_with(text.as_slice(), 0, out)
-}
-
-/// Runs the command that words other than `commit`, `replay` and `snapshot` name, or prints the usage line.
-fn answer_unread<K: Sink>(alloc: Global, words: &[String], out: &mut K) -> Result<Status, RunFault>
-    ensures writes { Writes (gen_text (generated.gen_numbers (map string_bytes words.now)))
-        (K.written out.old) (K.written out.new)
-        (counts 0 (K.faults out.old) 0) (counts 0 (K.faults out.new) 0) result }
-    ensures status { IfOk result (λ ended.
-        ended.0 ≡ gen_status (generated.gen_numbers (map string_bytes words.now))) }
-    ensures ended { IfOk result (λ status. IsEnd status.0) }
+/// The end of `gen`, or of words that name no command. Fails only if memory runs out.
+fn gen_end(alloc: Global, words: &[String]) -> Result<Ending, Memory>
+    ensures { IfOk result (λ ending.
+        ending ≡ outcomes.gen_end (generated.gen_numbers (map string_bytes words.now))) }
 {
     match gen_numbers(words) {
-        Some((start, rounds)) => print_summary(alloc, start, rounds, out),
-        None => end_with(USAGE.as_bytes(), 2, out),
+        Some((start, rounds)) => {
+            let text = generate(alloc, start, rounds)?;
+            Ok(Ending { status: 0, text })
+        }
+        None => Ending::usage(alloc),
     }
 }
 
-/// Runs the command that words other than `commit` and `replay` name, or prints the usage line.
-fn answer_last<K: Sink, D: Store>(
-    alloc: Global,
-    words: &[String],
-    out: &mut K,
-    store: &mut D,
-) -> Result<Status, RunFault>
-    ensures writes { WritesSeen
-        (λ seen. last_outcome (map string_bytes words.now) seen
+/// The end of words other than `commit` and `replay`. No file changes.
+fn last_end<D: Store>(alloc: Global, words: &[String], store: &mut D) -> Result<Ending, RunFault>
+    ensures ends { IfOk result (λ ending. EndsSo
+        (λ seen. outcomes.last_end (map string_bytes words.now) seen
         (state_line.snapshot_words (map string_bytes words.now)))
-        (D.files store.old) (K.written out.old) (K.written out.new) result }
+        ending (D.files store.old)) }
     ensures files { D.files store.new ≡ D.files store.old }
-    ensures cause { counts 0 (K.faults out.new) (D.faults store.new)
-        ≡ counts_by result (counts 0 (K.faults out.old) (D.faults store.old)) }
-    ensures ended { IfOk result (λ status. IsEnd status.0) }
+    ensures cause { counts 0 0 (D.faults store.new)
+        ≡ counts_by result (counts 0 0 (D.faults store.old)) }
     ensures unnamed { state_line.snapshot_words (map string_bytes words.now) ≡ None
         → (store.new ≡ store.old) × IfErr result (λ e. e ≢ fault.Store) }
 {
     match snapshot_words(words) {
-        Some((name, epoch)) => snapshot(alloc, name, epoch, out, store),
-        None => answer_unread(alloc, words, out),
+        Some((name, epoch)) => show_state(alloc, name, epoch, store),
+        None => Ok(gen_end(alloc, words)?),
     }
 }
 
-/// Runs the command that words other than `commit` name, or prints the usage line.
+/// The end of words other than `commit`. No file changes.
+fn other_end<D: Store>(alloc: Global, words: &[String], store: &mut D) -> Result<Ending, RunFault>
+    ensures ends { IfOk result (λ ending.
+        EndsSo (outcomes.other_end (map string_bytes words.now)) ending (D.files store.old)) }
+    ensures files { D.files store.new ≡ D.files store.old }
+    ensures cause { counts 0 0 (D.faults store.new)
+        ≡ counts_by result (counts 0 0 (D.faults store.old)) }
+    ensures unnamed { is_replay (map string_bytes words.now) ≡ false
+        → state_line.snapshot_words (map string_bytes words.now) ≡ None
+        → (store.new ≡ store.old) × IfErr result (λ e. e ≢ fault.Store) }
+{
+    match replay_words(words) {
+        Some(names) => replay_files(alloc, names, store),
+        None => last_end(alloc, words, store),
+    }
+}
+
+/// Runs the command that words other than `commit` name, and prints its end.
 fn answer_others<K: Sink, D: Store>(
     alloc: Global,
     words: &[String],
     out: &mut K,
     store: &mut D,
 ) -> Result<Status, RunFault>
-    ensures writes { WritesSeen (other_outcome (map string_bytes words.now)) (D.files store.old)
-        (K.written out.old) (K.written out.new) result }
+    ensures writes { WritesSeen
+        (λ seen. outcomes.ended_outcome (outcomes.other_end (map string_bytes words.now) seen) (seen 0))
+        (D.files store.old) (K.written out.old) (K.written out.new) result }
     ensures files { D.files store.new ≡ D.files store.old }
     ensures cause { counts 0 (K.faults out.new) (D.faults store.new)
         ≡ counts_by result (counts 0 (K.faults out.old) (D.faults store.old)) }
@@ -484,10 +400,8 @@ fn answer_others<K: Sink, D: Store>(
         → state_line.snapshot_words (map string_bytes words.now) ≡ None
         → (store.new ≡ store.old) × IfErr result (λ e. e ≢ fault.Store) }
 {
-    match replay_words(words) {
-        Some(names) => replay(alloc, names, out, store),
-        None => answer_last(alloc, words, out, store),
-    }
+    let ending = other_end(alloc, words, store)?;
+    end_with(ending.text.as_slice(), ending.status, out)
 }
 
 /// Runs the command that the words name, or prints the usage line. Stops at the first fault.

@@ -3,27 +3,34 @@
 ghost use Rattle.std.specs.Prelude.{◌≡◌, ◌+◌, ◌≤◌, ◌++◌, [], Ok, codes, decimal, length, take, None, OnOk, IfOk, IfErr, IfSome, IsTrue};
 ghost use Rattle.std.specs.Option.{option_copied};
 ghost use Rattle.script_lang.specs.Grammar.{HasTokens, line_of};
-ghost use Rattle.script_lang.specs.Texts as spec;
+ghost use Rattle.script_lang.specs.AnswerTexts as spec;
 ghost use Rattle.transformations.specs.History.{commit_refusal, empty_image, image_after, is_command};
 ghost use Rattle.transformations.specs.Log.{commands_of, entry_with_id, repeated};
 ghost use Rattle.cluster_metadata.specs.Permission.{AdmitsUnless};
 ghost use Rattle.tcm_session.specs.Generated.{epoch_of_follower};
 ghost use Rattle.tcm_session.specs.Faults.{count_by};
-ghost use Rattle.tcm_session.specs.LogFiles.{Gains, entry_lines};
-ghost use Rattle.tcm_session.specs.Machine.{accepted_reply, commit_reply, commit_text, follower_named, reply, reply_to, session_next, session_over};
-ghost use Rattle.tcm_session.specs.Steps.{IsNextEntry, Leaves, LeavesSession, OnlyAnswers, Steps, handed_by};
+ghost use Rattle.tcm_session.specs.files.LogFiles.{Gains, entry_lines};
+ghost use Rattle.tcm_session.specs.session.Machine.{commit_reply, commit_text, follower_named, reply, reply_to, session_next, session_over};
+ghost use Rattle.tcm_session.specs.code.StepParts.{accepted_reply};
+ghost use Rattle.tcm_session.specs.session.StepEnds.{Leaves, LeavesSession, handed_by};
+ghost use Rattle.tcm_session.specs.code.StepParts.{IsNextEntry, OnlyAnswers, StepEnds};
 
-mod asking;
-mod handing;
+mod deliveries;
+pub mod followers;
 mod handing_over;
-mod keeping;
-mod taking;
+mod kept_images;
+pub mod log_entries;
+mod log_lines;
+pub mod place_text;
+pub mod query;
+mod query_lines;
+pub mod quorum_text;
 
 use crate::fault::StepFault;
-use crate::followers::{NamedFollower, close_followers, epoch_of};
-use crate::noting::note;
-use crate::query::Query;
-use crate::session::keeping::keep_image;
+use crate::session::followers::{NamedFollower, close_followers, epoch_of};
+use crate::session::kept_images::keep_image;
+use crate::session::log_entries::note;
+use crate::session::query::Query;
 use cluster_metadata::{AdmitFault, Metadata, Permit};
 use cluster_terms::{ByteText, Memory};
 use epoch_log::Log;
@@ -54,9 +61,9 @@ impl Model for Session {
     ghost use Rattle.std.specs.Prelude.{◌≡◌, length};
     ghost use Rattle.transformations.specs.History.{empty_image, image_after};
     ghost use Rattle.transformations.specs.Log.{IsLog, commands_of};
-    ghost use Rattle.tcm_session.specs.KeptImages.{AreKept};
-    ghost use Rattle.tcm_session.specs.Machine.{SessionState};
-    ghost use Rattle.tcm_session.specs.Steps.{AllFollow};
+    ghost use Rattle.tcm_session.specs.code.KeptImages.{AreKept};
+    ghost use Rattle.tcm_session.specs.session.Machine.{SessionState};
+    ghost use Rattle.tcm_session.specs.code.StepParts.{AllFollow};
 
     ghost Value = { SessionState };
 
@@ -202,7 +209,7 @@ impl Session {
         out: &mut ByteText,
     ) -> Result<(), StepFault>
         requires { IfSome said (λ line. HasTokens line) }
-        ensures steps { Steps (handed_by self.old said) (reply_to self.old said) (option_copied log.entry)
+        ensures steps { StepEnds (handed_by self.old said) (reply_to self.old said) (option_copied log.entry)
             self.old self.new out.old out.new
             (D.files store.old) (D.files store.new) (D.faults store.old) (D.faults store.new) result }
         ensures unnamed { option_copied log.entry ≡ None → store.new ≡ store.old }
@@ -236,7 +243,7 @@ impl Session {
         out: &mut ByteText,
     ) -> Result<(), StepFault>
         requires { IsTrue (is_command command) }
-        ensures steps { Steps None (commit_reply self.old id command) (option_copied log.entry)
+        ensures steps { StepEnds None (commit_reply self.old id command) (option_copied log.entry)
             self.old self.new out.old out.new
             (D.files store.old) (D.files store.new) (D.faults store.old) (D.faults store.new) result }
         ensures unnamed { option_copied log.entry ≡ None → store.new ≡ store.old }
@@ -258,7 +265,7 @@ impl Session {
     ) -> Result<(), StepFault>
         requires formed { IsTrue (is_command command) }
         requires fresh { entry_with_id self.old.log id ≡ None }
-        ensures steps { Steps None (commit_reply self.old id command) (option_copied log.entry)
+        ensures steps { StepEnds None (commit_reply self.old id command) (option_copied log.entry)
             self.old self.new out.old out.new
             (D.files store.old) (D.files store.new) (D.faults store.old) (D.faults store.new) result }
         ensures unnamed { option_copied log.entry ≡ None → store.new ≡ store.old }
@@ -305,7 +312,7 @@ impl Session {
         requires next { IsNextEntry self.old.log entry }
         requires permit { permit
             ≡ record { image = image_after empty_image (commands_of self.old.log); command = entry.cmd } }
-        ensures steps { Steps None (accepted_reply self.old entry) (option_copied log.entry)
+        ensures steps { StepEnds None (accepted_reply self.old entry) (option_copied log.entry)
             self.old self.new out.old out.new
             (D.files store.old) (D.files store.new) (D.faults store.old) (D.faults store.new) result }
         ensures unnamed { option_copied log.entry ≡ None → store.new ≡ store.old }

@@ -4,22 +4,22 @@
 ghost use Rattle.std.specs.Prelude.{◌≡◌, ℕ, ◌++◌, [], List, Option, None, Some, Ok, flat_map};
 ghost use Rattle.std.specs.List.{AllByRecursion};
 ghost use Rattle.script_lang.specs.Grammar.{line_of};
-ghost use Rattle.script_lang.specs.Texts.{line};
+ghost use Rattle.script_lang.specs.AnswerTexts.{line};
 ghost use Rattle.transformations.specs.Log.{IsLog, commands_of};
 ghost use Rattle.transformations.specs.declared.entry.Entry.{Entry};
 ghost use Rattle.transformations.specs.declared.image.Image.{Image};
 ghost use Rattle.follower_log.specs.Follower.{FollowerState, hand_entry, hand_image};
 ghost use Rattle.tcm_session.specs.Lines.{HasNoFeed, open_line, whole_lines};
-ghost use Rattle.tcm_session.specs.LogFiles.{lines_part, log_of};
-ghost use Rattle.tcm_session.specs.Machine.{SessionState, answers, reply, session_after, session_over};
-ghost use Rattle.tcm_session.specs.Taken.{AnswerAsLog, FollowersShow, TellsEpoch};
+ghost use Rattle.tcm_session.specs.files.LogFiles.{lines_part, log_of};
+ghost use Rattle.tcm_session.specs.session.Machine.{SessionState, answers, reply, session_after, session_over};
+ghost use Rattle.tcm_session.specs.session.Taken.{AnswerAsLog, FollowersShow, TellsEpoch};
 ghost use Rattle.tcm_edges.specs.Files.{Files, content};
 ghost use Rattle.tcm_session.specs.Left.{LeavesLog};
 ghost use Rattle.tcm_session.specs.Outcome.{Outcome};
-ghost use Rattle.tcm_session.specs.Replay.{files_replayed, nothing_replayed};
-ghost use Rattle.tcm_session.specs.ReplayPrefix.{AreFilesOf, ComesToPrefix, taken_of_files};
-ghost use Rattle.tcm_session.specs.SentAgain.{AreAccepted, ComesToSame, GoesOn, log_at};
-ghost use Rattle.tcm_session.specs.Shown.{IsOfNoQuorum, LinesAreShown, Shown, ShownMeet, shown, shown_by, shown_text};
+ghost use Rattle.tcm_session.specs.files.Replay.{files_replayed, nothing_replayed};
+ghost use Rattle.tcm_session.specs.files.ReplayPrefix.{AreFilesOf, ComesToPrefix, taken_of_files};
+ghost use Rattle.tcm_session.specs.session.SentAgain.{AreAccepted, ComesToSame, GoesOn, log_at};
+ghost use Rattle.tcm_session.specs.session.Shown.{IsOfNoQuorum, LinesAreShown, Shown, ShownMeet, shown, shown_by, shown_text};
 
 /// Cutting an input into lines loses nothing: its whole lines, each with a line feed after it, and then its open line
 /// make the input again. Neither a whole line nor the open line contains a line feed.
@@ -38,7 +38,7 @@ pub fn lines_make_the_input()
 /// a movement epoch: each write quorum of one answer has a replica in common with each read quorum of the other.
 ///
 /// The first line is answered from the log in a file; a file without lines is the empty log.
-#[tactic(auto, using(crate::proofs::ShownAnswers::texts, crate::proofs::ShownAnswers::others))]
+#[tactic(auto, using(crate::proofs::quorums::ShownAnswers::texts, crate::proofs::quorums::ShownAnswers::others))]
 pub fn shown_quorums_meet()
     ensures texts { (session : SessionState) (bytes : List ℕ) (s : Shown)
         → shown_by session (line_of bytes) ≡ Some s → (reply session bytes).text ≡ shown_text s }

@@ -9,10 +9,7 @@ use Rattle.cluster_terms.specs.declared.row.TokenRange.{TokenRange}
 use Rattle.cluster_terms.specs.declared.token.RightEnd.{RightEnd}
 use Rattle.cluster_terms.specs.declared.token.RightEnd.TheVariants.{At, Max}
 use Rattle.token_ring.specs.Bounds.{left_bound, right_bound, bounds_of}
-use Rattle.token_ring.specs.Ranges.{is_cut_left, is_cut_right, AreCutOut}
-
-member_more : (x : ℤ) (xs : List ℤ) (t : ℤ) → is_member int_eq xs t ≡ true → is_member int_eq (x ∷ xs) t ≡ true
-member_more x xs t h = or_right (int_eq t x) (is_member int_eq xs t) h
+use Rattle.token_ring.specs.TokenRanges.{is_cut_left, is_cut_right, AreCutOut}
 
 member_first : (t : ℤ) (xs : List ℤ) → is_member int_eq (t ∷ xs) t ≡ true
 member_first t xs = or_left (int_eq t t) (is_member int_eq xs t) ((Decides-int_eq t t).1 refl)

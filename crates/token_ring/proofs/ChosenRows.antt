@@ -7,14 +7,14 @@ use Rattle.std.specs.Ordering.{int_cmp}
 use Rattle.std.proofs.lemmas.Bool.{false≢true, true≢false}
 use Rattle.std.proofs.lemmas.Bool.Decides.{Decides-int_eq}
 use Rattle.std.proofs.lemmas.List.{take_all}
-use Rattle.cluster_terms.proofs.AscendingLemmas.{weaker}
-use Rattle.cluster_terms.proofs.RowLemmas.{IsRowWith, row_with, upto_last, rows_have_last}
+use Rattle.cluster_terms.proofs.lists.AscendingLemmas.{weaker}
+use Rattle.cluster_terms.proofs.rows.RowLemmas.{IsRowWith, row_with, upto_last, rows_have_last}
 use Rattle.cluster_terms.specs.Arc.{IsToken, greatest_token}
 use Rattle.cluster_terms.specs.Row.{last_token, is_last, is_within, rows_from, rows_between}
 use Rattle.cluster_terms.specs.declared.row.TokenRange.{TokenRange}
 use Rattle.cluster_terms.specs.declared.token.RightEnd.{RightEnd}
 use Rattle.cluster_terms.specs.declared.token.RightEnd.TheVariants.{At, Max}
-use Rattle.token_ring.specs.Ranges.{have_token, either_has, AreCutOut, have_chosen, is_common, first_common_end}
+use Rattle.token_ring.specs.TokenRanges.{have_token, either_has, AreCutOut, have_chosen, is_common, first_common_end}
 use Rattle.token_ring.proofs.RangeLemmas.{all_at, same_tokens}
 
 -- ---- chosen rows

@@ -8,15 +8,15 @@ use Rattle.std.proofs.lemmas.Bool.{and_from, and_parts, or_right, or_left}
 use Rattle.std.proofs.lemmas.Bool.Decides.{Decides-int_eq}
 use Rattle.std.proofs.lemmas.Int.{ints}
 use Rattle.std.proofs.lemmas.List.Folds.{list_any-append}
-use Rattle.cluster_terms.proofs.AscendingLemmas.{weaker}
-use Rattle.cluster_terms.proofs.RowLemmas.{AreNext, rows_next, past_last, past_more}
+use Rattle.cluster_terms.proofs.lists.AscendingLemmas.{weaker}
+use Rattle.cluster_terms.proofs.rows.RowLemmas.{AreNext, rows_next, past_last, past_more}
 use Rattle.cluster_terms.specs.Arc.{IsToken, greatest_token}
 use Rattle.cluster_terms.specs.Row.{last_token, is_last, is_past, is_within, rows_from, rows_between}
 use Rattle.cluster_terms.specs.declared.row.TokenRange.{TokenRange}
 use Rattle.cluster_terms.specs.declared.token.RightEnd.{RightEnd}
 use Rattle.cluster_terms.specs.declared.token.RightEnd.TheVariants.{At, Max}
-use Rattle.token_ring.specs.Joining.{grown, ended, begun_range, chosen_from}
-use Rattle.token_ring.specs.Ranges.{have_token, ends_before, ends_open, IsRangeList, is_cut_left, is_cut_right, is_cut_out, AreCutOut, have_chosen}
+use Rattle.token_ring.specs.code.ChosenRanges.{grown, ended, begun_range, chosen_from}
+use Rattle.token_ring.specs.TokenRanges.{have_token, ends_before, ends_open, IsRangeList, is_cut_left, is_cut_right, is_cut_out, AreCutOut, have_chosen}
 use Rattle.token_ring.proofs.RangeLemmas.{list_nil, list_cons}
 
 -- a range that has begun ends at a left end

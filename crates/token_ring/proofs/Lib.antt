@@ -1,4 +1,3 @@
-mod ApartLemmas
 pub mod BoundLemmas
 pub mod ChosenRows
 pub mod DistinctLemmas
@@ -6,5 +5,6 @@ pub mod JoinLemmas
 pub mod OrderLemmas
 pub mod PlaceLemmas
 pub mod RangeLemmas
+mod RangesApart
 pub mod RingLemmas
 pub mod SameTokens

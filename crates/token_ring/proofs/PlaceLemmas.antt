@@ -5,11 +5,11 @@ use Rattle.std.proofs.lemmas.List.Sorted.{list_any-IsPermutation, IsPermutation-
 use Rattle.std.specs.Cmp.{nat_eq_equiv}
 use Rattle.std.specs.List.{list_any}
 use Rattle.std.specs.List.Sorted.{IsPermutation}
-use Rattle.cluster_terms.proofs.DistinctCounts.{is_member-alike}
+use Rattle.cluster_terms.proofs.lists.DistinctCounts.{is_member-alike}
 use Rattle.cluster_terms.specs.Group.{Group, nodes_of, ahead_of, is_first, is_chosen, is_chosen_at, is_replica}
 use Rattle.cluster_terms.specs.declared.token.Pair.{Pair}
-use Rattle.cluster_terms.proofs.GroupLemmas.{has, is_chosen-same}
-use Rattle.cluster_terms.proofs.PlacementLemmas.{has-nodes_of, has-permuted, nodes_of-append}
+use Rattle.cluster_terms.proofs.placement.GroupLemmas.{has, is_chosen-same}
+use Rattle.cluster_terms.proofs.placement.PlacementLemmas.{has-nodes_of, has-permuted, nodes_of-append}
 use Rattle.token_ring.proofs.RingLemmas.{walk_from, ahead_of-walk}
 use Rattle.token_ring.specs.Ring.{IsRing, IsFirstAt}
 

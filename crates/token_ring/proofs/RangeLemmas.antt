@@ -14,7 +14,7 @@ use Rattle.cluster_terms.specs.Row.{last_token, is_past, is_within}
 use Rattle.cluster_terms.specs.declared.row.TokenRange.{TokenRange}
 use Rattle.cluster_terms.specs.declared.token.RightEnd.{RightEnd}
 use Rattle.cluster_terms.specs.declared.token.RightEnd.TheVariants.{At, Max}
-use Rattle.token_ring.specs.Ranges.{have_token, ends_before, IsRange, IsRangeList, is_cut_left, is_cut_right, is_cut_out, AreCutOut}
+use Rattle.token_ring.specs.TokenRanges.{have_token, ends_before, IsRange, IsRangeList, is_cut_left, is_cut_right, is_cut_out, AreCutOut}
 
 -- ---- lists
 

@@ -12,7 +12,7 @@ use Rattle.std.proofs.lemmas.Bool.Decides.{nat_tests}
 use Rattle.cluster_terms.specs.Arc.{in_arc}
 use Rattle.cluster_terms.specs.Group.{ahead_of}
 use Rattle.cluster_terms.specs.declared.token.Pair.{Pair}
-use Rattle.token_ring.specs.Ring.{IsRing, IsFirstAt, IsOwner}
+use Rattle.token_ring.specs.Ring.{IsRing, IsFirstAt}
 
 -- the tokens at two positions are in the order of the positions
 pub token-lt : (ps : List Pair) → IsRing ps → (j k : ℕ) (d e : Pair) → j < k → k < length ps → (get_or ps j d).token <ℤ (get_or ps k e).token
@@ -168,13 +168,6 @@ cut-from_first (p ∷ ps) t i ring first = cut-at (p ∷ ps) t i ring first p
 pub arc-from_first : (ps : List Pair) (t : ℤ) (i : ℕ) → IsRing ps → IsFirstAt ps t i → (j k : ℕ) (d e : Pair) → j < length ps → k < length ps → in_arc t (get_or ps j d).token (get_or ps k e).token ≡ is_met i j k
 arc-from_first ps t i ring first = arc-positions ps t i ring (cut-from_first ps t i ring first)
 
--- a ring has one first position at or after t
-pub first-unique : (ps : List Pair) (t : ℤ) (i j : ℕ) → IsRing ps → IsFirstAt ps t i → IsFirstAt ps t j → i ≡ j
-first-unique [] t i j ring one other = absurd (omega (arith, one.in_range))
-first-unique (p ∷ ps) t i j ring one other =
-    let met : false ≡ is_met i j i = sym (ahead-none (p ∷ ps) t j other i p p one.in_range) ∙ arc-from_first (p ∷ ps) t i ring one j i p p other.in_range one.in_range in
-    grind (arith, nat_tests, met)
-
 -- a filter that passes n elements from position i on, and no other
 filter-span : (p : Pair → Bool) (ps : List Pair) (i n : ℕ) → ((k : ℕ) (d : Pair) → k < length ps → p (get_or ps k d) ≡ (nat_le i k && nat_lt k (i + n))) → filter p ps ≡ take n (drop i ps)
 filter-span p [] zero zero test = refl
@@ -252,13 +245,6 @@ ahead_of-walk ps t i ring first m d in_m = ⊎_elim after before (cases_lt (i + 
         let ahead : ahead_of t (get_or (walk_from i ps) m d).token ps ≡ take j ps ++ drop i ps = ap (λ (p : Pair). ahead_of t p.token ps) here ∙ ahead_of-before ps t i ring first j d low (omega arith) in
         let front : take m (walk_from i ps) ≡ drop i ps ++ take j ps = ap (λ n. take n (walk_from i ps)) whole ∙ take-append-add (drop i ps) (take i ps) j ∙ ap (λ l. drop i ps ++ l) (take-take j i ps (omega arith)) in
         rw (ahead, front) (IsPermutation-append_comm (take j ps) (drop i ps))
-
--- a token of a ring belongs to one node
-pub owner-unique : (ps : List Pair) (t : ℤ) (m n : ℕ) → IsRing ps → IsOwner ps t m → IsOwner ps t n → m ≡ n
-owner-unique [] t m n ring one other = absurd (omega (arith, one.first.in_range))
-owner-unique (p ∷ ps) t m n ring one other =
-    let same = first-unique (p ∷ ps) t one.position other.position ring one.first other.first in
-    sym (one.has p) ∙ ap (λ i. (get_or (p ∷ ps) i p).node) same ∙ other.has p
 
 -- the first position, where n pairs of a ring are below t: the n-th, or past the greatest token the least one
 pub first-within : (ps : List Pair) (t : ℤ) (n : ℕ) → IsRing ps → IsPartitionPoint (λ p. p.token <ℤ t) (λ p. t ≤ℤ p.token) ps n → n < length ps → IsFirstAt ps t n

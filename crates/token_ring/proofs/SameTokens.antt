@@ -9,7 +9,7 @@ use Rattle.cluster_terms.specs.declared.row.TokenRange.{TokenRange}
 use Rattle.cluster_terms.specs.declared.token.RightEnd.{RightEnd}
 use Rattle.cluster_terms.specs.declared.token.RightEnd.TheVariants.{At, Max}
 use Rattle.token_ring.specs.Bounds.{bounds_of, left_bound, right_bound}
-use Rattle.token_ring.specs.Ranges.{IsRangeList, have_token, ends_before, ends_open}
+use Rattle.token_ring.specs.TokenRanges.{IsRangeList, have_token, ends_before, ends_open}
 use Rattle.token_ring.proofs.RangeLemmas.{list_tail, pairs_head}
 
 -- ---- the first token past a left end

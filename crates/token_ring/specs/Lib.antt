@@ -1,4 +1,4 @@
 pub mod Bounds
-pub mod Joining
-pub mod Ranges
 pub mod Ring
+pub mod TokenRanges
+pub mod code

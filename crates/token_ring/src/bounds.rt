@@ -2,7 +2,7 @@ ghost use Rattle.std.specs.Prelude.{◌≡◌, ◌++◌, IfOk, OnOk};
 ghost use Rattle.std.specs.List.Sorted.{IsStrictlySortedBy};
 ghost use Rattle.std.specs.Ordering.{int_cmp};
 ghost use Rattle.token_ring.specs.Bounds.{bounds_of};
-ghost use Rattle.token_ring.specs.Ranges.{AreCutOut};
+ghost use Rattle.token_ring.specs.TokenRanges.{AreCutOut};
 
 use cluster_terms::{Memory, RightEnd, Token, TokenRange, put_in_order};
 use std::alloc::Global;

@@ -2,8 +2,8 @@ ghost use Rattle.std.specs.Prelude.{◌≡◌, ℤ, false, ◌&&◌, ◌↔◌, 
 ghost use Rattle.std.specs.List.Sorted.{IsStrictlySortedBy};
 ghost use Rattle.std.specs.Ordering.{int_cmp};
 ghost use Rattle.cluster_terms.specs.Arc.{IsToken};
-ghost use Rattle.token_ring.specs.Ranges as spec;
-ghost use Rattle.token_ring.specs.Ranges.{have_token, AreCutOut, IsRangeList, first_common_end};
+ghost use Rattle.token_ring.specs.code.EndedRanges as code;
+ghost use Rattle.token_ring.specs.TokenRanges.{have_token, AreCutOut, IsRangeList, first_common_end};
 
 use crate::range_list::RangeList;
 use cluster_terms::{RightEnd, Token, TokenRange};
@@ -18,7 +18,7 @@ fn have_both(a: &RangeList, b: &RangeList, number: i64) -> bool
 
 /// Whether a range with this right end has no token past this left end.
 fn ends_by(right: &RightEnd, left: &Option<Token>) -> bool
-    ensures { result ≡ spec.ends_by right.now left.now }
+    ensures { result ≡ code.ends_by right.now left.now }
 {
     match (right, left) {
         (RightEnd::At(right), Some(left)) => *right <= *left,

@@ -6,10 +6,10 @@ ghost use Rattle.cluster_terms.specs.Arc.{IsToken};
 ghost use Rattle.cluster_terms.specs.Row as spec;
 ghost use Rattle.cluster_terms.specs.declared.row.TokenRange.{TokenRange as AnyRange};
 ghost use Rattle.token_ring.specs.Bounds.{bounds_of};
-ghost use Rattle.token_ring.specs.Ranges.{have_token, either_has, HaveTokens, ends_before, IsRange, IsRangeList, AreCutOut, have_chosen, chosen_by, AnswersAs};
+ghost use Rattle.token_ring.specs.TokenRanges.{have_token, either_has, HaveTokens, ends_before, IsRange, IsRangeList, AreCutOut, have_chosen, chosen_by, AnswersAs};
 
 use crate::bounds::bounds_of_both;
-use crate::joining::joined_where;
+use crate::chosen_ranges::joined_where;
 use cluster_terms::{Memory, Token, TokenRange, TryCopy};
 use std::alloc::Global;
 use std::marker::Model;
@@ -23,7 +23,7 @@ pub struct RangeList {
 impl Model for RangeList {
     ghost use Rattle.std.specs.Prelude.{List};
     ghost use Rattle.cluster_terms.specs.declared.row.TokenRange.{TokenRange};
-    ghost use Rattle.token_ring.specs.Ranges.{IsRangeList};
+    ghost use Rattle.token_ring.specs.TokenRanges.{IsRangeList};
 
     ghost Value = { List TokenRange };
 

@@ -7,9 +7,9 @@ use Rattle.std.specs.Cmp.{nat_eq_equiv}
 use Rattle.std.specs.List.{cons_option}
 use Rattle.std.specs.Set.{is_member, distinct_count}
 use Rattle.std.specs.Str.{bytes_eq}
-use Rattle.cluster_terms.proofs.DistinctCounts.{is_member-alike, is_member-push, distinct_count-new, distinct_count-old}
+use Rattle.cluster_terms.proofs.lists.DistinctCounts.{is_member-alike, is_member-push, distinct_count-new, distinct_count-old}
 use Rattle.cluster_terms.specs.Group.{Group, node_count, rack_count}
-use Rattle.cluster_terms.proofs.GroupLemmas.{has, has_rack, has-of, has_rack-same, node_count-same, rack_count-same}
+use Rattle.cluster_terms.proofs.placement.GroupLemmas.{has, has_rack, has-of, has_rack-same, node_count-same, rack_count-same}
 
 module _ (g : Group) (ahead : List ℕ) (n : ℕ) where
   -- the nodes and the racks of the group, with the node

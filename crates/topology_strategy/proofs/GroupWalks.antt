@@ -8,9 +8,9 @@ use Rattle.std.proofs.lemmas.Map.Views.{exact_unsigned_eq}
 use Rattle.std.specs.Cmp.{nat_eq_equiv}
 use Rattle.std.specs.Set.{is_member}
 use Rattle.std.specs.Str.{bytes_eq}
-use Rattle.cluster_terms.proofs.DistinctCounts.{is_member-alike, is_member-push}
+use Rattle.cluster_terms.proofs.lists.DistinctCounts.{is_member-alike, is_member-push}
 use Rattle.cluster_terms.specs.Group.{Group, node_count, rack_count, wanted, spare, is_chosen}
-use Rattle.cluster_terms.proofs.GroupLemmas.{has, has_rack, is_chosen_by, is_chosen_rack-by, or_elim, rack_there}
+use Rattle.cluster_terms.proofs.placement.GroupLemmas.{has, has_rack, is_chosen_by, is_chosen_rack-by, or_elim, rack_there}
 use Rattle.token_ring.proofs.PlaceLemmas.{finds}
 use Rattle.topology_strategy.proofs.CountSteps.{node_count-outside, rack_count-outside, has_rack-outside, node_count-again, rack_count-again, has_rack-again, has_rack-push, node_count-new, rack_count-new, rack_count-old}
 use Rattle.node_directory.specs.Shape.{shape_of}

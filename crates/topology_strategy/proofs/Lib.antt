@@ -1,5 +1,6 @@
 pub mod CountSteps
 pub mod GroupWalks
+pub mod HomeChanges
 pub mod RackedLemmas
 pub mod TopologyPlacement
 pub mod WithinLemmas

@@ -1,6 +1,5 @@
 -- The pairs of a group, with the racks of their nodes.
-use Rattle.std.proofs.Common.{◌≡◌, ℕ, suc, zero, ◌<◌, ◌||◌, false, ℤ, ◌<ℤ◌, List, [], ◌∷◌, ◌++◌, length, get_or, map, take, drop, Some, is_some, refl, sym, ap, ◌∙◌, subst, arith}
-use Rattle.std.proofs.Math.Bool.{or-false, or_assoc}
+use Rattle.std.proofs.Common.{◌≡◌, ℕ, suc, zero, ◌<◌, ◌||◌, false, ℤ, ◌<ℤ◌, List, [], ◌∷◌, ◌++◌, length, map, take, drop, Some, is_some, refl, sym, ap, ◌∙◌, subst, arith}
 use Rattle.std.proofs.lemmas.List.{drop-map, take-map}
 use Rattle.std.proofs.lemmas.List.Kept.{AllPairs-filter}
 use Rattle.std.specs.List.{list_any}
@@ -8,17 +7,23 @@ use Rattle.cluster_terms.specs.Group.{Group, nodes_of, is_replica, is_replica_of
 use Rattle.cluster_terms.specs.Replication.{datacenter_group}
 use Rattle.cluster_terms.specs.declared.node.NodeRow.{NodeRow}
 use Rattle.cluster_terms.specs.declared.token.Pair.{Pair}
-use Rattle.cluster_terms.proofs.GroupLemmas.{has}
+use Rattle.cluster_terms.proofs.placement.GroupLemmas.{has}
 use Rattle.node_directory.specs.Shape.{shape_of}
 use Rattle.node_directory.specs.declared.shape.Shape.{Shape}
 use Rattle.token_ring.specs.Ring.{IsRing, IsFirstAt}
-use Rattle.topology_strategy.specs.DatacenterRing.{RingPart, is_replica_in, parts_of}
-use Rattle.topology_strategy.specs.RackedPairs.{AreListed, HaveRacks}
-use Rattle.topology_strategy.specs.Walk.{Found, found_after, found_among, taken_along}
+use Rattle.topology_strategy.specs.DatacenterRing.{factors_of}
+use Rattle.topology_strategy.specs.code.RingParts.{is_replica_in, parts_of}
+use Rattle.topology_strategy.specs.code.RackedPairs.{AreListed, HaveRacks}
+use Rattle.topology_strategy.specs.Walk.{Found, found_after, taken_along}
+use Rattle.topology_strategy.specs.code.WalkAmong.{found_among}
 use Rattle.topology_strategy.proofs.TopologyPlacement.{taken_in_parts, taken_there}
 use Rattle.topology_strategy.proofs.WithinLemmas.{among-after, replica_within, shape_of-within}
 
 -- ---- the replicas of a group
+
+-- the pairs of a group have the shape that it has in the ring
+pub listed_shape : (g : Group) (ring pairs : List Pair) (racks : List (List ℕ)) → AreListed g ring pairs racks → shape_of (nodes_of pairs) g ≡ shape_of (nodes_of ring) g
+listed_shape g ring pairs racks within = ap (λ l. shape_of (nodes_of l) g) within.listed ∙ shape_of-within g ring
 
 module _ (g : Group) (ring pairs : List Pair) (racks : List (List ℕ)) (is : IsRing ring) (within : AreListed g ring pairs racks) where
   -- its pairs ascend
@@ -55,7 +60,7 @@ module _ (g : Group) (ring pairs : List Pair) (racks : List (List ℕ)) (is : Is
 
       walked : found.taken ≡ taken_along (nodes_of (drop j pairs) ++ nodes_of (take j pairs)) g (shape_of (nodes_of pairs) g)
       walked = taken_in_parts g shape (nodes_of (drop j pairs)) (nodes_of (take j pairs)) begun middle found b rest front
-          ∙ ap (taken_along (nodes_of (drop j pairs) ++ nodes_of (take j pairs)) g) (counted ∙ sym (shape_of-within g ring) ∙ ap (λ l. shape_of (nodes_of l) g) (sym within.listed))
+          ∙ ap (taken_along (nodes_of (drop j pairs) ++ nodes_of (take j pairs)) g) (counted ∙ sym (listed_shape g ring pairs racks within))
 
       there : is_replica g x pairs v ≡ is_replica g x ring v
       there = ap (λ l. is_replica g x l v) within.listed ∙ replica_within g x ring v
@@ -69,18 +74,14 @@ module _ (g : Group) (ring pairs : List Pair) (racks : List (List ℕ)) (is : Is
           let many : 0 < length pairs = subst (λ l. 0 < length l) (sym some) (omega arith) in
           ap (λ l. has l v) walked ∙ taken_there [] pairs x j listed_ring (first many) g v ∙ there
 
--- ---- one datacenter more
+-- ---- the parts of a ring
+
+pub factors_of_parts : (ring : List Pair) (nodes : List NodeRow) (factors : List (List ℕ × ℕ)) → factors_of (parts_of ring nodes factors) ≡ factors
+factors_of_parts ring nodes [] = refl
+factors_of_parts ring nodes (f ∷ factors) = ap (λ rest. f ∷ rest) (factors_of_parts ring nodes factors)
 
 -- the replicas of some datacenters
 pub parts_replicas : (ring : List Pair) (nodes : List NodeRow) (factors : List (List ℕ × ℕ)) (x : ℤ) (v : ℕ)
     → list_any (λ part. is_replica_in part x v) (parts_of ring nodes factors) ≡ is_replica_of_any (map (datacenter_group nodes) factors) x ring v
 parts_replicas ring nodes [] x v = refl
 parts_replicas ring nodes (f ∷ factors) x v = ap (λ b. is_replica (datacenter_group nodes f) x ring v || b) (parts_replicas ring nodes factors x v)
-
-pub part_more : (parts : List RingPart) (k : ℕ) (part : RingPart) (x : ℤ) (v : ℕ) → k < length parts
-    → list_any (λ p. is_replica_in p x v) (take (suc k) parts) ≡ (list_any (λ p. is_replica_in p x v) (take k parts) || is_replica_in (get_or parts k part) x v)
-part_more [] k part x v lt = absurd (omega arith)
-part_more (p ∷ parts) zero part x v lt = or-false (is_replica_in p x v)
-part_more (p ∷ parts) (suc k) part x v lt =
-    ap (λ b. is_replica_in p x v || b) (part_more parts k part x v (omega arith))
-    ∙ sym (or_assoc (is_replica_in p x v) (list_any (λ q. is_replica_in q x v) (take k parts)) (is_replica_in (get_or parts k part) x v))

@@ -7,14 +7,14 @@ use Rattle.cluster_terms.specs.Group.{Group, nodes_of, place, is_replica, is_rep
 use Rattle.cluster_terms.specs.Replication.{datacenter_group}
 use Rattle.cluster_terms.specs.declared.node.NodeRow.{NodeRow}
 use Rattle.cluster_terms.specs.declared.token.Pair.{Pair}
-use Rattle.cluster_terms.proofs.GroupLemmas.{has}
-use Rattle.cluster_terms.proofs.PlacementLemmas.{nodes_of-append, placed_by}
+use Rattle.cluster_terms.proofs.placement.GroupLemmas.{has}
+use Rattle.cluster_terms.proofs.placement.PlacementLemmas.{nodes_of-append, placed_by}
 use Rattle.token_ring.proofs.PlaceLemmas.{replica_on_walk}
 use Rattle.token_ring.proofs.RingLemmas.{walk_from}
 use Rattle.token_ring.specs.Ring.{IsRing, IsFirstAt}
 use Rattle.topology_strategy.proofs.GroupWalks.{has-taken_along, found_after-append}
 use Rattle.node_directory.specs.Shape.{shape_of}
-use Rattle.topology_strategy.specs.Shape.{shapes_of}
+use Rattle.topology_strategy.specs.DatacenterShapes.{shapes_of}
 use Rattle.topology_strategy.specs.Walk.{Found, found_after, taken_along, taken_in_all}
 use Rattle.node_directory.specs.declared.shape.Shape.{Shape}
 

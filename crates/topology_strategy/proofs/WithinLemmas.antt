@@ -10,12 +10,13 @@ use Rattle.std.specs.Str.{bytes_eq}
 use Rattle.cluster_terms.specs.Arc.{in_arc}
 use Rattle.cluster_terms.specs.Group.{Group, nodes_of, ahead_of, is_first, is_chosen, is_chosen_at, is_replica}
 use Rattle.cluster_terms.specs.declared.token.Pair.{Pair}
-use Rattle.cluster_terms.proofs.GroupLemmas.{is_chosen_by, is_chosen_rack-by}
-use Rattle.cluster_terms.proofs.PlacementLemmas.{any-filter}
+use Rattle.cluster_terms.proofs.placement.GroupLemmas.{is_chosen_by, is_chosen_rack-by}
+use Rattle.cluster_terms.proofs.placement.PlacementLemmas.{any-filter}
 use Rattle.node_directory.specs.Shape.{shape_of}
 use Rattle.node_directory.specs.Tally.{racks_in}
-use Rattle.topology_strategy.specs.RackedPairs.{HaveRacks, pairs_within}
-use Rattle.topology_strategy.specs.Walk.{Found, found_after, found_among, found_at, found_with}
+use Rattle.topology_strategy.specs.code.RackedPairs.{HaveRacks, pairs_within}
+use Rattle.topology_strategy.specs.Walk.{Found, found_after, found_at, found_with}
+use Rattle.topology_strategy.specs.code.WalkAmong.{found_among}
 
 -- two filters, in any order
 filters_swapped : {X : Type 0} (f h : X → Bool) (xs : List X) → filter f (filter h xs) ≡ filter h (filter f xs)

@@ -1,5 +1,5 @@
 pub mod DatacenterRing
+pub mod DatacenterShapes
 pub mod GroupedRing
-pub mod RackedPairs
-pub mod Shape
 pub mod Walk
+pub mod code

@@ -8,7 +8,7 @@ use Rattle.cluster_terms.specs.Replication.{datacenter_group}
 use Rattle.cluster_terms.specs.declared.node.NodeRow.{NodeRow}
 use Rattle.cluster_terms.specs.declared.token.Pair.{Pair}
 use Rattle.node_directory.specs.declared.shape.Shape.{Shape}
-use Rattle.topology_strategy.specs.Shape.{shapes_of}
+use Rattle.topology_strategy.specs.DatacenterShapes.{shapes_of}
 
 -- the nodes that are taken, the racks that are seen, and how many further nodes of seen racks may be taken
 pub record Found : Type 0 where
@@ -34,12 +34,6 @@ found_with wanted n (Some rack) found = if nat_lt (length found.taken) wanted th
 abbrev pub found_after : Group → ℕ → List ℕ → Found → Found
 found_after g wanted [] found = found
 found_after g wanted (n ∷ ns) found = found_after g wanted ns (found_with wanted n (g.rack_of n) found)
-
--- the walk after several nodes of the group are met, which have these racks (of the code: no promise rests on it)
-abbrev pub found_among : ℕ → List ℕ → List (List ℕ) → Found → Found
-found_among wanted [] racks found = found
-found_among wanted (n ∷ ns) [] found = found
-found_among wanted (n ∷ ns) (rack ∷ racks) found = found_among wanted ns racks (found_with wanted n (Some rack) found)
 
 -- the nodes that a walk along ns takes in a group of this shape
 abbrev pub taken_along : List ℕ → Group → Shape → List ℕ

@@ -2,7 +2,7 @@
 
 ghost use Rattle.std.specs.Prelude.{◌≡◌, ◌||◌, ℕ, IfOk, OnOk};
 ghost use Rattle.node_sets.specs.NodeSets.{IsNodeSet, has_node};
-ghost use Rattle.topology_strategy.specs.DatacenterRing.{is_replica_in};
+ghost use Rattle.topology_strategy.specs.code.RingParts.{is_replica_in};
 
 use crate::racked_pairs::{RackedPairs, first_at, racked_pairs};
 use crate::walk::Walk;
@@ -33,8 +33,8 @@ impl<'a> Model for DatacenterRing<'a> {
     ghost use Rattle.node_directory.specs.Shape.{shape_of};
     ghost use Rattle.token_ring.specs.Ring.{IsRing};
     ghost use Rattle.topology_strategy.specs.DatacenterRing.{RingPart};
-    ghost use Rattle.topology_strategy.specs.RackedPairs.{AreWithin};
-    ghost use Rattle.topology_strategy.specs.Shape.{IsFew};
+    ghost use Rattle.topology_strategy.specs.code.RackedPairs.{AreWithin};
+    ghost use Rattle.topology_strategy.specs.code.FewReplicas.{IsFew};
 
     ghost Value = { RingPart };
 
@@ -49,8 +49,8 @@ impl<'a> Model for DatacenterRing<'a> {
 impl<'a> DatacenterRing<'a> {
     /// The tokens of a datacenter in a ring, where the datacenter is to have `rf` replicas.
     ///
-    /// Costs a look-up in the directory for each pair of the ring, and the pass over the ring that counts the
-    /// datacenter's nodes and racks.
+    /// Costs a look-up in the directory for each pair of the ring, and a pass over the datacenter's pairs that counts its
+    /// nodes and racks.
     pub fn new(
         alloc: Global,
         ring: &'a Ring,
@@ -63,7 +63,7 @@ impl<'a> DatacenterRing<'a> {
     {
         let members = Members::Datacenter(dir, name, rf);
         let racked = racked_pairs(alloc, &members, ring.pairs())?;
-        let shape = shape_of(&members, ring.pairs());
+        let shape = shape_of(&members, &racked.pairs);
         Ok(DatacenterRing {
             ring,
             dir,
@@ -75,8 +75,8 @@ impl<'a> DatacenterRing<'a> {
     }
 
     /// Adds the replicas that the datacenter has at a token to a set: the nodes that the walk from the token takes.
-    /// Takes memory only for more than 7 nodes. If memory runs out, the set is unchanged. The cost is a binary search,
-    /// the walk, and that of `NodeSet::with_all`.
+    /// Takes memory only for more than 7 nodes. If memory runs out, some of the nodes may be added. The cost is a binary
+    /// search, the walk, and that of `NodeSet::add_all`.
     pub fn place_at(&self, t: Token, placed: &mut NodeSet) -> Result<(), Memory>
         ensures ascend { OnOk result (IsNodeSet placed.new) }
         ensures nodes { OnOk result ((v : ℕ) → has_node placed.new v
@@ -89,7 +89,7 @@ impl<'a> DatacenterRing<'a> {
         let mut walk = Walk::begin(self.shape);
         walk.go_among(self.shape.wanted, rest, rest_racks);
         walk.go_among(self.shape.wanted, front, front_racks);
-        *placed = placed.with_all(walk.nodes())?;
+        placed.add_all(walk.nodes())?;
         Ok(())
     }
 }

@@ -4,7 +4,7 @@ ghost use Rattle.std.specs.Prelude.{◌≡◌, ◌<◌, ◌≤◌, ◌<ℤ◌, �
 ghost use Rattle.std.specs.List.Sorted.{IsPartitionPoint};
 ghost use Rattle.node_directory.specs.Members.{group_of};
 ghost use Rattle.token_ring.specs.Ring.{IsRing, IsFirstAt};
-ghost use Rattle.topology_strategy.specs.RackedPairs.{AreWithin};
+ghost use Rattle.topology_strategy.specs.code.RackedPairs.{AreWithin};
 
 use cluster_terms::{Memory, Pair, Token};
 use node_directory::Members;

@@ -17,7 +17,7 @@ use token_ring::Ring;
 /// is taken already, is in another datacenter, or isn't registered. It takes a node of a new rack, and a node of a seen
 /// rack while such repeats are left. The taken nodes are the placement, which is defined by counting.
 ///
-/// The cost is that of [`DividedRing::new`] and of [`DividedRing::replicas`]. Counts one step of `walks`, even on an
+/// The cost is that of [`DividedRing::new`] and of [`DividedRing::replicas`]. Adds one to `walks`, even on an
 /// error.
 pub fn replicas<L: Ledger>(
     alloc: Global,

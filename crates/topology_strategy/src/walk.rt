@@ -2,7 +2,8 @@ ghost use Rattle.std.specs.Prelude.{◌≡◌, ◌<◌, ◌≤◌, [], length, n
 ghost use Rattle.std.specs.Set.{is_member};
 ghost use Rattle.cluster_terms.specs.Group.{nodes_of};
 ghost use Rattle.node_directory.specs.Tally.{racks_in};
-ghost use Rattle.topology_strategy.specs.Walk.{found_among, found_at};
+ghost use Rattle.topology_strategy.specs.Walk.{found_at};
+ghost use Rattle.topology_strategy.specs.code.WalkAmong.{found_among};
 
 use cluster_terms::{Few, NodeId, Pair};
 use node_directory::{Shape, has_rack};

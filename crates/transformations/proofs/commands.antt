@@ -1,6 +1,5 @@
 -- Commands that are accepted, and the refusals of others.
 pub mod AcceptedLemmas
-pub mod CountedLemmas
-pub mod EarlyRefusals
+pub mod DatacenterGroupLemmas
 pub mod RefusalLemmas
 pub mod SameLemmas

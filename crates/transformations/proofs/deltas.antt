@@ -1,12 +1,8 @@
 -- What movements gain and lose: nothing outside their ranges, and the same whatever others do in between. Commands
 -- change reads and writes by it.
-pub mod ChangedByCommands
-pub mod ChangedOutcomes
 pub mod DeltaRows
 pub mod DeltasAfter
 pub mod DoneDeltas
 pub mod KeptDeltas
-pub mod OutcomesAfter
 pub mod OutsideDeltas
-pub mod SetChanges
 pub mod StepDeltas

@@ -1,6 +1,5 @@
 -- Histories, and the images that they lead to.
 pub mod HistoryLemmas
-pub mod HistoryMeetings
 pub mod LogLemmas
 pub mod SoundLemmas
 pub mod ValidLemmas

@@ -1,3 +1,2 @@
 -- The nodes of a cluster.
 pub mod NodeLemmas
-pub mod RegisteredLemmas

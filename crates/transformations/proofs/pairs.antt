@@ -1,6 +1,6 @@
 -- The pairs of rings, and their tokens.
 pub mod OwnedLemmas
+pub mod PairSearch
 pub mod RingPairs
-pub mod SearchLemmas
 pub mod SwapLemmas
 pub mod WidestLemmas

@@ -1,10 +1,9 @@
 -- The ranges of movements: which tokens they have, what keeps them, and what is placed by them.
-pub mod ApartLemmas
 pub mod KeptNodes
 pub mod KeptRanges
 pub mod KeptSteps
-pub mod LockedLemmas
 pub mod MovementRanges
+pub mod MovementsApart
 pub mod OutcomeLemmas
 pub mod PreparedLemmas
 pub mod RangesKept

@@ -9,7 +9,7 @@ use Rattle.transformations.specs.History.{next_image}
 use Rattle.transformations.specs.Ranges.{moved_by}
 use Rattle.transformations.specs.Refusals.{prepared_by}
 use Rattle.transformations.specs.Rings.{cuts, reads_at, writes_at}
-use Rattle.transformations.specs.Steps.{movement_of, same_phase}
+use Rattle.transformations.specs.Movements.{movement_of, same_phase}
 use Rattle.transformations.specs.declared.command.Command.{Command}
 use Rattle.transformations.specs.declared.command.Command.TheVariants.{Step, Cancel}
 use Rattle.transformations.specs.declared.image.Image.{Image}

@@ -3,12 +3,12 @@
 use Rattle.std.specs.Prelude.{◌≡◌, ℕ, ℤ, List, [], Option, Some, None}
 use Rattle.std.specs.List.{AllByRecursion}
 use Rattle.cluster_terms.specs.Arc.{IsToken}
-use Rattle.cluster_terms.specs.NodeSets.{with_change}
+use Rattle.cluster_terms.specs.IdSets.{with_change}
 use Rattle.cluster_terms.specs.declared.replication.Replication.{Replication}
-use Rattle.transformations.specs.Deltas.{gained_at, lost_at}
+use Rattle.transformations.specs.MovementDeltas.{gained_at, lost_at}
 use Rattle.transformations.specs.History.{next_image}
 use Rattle.transformations.specs.Rings.{reads_at, writes_at}
-use Rattle.transformations.specs.Steps.{movement_of}
+use Rattle.transformations.specs.Movements.{movement_of}
 use Rattle.transformations.specs.declared.command.Command.{Command}
 use Rattle.transformations.specs.declared.command.Command.TheVariants.{Step, Cancel}
 use Rattle.transformations.specs.declared.image.Image.{Image}

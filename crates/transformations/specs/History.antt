@@ -5,7 +5,7 @@ use Rattle.cluster_terms.specs.Ascending.{put, put_all}
 use Rattle.cluster_terms.specs.declared.node.NodeRow.{NodeRow}
 use Rattle.transformations.specs.Orders.{by_token, by_name}
 use Rattle.transformations.specs.Refusals.{refusal_of, with_movement}
-use Rattle.transformations.specs.Steps.{pairs_of, join_of, move_of, leave_of, replace_of, stepped, cancelled}
+use Rattle.transformations.specs.Movements.{pairs_of, join_of, move_of, leave_of, replace_of, stepped, cancelled}
 use Rattle.transformations.specs.declared.command.Command.{Command}
 use Rattle.transformations.specs.declared.command.Command.TheVariants.{Register, Unregister, UnsafeJoin, Keyspace, DropKeyspace, PrepareJoin, PrepareMove, PrepareLeave, PrepareReplace, Step, Cancel}
 use Rattle.transformations.specs.declared.image.Image.{Image}

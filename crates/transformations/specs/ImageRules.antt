@@ -19,7 +19,7 @@ use Rattle.transformations.specs.Ranges.{is_shared}
 use Rattle.transformations.specs.Refusals.{most_nodes, most_tokens, most_keyspaces, other_rack}
 use Rattle.transformations.specs.Rings.{cuts, incoming, widest}
 use Rattle.transformations.specs.States.{owns_tokens, node_tokens}
-use Rattle.transformations.specs.Steps.{first_node, owned, pairs_of, takes_part}
+use Rattle.transformations.specs.Movements.{first_node, owned, pairs_of, takes_part}
 use Rattle.transformations.specs.Valid.{brought_by, is_standing}
 use Rattle.transformations.specs.declared.image_rules.BadImage.{BadImage}
 use Rattle.transformations.specs.declared.image.Image.{Image}

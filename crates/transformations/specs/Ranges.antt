@@ -15,7 +15,7 @@ use Rattle.cluster_terms.specs.declared.row.TokenRange.{TokenRange}
 use Rattle.cluster_terms.specs.declared.token.Pair.{Pair}
 use Rattle.cluster_terms.specs.declared.token.RightEnd.{RightEnd}
 use Rattle.transformations.specs.Rings.{fixed_ring, widest, cuts, low_ring, read_ring, high_ring, is_mid, has_started, reads_at, writes_at}
-use Rattle.transformations.specs.Steps.{movement_of, others}
+use Rattle.transformations.specs.Movements.{movement_of, others}
 use Rattle.transformations.specs.declared.image.Image.{Image}
 use Rattle.transformations.specs.declared.sequence.SeqRow.{SeqRow}
 

@@ -15,7 +15,7 @@ use Rattle.transformations.specs.Orders.{by_node}
 use Rattle.transformations.specs.Ranges.{IsLockedBy, first_shared}
 use Rattle.transformations.specs.Rings.{widest}
 use Rattle.transformations.specs.States.{owns_tokens, node_state, node_tokens}
-use Rattle.transformations.specs.Steps.{join_of, move_of, leave_of, replace_of, movement_of, takes_part, is_next_step, others}
+use Rattle.transformations.specs.Movements.{join_of, move_of, leave_of, replace_of, movement_of, takes_part, is_next_step, others}
 use Rattle.transformations.specs.declared.command.Command.{Command}
 use Rattle.transformations.specs.declared.command.Command.TheVariants.{Register, Unregister, UnsafeJoin, Keyspace, DropKeyspace, PrepareJoin, PrepareMove, PrepareLeave, PrepareReplace, Step, Cancel}
 use Rattle.transformations.specs.declared.image.Image.{Image}

@@ -13,7 +13,7 @@ use Rattle.transformations.specs.Orders.{by_token, by_name, by_node}
 use Rattle.transformations.specs.Ranges.{AreApart}
 use Rattle.transformations.specs.Refusals.{most_nodes, most_tokens, most_keyspaces, other_rack}
 use Rattle.transformations.specs.States.{owns_tokens, node_tokens}
-use Rattle.transformations.specs.Steps.{owned, pairs_of, takes_part}
+use Rattle.transformations.specs.Movements.{owned, pairs_of, takes_part}
 use Rattle.transformations.specs.declared.image.Image.{Image}
 use Rattle.transformations.specs.declared.sequence.Kind.{Kind}
 use Rattle.transformations.specs.declared.sequence.Kind.TheVariants.{Join, Move, Leave, Replace}

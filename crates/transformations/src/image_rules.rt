@@ -2,7 +2,7 @@
 
 ghost use Rattle.std.specs.Prelude.{◌≡◌, None, IfOk};
 ghost use Rattle.transformations.specs.ImageRules.{broken, broken_rule, rule_2, rule_3, rule_7, rule_14};
-ghost use Rattle.transformations.specs.RuleGroups.{keyspaces_broken, movements_broken, nodes_broken, numbers_broken, repeats_broken, ring_broken};
+ghost use Rattle.transformations.specs.code.RuleGroups.{keyspaces_broken, movements_broken, nodes_broken, numbers_broken, repeats_broken, ring_broken};
 
 use crate::image::Image;
 use crate::movement_rules::{mover_missing, node_falls, node_repeats, token_repeats, unfit};

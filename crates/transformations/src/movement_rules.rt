@@ -6,12 +6,12 @@ ghost use Rattle.std.specs.List.{list_any, AllByRecursion};
 ghost use Rattle.std.specs.List.Sorted.{IsStrictlyIncreasing, IsStrictlySortedBy};
 ghost use Rattle.std.specs.Ordering.{int_cmp, int_eq};
 ghost use Rattle.transformations.specs.ImageRules.{first_bad, fits, node_repeats, rule_7, rule_12, rule_13, rule_14, rule_15, rule_16, token_repeats};
-ghost use Rattle.transformations.specs.OneNode.{IsOfOneNode, is_in, meets};
+ghost use Rattle.transformations.specs.code.OneNode.{IsOfOneNode, is_in, meets};
 ghost use Rattle.transformations.specs.Orders.{by_token};
 ghost use Rattle.transformations.specs.Valid.{brought_by};
 
-use crate::fitting::{first_node, fits};
 use crate::image::Image;
+use crate::movement_fit::{first_node, fits};
 use crate::node_search::is_standing;
 use crate::pair_search::finds;
 use crate::rule_search::first_fall;

@@ -6,7 +6,7 @@ ghost use Rattle.std.specs.List.Sorted.{IsStrictlyIncreasing};
 ghost use Rattle.std.specs.Option.{option_copied};
 ghost use Rattle.std.specs.Set.{is_member};
 ghost use Rattle.cluster_terms.specs.Group.{nodes_of};
-ghost use Rattle.transformations.specs.Counted.{different_in, is_in_group, is_short_at};
+ghost use Rattle.transformations.specs.code.DatacenterGroups.{different_in, is_in_group, is_short_at};
 ghost use Rattle.transformations.specs.Refusals.{is_too_few, no_tokens, not_one_token, other_rack, same_place, too_few_nodes};
 ghost use Rattle.transformations.specs.Valid.{IsSound};
 
@@ -38,7 +38,7 @@ fn count_tokens(image: &Image, n: NodeId) -> usize
 }
 
 /// `NotOneToken` with the number of the node's tokens, if it isn't 1. Returns `Err` if and only if it is 2^32 or more.
-#[tactic(auto, using(crate::proofs::commands::CountedLemmas::not_one_counted))]
+#[tactic(auto, using(crate::proofs::commands::DatacenterGroupLemmas::not_one_counted))]
 pub(crate) fn not_one_token(image: &Image, n: NodeId) -> Result<Option<Refusal>, Memory>
     ensures { IfOk result (λ found. found ≡ not_one_token image.now n) }
 {
@@ -131,7 +131,7 @@ fn is_short_in_any(image: &Image, n: NodeId, rows: &[(Name, Rf)]) -> bool
 }
 
 /// Whether, under a keyspace, `is_short_in` holds for any of its groups.
-#[tactic(auto, using(crate::proofs::commands::CountedLemmas::few_simple, crate::proofs::commands::CountedLemmas::few_topology))]
+#[tactic(auto, using(crate::proofs::commands::DatacenterGroupLemmas::few_simple, crate::proofs::commands::DatacenterGroupLemmas::few_topology))]
 fn is_too_few(image: &Image, n: NodeId, row: &KeyspaceRow) -> bool
     requires { IsSound image.now }
     ensures { result ≡ is_too_few image.now n row.now }
@@ -154,7 +154,7 @@ fn first_too_few(image: &Image, n: NodeId) -> Option<&KeyspaceRow>
 /// `TooFewNodes` with the first keyspace under which a group of the node has no more nodes with tokens than it is to
 /// have replicas. For each group of the node, the cost is a binary search for each pair of the ring up to the one that
 /// shows that it has more, unless the pair's node is found already.
-#[tactic(auto, using(crate::proofs::commands::CountedLemmas::too_few_found, crate::proofs::commands::CountedLemmas::too_few_none))]
+#[tactic(auto, using(crate::proofs::commands::DatacenterGroupLemmas::too_few_found, crate::proofs::commands::DatacenterGroupLemmas::too_few_none))]
 pub(crate) fn too_few_nodes(image: &Image, n: NodeId) -> Result<Option<Refusal>, Memory>
     requires { IsSound image.now }
     ensures { IfOk result (λ found. found ≡ too_few_nodes image.now n) }

@@ -8,13 +8,13 @@ ghost use Rattle.transformations.specs.declared.command.Command.TheVariants as c
 
 use crate::command::Command;
 use crate::image::Image;
+use crate::movement_search::{is_next_step, movement_of, takes_part};
 use crate::node_search::row_among;
 use crate::pair_search::finds;
 use crate::prepares::{no_tokens, not_one_token, other_rack, too_few_nodes};
 use crate::refusal::Refusal;
 use crate::sequence::{Goal, Kind, SeqRow};
 use crate::state::{NodeState, state_of};
-use crate::steps::{is_next_step, movement_of, takes_part};
 use crate::token_count::{count_all, tokens_with};
 use cluster_terms::{Memory, Name, NodeId, Pair, Token};
 use std::alloc::Global;
@@ -237,7 +237,7 @@ fn not_ready(image: &Image, n: NodeId) -> Option<Refusal>
 }
 
 /// The first refusal of a node that isn't registered, takes part in a movement, or isn't in state `Joined`.
-fn not_settled(image: &Image, n: NodeId) -> Option<Refusal>
+fn not_joined(image: &Image, n: NodeId) -> Option<Refusal>
     requires { IsSound image.now }
     ensures { result ≡ first_of
         (no_node image.now n ∷ in_sequence image.now n ∷ wrong_state may_move_or_leave image.now n ∷ []) }
@@ -389,7 +389,7 @@ fn prepare_move(
     requires { IsSound image.now }
     ensures { IfOk result (λ found. found ≡ early_refusal_of image.now (command.PrepareMove node token)) }
 {
-    if let Some(refusal) = not_settled(image, node) {
+    if let Some(refusal) = not_joined(image, node) {
         return Ok(Some(refusal));
     }
     if let Some(refusal) = not_one_token(image, node)? {
@@ -404,7 +404,7 @@ fn prepare_leave(image: &Image, node: NodeId) -> Result<Option<Refusal>, Memory>
     requires { IsSound image.now }
     ensures { IfOk result (λ found. found ≡ early_refusal_of image.now (command.PrepareLeave node)) }
 {
-    if let Some(refusal) = not_settled(image, node) {
+    if let Some(refusal) = not_joined(image, node) {
         return Ok(Some(refusal));
     }
     too_few_nodes(image, node)

@@ -3,7 +3,7 @@
 ghost use Rattle.std.specs.Prelude.{◌≡◌, ◌<◌, ℕ, None, find, get_or, length, map, nat_lt, option_map, pos, IfOk};
 ghost use Rattle.std.specs.List.Sorted.{IsStrictlyIncreasing};
 ghost use Rattle.transformations.specs.ImageRules.{rule_3, rule_7, rule_8, rule_9, rule_10, rule_11, rule_17};
-ghost use Rattle.transformations.specs.Steps.{owned};
+ghost use Rattle.transformations.specs.Movements.{owned};
 
 use crate::image::Image;
 use crate::node_search::is_standing;

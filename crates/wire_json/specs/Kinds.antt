@@ -127,7 +127,3 @@ command_of value = option_and_then (λ word. command_named kinds word value) (te
 
 abbrev pub command_at : List ℕ → Data → Option Command
 command_at key value = option_and_then command_of (get key value)
-
--- the command with this word and this node, if its only argument is a node (of the code: no promise rests on it)
-abbrev pub command_on : List ℕ → ℕ → Option Command
-command_on word node = option_map (λ row. row.1 node) (find (λ row. bytes_eq word row.0) node_commands)

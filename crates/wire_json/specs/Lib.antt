@@ -1,9 +1,9 @@
 pub mod Entries
+pub mod EntryTexts
 pub mod Kinds
 pub mod LineImages
-pub mod Members
 pub mod Reading
 pub mod SnapshotTexts
 pub mod Snapshots
-pub mod Texts
 pub mod Values
+pub mod code

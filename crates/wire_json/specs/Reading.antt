@@ -1,5 +1,5 @@
 -- The entry or the image in a line of a file, or the first rule that the line breaks.
-use Rattle.std.specs.Prelude.{ℕ, ◌≡◌, ◌≤◌, Bool, ◌&&◌, if◌then◌else◌, List, [], ◌∷◌, length, Option, Some, None, Result, Ok, Err, option_and_then, ok_or, nat_le, codes, ⊤, IsTrue}
+use Rattle.std.specs.Prelude.{ℕ, ◌≤◌, Bool, ◌&&◌, if◌then◌else◌, List, [], ◌∷◌, length, Option, Some, None, Result, Ok, Err, option_and_then, ok_or, nat_le, codes, ⊤, IsTrue}
 use Rattle.std.specs.Str.{is_utf8}
 use Rattle.serde_json.specs.Data.{Data}
 use Rattle.serde_json.specs.Read.{read}
@@ -11,7 +11,7 @@ use Rattle.wire_json.specs.Values.{has_keys, number_at}
 use Rattle.wire_json.specs.declared.line.Line.{Line}
 use Rattle.wire_json.specs.declared.line.Line.TheVariants.{Entry, Snapshot}
 use Rattle.wire_json.specs.declared.line.ReadLineFault.{ReadLineFault}
-use Rattle.wire_json.specs.declared.line.ReadLineFault.TheVariants.{Bad, Memory}
+use Rattle.wire_json.specs.declared.line.ReadLineFault.TheVariants.{Bad}
 
 -- continues with the value of a step, unless the step broke a rule
 infixl 10 ◌>>=◌
@@ -25,13 +25,6 @@ holds rule test = if test then Ok tt else Err (Bad rule)
 
 abbrev pub found : {A : Type 0} → ℕ → Option A → Result A ReadLineFault
 found rule o = ok_or o (Bad rule)
-
--- the result of a function, seen through `view`, is the result given by a definition, unless memory ran out (of the
--- code: no promise rests on it)
-abbrev pub Gives : {X Y : Type 0} → (X → Y) → Result X ReadLineFault → Result Y ReadLineFault → Type 0
-Gives view (Ok x) given = given ≡ Ok (view x)
-Gives view (Err Memory) given = ⊤
-Gives view (Err (Bad rule)) given = given ≡ Err (Bad rule)
 
 -- the most bytes of a line, without its line feed
 abbrev pub most_bytes : ℕ

@@ -8,7 +8,7 @@ use Rattle.serde_json.specs.Written.{compact_text}
 use Rattle.transformations.specs.declared.image.Image.{Image}
 use Rattle.transformations.specs.declared.keyspace.KeyspaceRow.{KeyspaceRow}
 use Rattle.transformations.specs.declared.sequence.SeqRow.{SeqRow}
-use Rattle.wire_json.specs.Texts.{movement_word, phase_word, token_data, with_list, with_number, with_text}
+use Rattle.wire_json.specs.EntryTexts.{movement_word, phase_word, token_data, with_list, with_number, with_text}
 
 -- [token,node]
 abbrev pub pair_data : Pair → Data

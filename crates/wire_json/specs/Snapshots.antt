@@ -12,7 +12,7 @@ use Rattle.transformations.specs.declared.sequence.Kind.TheVariants.{Join, Move,
 use Rattle.transformations.specs.declared.sequence.Phase.{Phase}
 use Rattle.transformations.specs.declared.sequence.Phase.TheVariants.{Prepared, Started, Mid}
 use Rattle.transformations.specs.declared.sequence.SeqRow.{SeqRow}
-use Rattle.wire_json.specs.Texts.{movement_word, phase_word}
+use Rattle.wire_json.specs.EntryTexts.{movement_word, phase_word}
 use Rattle.wire_json.specs.Values.{has_keys, each_at, flag_at, name_at, node_at, node_in, number_at, replication_at, text_at, token_of}
 
 -- continues with the value, if there is one

@@ -4,9 +4,9 @@ ghost use Rattle.std.specs.Prelude.{◌≡◌, ◌++◌, IfOk};
 ghost use Rattle.cluster_terms.specs.ReplicationText.{text_of};
 ghost use Rattle.serde_json.specs.Data.{string};
 ghost use Rattle.serde_json.specs.View.{view};
-ghost use Rattle.wire_json.specs.Texts as spec;
+ghost use Rattle.wire_json.specs.EntryTexts as spec;
 
-use crate::lists::list_value;
+use crate::json_lists::list_value;
 use cluster_terms::{ByteText, Memory, Name, NodeId, Replication, TokenList};
 use serde_json::{Value, json};
 use std::alloc::Global;

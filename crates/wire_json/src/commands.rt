@@ -4,9 +4,10 @@ ghost use Rattle.std.specs.Prelude.{◌≡◌, Some, IfOk};
 ghost use Rattle.serde_json.specs.View.{view};
 ghost use Rattle.transformations.specs.declared.command.Command.TheVariants.{Step};
 ghost use Rattle.wire_json.specs.Kinds as spec;
+ghost use Rattle.wire_json.specs.code.NodeCommands as code;
 
-use crate::members::{four_at, three_at, two_at};
-use crate::tokens::tokens_in;
+use crate::object_members::{four_at, three_at, two_at};
+use crate::token_lists::tokens_in;
 use crate::values::{name_in, node_in, replication_in, text_at, token_of};
 use cluster_terms::{Memory, NodeId};
 use serde_json::Value;
@@ -152,7 +153,7 @@ fn step(goal: Goal, kind: Kind, node: NodeId) -> Option<Command>
 
 /// The command with this word and this node, if its only argument is a node.
 fn command_on(word: &str, node: NodeId) -> Option<Command>
-    ensures { result ≡ spec.command_on word.now node }
+    ensures { result ≡ code.command_on word.now node }
 {
     match word {
         _ if word == "unregister" => Some(Command::Unregister { node }),
@@ -175,7 +176,7 @@ fn command_on(word: &str, node: NodeId) -> Option<Command>
 }
 
 /// Reads a command whose only argument is a node.
-#[tactic(auto, using(crate::proofs::KindsLemmas::no_node_command, crate::proofs::KindsLemmas::node_command))]
+#[tactic(auto, using(crate::proofs::json_values::KindsLemmas::no_node_command, crate::proofs::json_values::KindsLemmas::node_command))]
 fn node_command_of(word: &str, value: &Value) -> Option<Command>
     ensures { result ≡ spec.command_named spec.node_kinds word.now (view value.now) }
 {

@@ -3,18 +3,18 @@
 
 mod command_values;
 mod commands;
+mod json_lists;
 mod line;
-mod lists;
-mod members;
-mod reading;
+mod line_reading;
+mod object_members;
+mod snapshot_reading;
 mod snapshot_values;
-mod snapshots;
-mod tokens;
+mod token_lists;
 mod validity;
 mod values;
 mod writing;
 
 pub use line::{Line, ReadLineFault};
-pub use reading::read_line;
+pub use line_reading::read_line;
 pub use validity::{entries_read_back, images_read_back, sound_images_fit};
 pub use writing::{entry_line, snapshot_line};

@@ -3,10 +3,10 @@
 ghost use Rattle.std.specs.Prelude.{◌≡◌, IfOk};
 ghost use Rattle.serde_json.specs.View.{view};
 ghost use Rattle.wire_json.specs.SnapshotTexts as spec;
-ghost use Rattle.wire_json.specs.Texts.{movement_word, phase_word};
+ghost use Rattle.wire_json.specs.EntryTexts.{movement_word, phase_word};
 
 use crate::command_values::replication_value;
-use crate::lists::{Written, list_value};
+use crate::json_lists::{Written, list_value};
 use cluster_terms::{Memory, NodeRow, Pair};
 use serde_json::{Value, json};
 use std::alloc::Global;

@@ -8,19 +8,19 @@ ghost use Rattle.wire_json.specs.Entries.{IsEntry};
 ghost use Rattle.wire_json.specs.LineImages.{FitsLine};
 ghost use Rattle.wire_json.specs.Reading.{most_bytes, reading};
 ghost use Rattle.wire_json.specs.SnapshotTexts.{image_text};
-ghost use Rattle.wire_json.specs.Texts.{entry_text};
+ghost use Rattle.wire_json.specs.EntryTexts.{entry_text};
 ghost use Rattle.wire_json.specs.declared.line.Line.TheVariants as line;
 
 /// Reading the text of an entry gives the entry back, for each entry that a log may hold: its epoch is from 1 to
 /// 65,536, and the tokens of its command, if it lists any, are 1 to 256 and ascend.
-#[tactic(auto, using(crate::proofs::EntriesReadBack::entry_reads_back))]
+#[tactic(auto, using(crate::proofs::entries::EntriesReadBack::entry_reads_back))]
 pub fn entries_read_back()
     ensures { (entry : Entry) → IsEntry entry → reading (entry_text entry) ≡ Ok (line.Entry entry) }
 {}
 
 /// Reading the text of an image gives the image back, if its values fit a line and its text isn't longer than a line
 /// may be. The image needn't be valid.
-#[tactic(auto, using(crate::proofs::ImagesReadBack::image_reads_back))]
+#[tactic(auto, using(crate::proofs::images::ImagesReadBack::image_reads_back))]
 pub fn images_read_back()
     ensures { (image : Image) → FitsLine image → length (image_text image) ≤ most_bytes
         → reading (image_text image) ≡ Ok (line.Snapshot image) }
@@ -28,7 +28,7 @@ pub fn images_read_back()
 
 /// The text of a sound image isn't longer than a line may be, if its values fit a line: so reading it gives the image
 /// back.
-#[tactic(auto, using(crate::proofs::ImageSizes::sound_fits))]
+#[tactic(auto, using(crate::proofs::images::ImageSizes::sound_fits))]
 pub fn sound_images_fit()
     ensures { (image : Image) → FitsLine image → IsSound image → length (image_text image) ≤ most_bytes }
 {}

@@ -2,7 +2,7 @@
 
 ghost use Rattle.std.specs.Prelude.{◌≡◌, map, option_map, IfOk};
 ghost use Rattle.serde_json.specs.View.{members_view, view};
-ghost use Rattle.wire_json.specs.Members.{name_in, replication_in};
+ghost use Rattle.wire_json.specs.code.ObjectMembers.{name_in, replication_in};
 ghost use Rattle.wire_json.specs.Values as spec;
 
 use cluster_terms::{Memory, Name, NodeId, Replication, Token};

@@ -3,7 +3,7 @@
 ghost use Rattle.std.specs.Prelude.{◌≡◌, IfOk};
 ghost use Rattle.serde_json.specs.View.{view};
 ghost use Rattle.wire_json.specs.SnapshotTexts as snapshot;
-ghost use Rattle.wire_json.specs.Texts as spec;
+ghost use Rattle.wire_json.specs.EntryTexts as spec;
 
 use crate::command_values::command_value;
 use crate::snapshot_values::snapshot_value;
@@ -16,7 +16,7 @@ use transformations::{Entry, Image};
 /// has exactly one such line. `entries_read_back` tells which entries `read_line` reads back from it.
 ///
 /// Fails only if memory runs out. The cost is a pass over the entry.
-#[tactic(auto, using(crate::proofs::EntryFloats::no_float), unfolding(crate::specs::Texts::entry_text))]
+#[tactic(auto, using(crate::proofs::entries::EntryFloats::no_float), unfolding(crate::specs::EntryTexts::entry_text))]
 pub fn entry_line(alloc: Global, entry: &Entry) -> Result<ByteText, Memory>
     ensures { IfOk result (λ line. line ≡ spec.entry_line entry.now) }
 {
@@ -31,7 +31,7 @@ pub fn entry_line(alloc: Global, entry: &Entry) -> Result<ByteText, Memory>
 /// it.
 ///
 /// Fails only if memory runs out. The cost is a pass over the image.
-#[tactic(auto, using(crate::proofs::ImageFloats::no_float), unfolding(crate::specs::SnapshotTexts::image_text))]
+#[tactic(auto, using(crate::proofs::images::ImageFloats::no_float), unfolding(crate::specs::SnapshotTexts::image_text))]
 pub fn snapshot_line(alloc: Global, image: &Image) -> Result<ByteText, Memory>
     ensures { IfOk result (λ line. line ≡ snapshot.snapshot_line image.now) }
 {

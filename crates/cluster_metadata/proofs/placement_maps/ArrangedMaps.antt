@@ -3,7 +3,7 @@ use Rattle.std.proofs.Common.{◌≡◌, ℕ, zero, suc, ◌+◌, ◌<◌, Bool,
 use Rattle.std.proofs.lemmas.List.{map-append}
 use Rattle.std.proofs.lemmas.List.Quantifiers.{position-Some}
 use Rattle.std.specs.List.{AllByRecursion, list_any, position, remove}
-use Rattle.cluster_terms.proofs.ReplicationLemmas.{same_replication-exact}
+use Rattle.cluster_terms.proofs.texts.ReplicationLemmas.{same_replication-exact}
 use Rattle.cluster_terms.specs.Replication.{same_replication}
 use Rattle.cluster_terms.specs.declared.replication.Replication.{Replication}
 use Rattle.sequence_plans.proofs.ReplicationsLemmas.{new, shown}
@@ -11,12 +11,12 @@ use Rattle.sequence_plans.specs.Replications.{replications_of}
 use Rattle.transformations.proofs.lists.ListLemmas.{all_append}
 use Rattle.transformations.specs.declared.image.Image.{Image}
 use Rattle.transformations.specs.declared.keyspace.KeyspaceRow.{KeyspaceRow}
-use Rattle.cluster_metadata.proofs.LockLemmas.{any_replications}
-use Rattle.cluster_metadata.proofs.RunningLemmas.{map_remove}
-use Rattle.cluster_metadata.specs.Arrangements.{Arranges, Fills, arranged, left_by}
-use Rattle.cluster_metadata.specs.Maps.{AreMapsOf, IsMapOf}
-use Rattle.cluster_metadata.specs.declared.arrangement.Slot.{Slot}
-use Rattle.cluster_metadata.specs.declared.arrangement.Slot.TheVariants.{Kept, Placed}
+use Rattle.cluster_metadata.proofs.locks.LockLemmas.{any_replications}
+use Rattle.cluster_metadata.proofs.in_flight.RunningLemmas.{map_remove}
+use Rattle.cluster_metadata.specs.code.Arrangements.{Arranges, Fills, arranged, left_by}
+use Rattle.cluster_metadata.specs.code.ShownMaps.{AreMapsOf, IsMapOf}
+use Rattle.cluster_metadata.specs.declared.maps.arrangement.Slot.{Slot}
+use Rattle.cluster_metadata.specs.declared.maps.arrangement.Slot.TheVariants.{Kept, Placed}
 use Rattle.range_placements.specs.declared.map_row.MapRow.{MapRow}
 
 -- ---- more slots

@@ -4,11 +4,10 @@ use Rattle.std.specs.List.{AllByRecursion, slice_get}
 use Rattle.cluster_terms.specs.Arc.{IsToken}
 use Rattle.cluster_terms.specs.Replication.{same_replication}
 use Rattle.cluster_terms.specs.declared.replication.Replication.{Replication}
-use Rattle.cluster_terms.specs.declared.token.Pair.{Pair}
 use Rattle.sequence_plans.proofs.DeltaBookLemmas.{at_each_token}
 use Rattle.sequence_plans.specs.Replications.{replications_of}
-use Rattle.transformations.proofs.cut_changes.CutsFollowed.{cuts_followed}
-use Rattle.transformations.proofs.deltas.ChangedByCommands.{changes_by_deltas}
+use Rattle.transformation_laws.proofs.cut_changes.CutsFollowed.{cuts_followed}
+use Rattle.transformation_laws.proofs.deltas.ChangedByCommands.{changes_by_deltas}
 use Rattle.transformations.proofs.lists.ListLemmas.{part_all_of, part_filter}
 use Rattle.transformations.specs.CutSteps.{CutsChange, ended_by, unless_mid}
 use Rattle.transformations.specs.DeltaSteps.{AreChanged, PlacementDelta, cancel_delta, delta_of_command, delta_of_movement, step_delta}
@@ -16,7 +15,7 @@ use Rattle.transformations.specs.History.{is_command, next_image}
 use Rattle.transformations.specs.Meeting.{makes_movement_epoch}
 use Rattle.transformations.specs.Refusals.{prepared_by, refusal_of}
 use Rattle.transformations.specs.Rings.{cuts}
-use Rattle.transformations.specs.Steps.{movement_of, same_phase}
+use Rattle.transformations.specs.Movements.{movement_of, same_phase}
 use Rattle.transformations.specs.Valid.{IsValid}
 use Rattle.transformations.specs.declared.command.Command.{Command}
 use Rattle.transformations.specs.declared.command.Command.TheVariants.{Register, Unregister, PrepareJoin, PrepareMove, PrepareLeave, PrepareReplace, Step, Cancel}
@@ -27,11 +26,11 @@ use Rattle.transformations.specs.declared.sequence.Goal.TheVariants as goal
 use Rattle.transformations.specs.declared.sequence.Kind.{Kind}
 use Rattle.transformations.specs.declared.sequence.Phase.TheVariants as phase
 use Rattle.transformations.specs.declared.sequence.SeqRow.{SeqRow}
-use Rattle.cluster_metadata.proofs.MovementPlaces.{known_of, some_there}
-use Rattle.cluster_metadata.specs.Change.{Follows, IsChange, Suits, changed}
-use Rattle.cluster_metadata.specs.MapSteps.{MapSteps, MovesBy, deltas_of, no_deltas}
-use Rattle.cluster_metadata.specs.declared.change.Change.{Change}
-use Rattle.cluster_metadata.specs.declared.change.Change.TheVariants.{Unchanged, Registered, Unregistered, Tokens, Keyspaces, Begun, Started, Mid, Finished, Ended, BroughtBack}
+use Rattle.cluster_metadata.proofs.in_flight.MovementPlaces.{known_of, some_there}
+use Rattle.cluster_metadata.specs.code.Change.{Follows, IsChange, Suits, changed}
+use Rattle.cluster_metadata.specs.code.MapSteps.{MapSteps, MovesBy, deltas_of, no_deltas}
+use Rattle.cluster_metadata.specs.declared.changes.change.Change.{Change}
+use Rattle.cluster_metadata.specs.declared.changes.change.Change.TheVariants.{Unchanged, Registered, Unregistered, Tokens, Keyspaces, Begun, Started, Mid, Finished, Ended, BroughtBack}
 
 -- what holds of the replication of each keyspace holds of each replication
 all_replications : (P : Replication → Type 0) (ks : List KeyspaceRow) → AllByRecursion (λ k. P k.replication) ks → AllByRecursion P (replications_of ks)

@@ -1,23 +1,23 @@
 -- What a change of each kind says of the movement at its position, and of the placements after it.
-use Rattle.std.proofs.Common.{◌≡◌, ℕ, false, List, [], Option, Some, option_map, sym, subst}
+use Rattle.std.proofs.Common.{◌≡◌, ℕ, false, List, Option, Some, option_map, sym, subst}
 use Rattle.std.specs.List.{slice_get}
 use Rattle.cluster_terms.specs.declared.token.Pair.{Pair}
 use Rattle.placement_deltas.specs.declared.plan.Plan.{Plan}
-use Rattle.sequence_plans.specs.Deltas.{HasDeltas}
+use Rattle.sequence_plans.specs.PlanDeltas.{HasDeltas}
 use Rattle.transformations.specs.DeltaSteps.{cancel_delta, step_delta}
-use Rattle.transformations.specs.Rings.{cuts, is_mid}
+use Rattle.transformations.specs.Rings.{is_mid}
 use Rattle.transformations.specs.declared.image.Image.{Image}
 use Rattle.transformations.specs.declared.sequence.Goal.TheVariants as goal
 use Rattle.transformations.specs.declared.sequence.Phase.{Phase}
 use Rattle.transformations.specs.declared.sequence.Phase.TheVariants as phase
 use Rattle.transformations.specs.declared.sequence.SeqRow.{SeqRow}
-use Rattle.cluster_metadata.proofs.MovementPlaces.{known_of, some_there}
-use Rattle.cluster_metadata.specs.Change.{BringsPlan, Follows, StandsAt, changed}
-use Rattle.cluster_metadata.specs.MapSteps.{MapSteps, MovesAt, MovesBy, MovesOf, Stays, no_deltas}
-use Rattle.cluster_metadata.specs.declared.change.Change.{Change}
-use Rattle.cluster_metadata.specs.declared.change.Change.TheVariants.{Registered, Unregistered, Begun, Started, Mid, Finished, Ended, BroughtBack}
-use Rattle.cluster_metadata.specs.declared.leaving.LeftRow.{LeftRow}
-use Rattle.cluster_metadata.specs.declared.new_node.NewNode.{NewNode}
+use Rattle.cluster_metadata.proofs.in_flight.MovementPlaces.{known_of, some_there}
+use Rattle.cluster_metadata.specs.code.Change.{BringsPlan, Follows, StandsAt, changed}
+use Rattle.cluster_metadata.specs.code.MapSteps.{MapSteps, MovesAt, MovesBy, MovesOf, Stays, no_deltas}
+use Rattle.cluster_metadata.specs.declared.changes.change.Change.{Change}
+use Rattle.cluster_metadata.specs.declared.changes.change.Change.TheVariants.{Registered, Unregistered, Begun, Started, Mid, Finished, Ended, BroughtBack}
+use Rattle.cluster_metadata.specs.declared.changes.left_row.LeftRow.{LeftRow}
+use Rattle.cluster_metadata.specs.declared.changes.new_node.NewNode.{NewNode}
 
 -- a movement at a position, of which something holds
 pub record HasAt (rows : List SeqRow) (at : ℕ) (P : SeqRow → Type 0) : Type 0 where

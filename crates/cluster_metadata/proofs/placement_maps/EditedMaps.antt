@@ -2,20 +2,20 @@
 use Rattle.std.proofs.Common.{◌≡◌, ◌<◌, List, [], ◌∷◌, ◌++◌, length, get_or, sym, subst, arith}
 use Rattle.std.specs.List.{AllByRecursion}
 use Rattle.cluster_terms.specs.declared.row.TokenRange.{TokenRange}
-use Rattle.placement_deltas.specs.declared.book.DeltaBookRow.{DeltaBookRow}
+use Rattle.placement_deltas.specs.declared.delta_book.DeltaBookRow.{DeltaBookRow}
 use Rattle.range_placements.specs.Editing.{Edits, edited}
 use Rattle.range_placements.specs.Placements.{IsPlacementMap}
 use Rattle.transformations.specs.declared.image.Image.{Image}
 use Rattle.cluster_metadata.proofs.placement_maps.ImageMaps.{is_map}
-use Rattle.cluster_metadata.specs.MapChanges.{HoldMaps, each_edited, maps_after}
-use Rattle.cluster_metadata.specs.Maps.{IsMapOf}
-use Rattle.cluster_metadata.specs.Turns.{each_map, recut_rows}
-use Rattle.cluster_metadata.specs.declared.map_change.MapChange.{MapChange}
+use Rattle.cluster_metadata.specs.code.MapChanges.{ArePlacementMaps, each_edited, maps_after}
+use Rattle.cluster_metadata.specs.code.ShownMaps.{IsMapOf}
+use Rattle.cluster_metadata.specs.code.Turns.{each_map, recut_rows}
+use Rattle.cluster_metadata.specs.declared.maps.map_change.MapChange.{MapChange}
 use Rattle.range_placements.specs.declared.map_row.MapRow.{MapRow}
-use Rattle.cluster_metadata.specs.declared.turn.Turn.{Turn}
+use Rattle.cluster_metadata.specs.declared.maps.turn.Turn.{Turn}
 
 -- where all maps are maps after their edits, so is the last one
-pub last_held : (all : List Edits) (last : Edits) (book : List MapRow) (row : MapRow) → length all < length book → row ≡ get_or book (length all) row → HoldMaps (each_edited (all ++ last ∷ []) book)
+pub last_held : (all : List Edits) (last : Edits) (book : List MapRow) (row : MapRow) → length all < length book → row ≡ get_or book (length all) row → ArePlacementMaps (each_edited (all ++ last ∷ []) book)
     → IsPlacementMap (edited last row.map)
 last_held [] last [] row within is hold = absurd (omega arith)
 last_held [] last (first ∷ book) row within is hold = subst (λ (r : MapRow). IsPlacementMap (edited last r.map)) (sym is) hold.0
@@ -23,7 +23,7 @@ last_held (edits ∷ all) last [] row within is hold = absurd (omega arith)
 last_held (edits ∷ all) last (first ∷ book) row within is hold = last_held all last book row (omega arith) is hold.1
 
 -- the maps of an image are maps
-pub maps_hold : (image : Image) (book : List MapRow) → AllByRecursion (IsMapOf image) book → HoldMaps book
+pub maps_hold : (image : Image) (book : List MapRow) → AllByRecursion (IsMapOf image) book → ArePlacementMaps book
 maps_hold image [] all = tt
 maps_hold image (row ∷ book) all = (subst IsPlacementMap (sym all.0.0) (is_map image row.replication all.0.1), maps_hold image book all.1)
 

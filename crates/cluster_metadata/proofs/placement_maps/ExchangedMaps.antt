@@ -4,21 +4,22 @@ use Rattle.std.proofs.lemmas.List.{length-map}
 use Rattle.std.specs.List.{AllByRecursion}
 use Rattle.cluster_terms.specs.declared.replication.Replication.{Replication}
 use Rattle.cluster_terms.specs.declared.token.Pair.{Pair}
-use Rattle.placement_deltas.specs.declared.book.DeltaBookRow.{DeltaBookRow}
-use Rattle.sequence_plans.specs.Deltas.{AreDeltas}
+use Rattle.placement_deltas.specs.declared.delta_book.DeltaBookRow.{DeltaBookRow}
+use Rattle.sequence_plans.specs.PlanDeltas.{AreDeltas}
 use Rattle.sequence_plans.specs.Replications.{replications_of}
 use Rattle.transformations.specs.Rings.{reads_at, writes_at}
 use Rattle.transformations.specs.declared.image.Image.{Image}
 use Rattle.transformations.specs.declared.keyspace.KeyspaceRow.{KeyspaceRow}
-use Rattle.cluster_metadata.specs.Arrangements.{arranged}
-use Rattle.cluster_metadata.specs.Change.{changed}
-use Rattle.cluster_metadata.specs.MapChanges.{BringsMaps, maps_after}
-use Rattle.cluster_metadata.specs.Maps.{AreMaps, AreMapsOf, IsMapOf, placement_rows}
-use Rattle.cluster_metadata.specs.declared.arrangement.Slot.{Slot}
-use Rattle.cluster_metadata.specs.declared.change.Change.{Change}
-use Rattle.cluster_metadata.specs.declared.change.Change.TheVariants.{Keyspaces, Tokens}
-use Rattle.cluster_metadata.specs.declared.map_change.MapChange.{MapChange}
-use Rattle.cluster_metadata.specs.declared.map_change.MapChange.TheVariants.{Arranged, Keep}
+use Rattle.cluster_metadata.specs.code.Arrangements.{arranged}
+use Rattle.cluster_metadata.specs.code.Change.{changed}
+use Rattle.cluster_metadata.specs.code.MapChanges.{BringsMaps, maps_after}
+use Rattle.cluster_metadata.specs.Maps.{placement_rows}
+use Rattle.cluster_metadata.specs.code.ShownMaps.{AreMaps, AreMapsOf, IsMapOf}
+use Rattle.cluster_metadata.specs.declared.maps.arrangement.Slot.{Slot}
+use Rattle.cluster_metadata.specs.declared.changes.change.Change.{Change}
+use Rattle.cluster_metadata.specs.declared.changes.change.Change.TheVariants.{Keyspaces, Tokens}
+use Rattle.cluster_metadata.specs.declared.maps.map_change.MapChange.{MapChange}
+use Rattle.cluster_metadata.specs.declared.maps.map_change.MapChange.TheVariants.{Arranged, Keep}
 use Rattle.range_placements.specs.declared.map_row.MapRow.{MapRow}
 
 -- ---- an image has one book of maps

@@ -1,13 +1,13 @@
 -- The placement maps of an image without movements: its three rings are one.
-use Rattle.std.proofs.Common.{◌≡◌, ℕ, Bool, true, false, ◌||◌, ℤ, List, [], ◌∷◌, map, filter, nat_eq, Option, None, refl, sym, ap, ◌∙◌}
+use Rattle.std.proofs.Common.{◌≡◌, ℕ, Bool, true, false, ◌||◌, ℤ, List, [], ◌∷◌, map, filter, nat_eq, None, refl, sym, ap, ◌∙◌}
 use Rattle.std.proofs.lemmas.List.{append-nil}
 use Rattle.std.proofs.lemmas.Map.Keys.{IsStrictlyIncreasing-from_sorted}
 use Rattle.std.specs.List.Sorted.{IsPermutation, IsStrictlyIncreasing}
 use Rattle.std.specs.Ordering.{nat_cmp}
 use Rattle.std.specs.Set.{is_member}
-use Rattle.cluster_terms.proofs.AscendingNumbers.{ascending_from_same_members, ascending_same_numbers, member-put_all_numbers, put_all_increases}
-use Rattle.cluster_terms.proofs.PlacementCounts.{place_ascends}
-use Rattle.cluster_terms.proofs.PlacementLemmas.{place-permuted}
+use Rattle.cluster_terms.proofs.lists.AscendingNumbers.{ascending_from_same_members, ascending_same_numbers, member-put_all_numbers, put_all_increases}
+use Rattle.cluster_terms.proofs.placement.PlacementCounts.{place_ascends}
+use Rattle.cluster_terms.proofs.placement.PlacementLemmas.{place-permuted}
 use Rattle.cluster_terms.specs.Ascending.{put_all}
 use Rattle.cluster_terms.specs.Group.{Group, place}
 use Rattle.cluster_terms.specs.Pair.{without_pairs}
@@ -24,7 +24,7 @@ use Rattle.transformations.specs.Rings.{cuts, cuts_among, has_started, high_ring
 use Rattle.transformations.specs.declared.image.Image.{Image}
 use Rattle.transformations.specs.declared.sequence.Phase.{Phase}
 use Rattle.transformations.specs.declared.sequence.SeqRow.{SeqRow}
-use Rattle.cluster_metadata.specs.MapBasis.{one_row_without_nodes, row_placed_once}
+use Rattle.cluster_metadata.specs.code.MapBasis.{one_row_without_nodes, row_placed_once}
 use Rattle.cluster_metadata.specs.Maps.{placement_row, placement_rows}
 
 pub without_none : (ring : List Pair) → without_pairs ring [] ≡ ring

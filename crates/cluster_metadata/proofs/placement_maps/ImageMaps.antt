@@ -1,7 +1,6 @@
 -- The placement map of an image under a replication: its order, its cuts, and what it says at each token.
 use Rattle.std.proofs.Common.{◌≡◌, ℕ, ◌≤◌, Bool, ◌&&◌, true, false, if◌then◌else◌, ℤ, ◌≤ℤ◌, int_lt, int_le, List, [], ◌∷◌, length, map, Option, Some, None, refl, sym, ap, ◌∙◌, arith}
 use Rattle.std.proofs.lemmas.Int.{ints}
-use Rattle.std.proofs.lemmas.List.{length-map}
 use Rattle.std.proofs.lemmas.List.Elements.{recursion_from_All}
 use Rattle.std.proofs.lemmas.Map.Keys.{sorted_head, sorted_tail}
 use Rattle.std.specs.List.{AllByRecursion}
@@ -13,12 +12,12 @@ use Rattle.cluster_terms.specs.Row.{is_last, is_past, is_within, rows_between, r
 use Rattle.cluster_terms.specs.declared.replication.Replication.{Replication}
 use Rattle.cluster_terms.specs.declared.row.TokenRange.{TokenRange}
 use Rattle.cluster_terms.specs.declared.token.RightEnd.TheVariants.{At, Max}
-use Rattle.range_placements.specs.Placements.{IsPlacementMap, cuts_of, map_at, placement_in}
+use Rattle.range_placements.specs.Placements.{IsPlacementMap, map_at, placement_in}
 use Rattle.transformations.proofs.ranges.RowsServed.{cuts_ascend, rows_stand}
 use Rattle.transformations.specs.Rings.{StandsForTokens, cuts, reads_at, writes_at}
 use Rattle.transformations.specs.declared.image.Image.{Image}
 use Rattle.cluster_metadata.specs.Maps.{placement_row, placement_rows}
-use Rattle.cluster_metadata.specs.Turns.{row_with}
+use Rattle.cluster_metadata.specs.code.Turns.{row_with}
 
 -- ---- what the map says at a token
 

@@ -1,5 +1,5 @@
 -- Rows of a map that a change of its ranges keeps.
-use Rattle.std.proofs.Common.{◌≡◌, ℕ, zero, suc, ◌≤◌, List, [], ◌∷◌, length, take, drop, map, refl, sym, ap, ◌∙◌, arith}
+use Rattle.std.proofs.Common.{◌≡◌, ℕ, zero, suc, ◌≤◌, List, [], ◌∷◌, take, drop, map, refl, sym, ap, ◌∙◌}
 use Rattle.std.specs.List.{AllByRecursion}
 use Rattle.std.proofs.Math.Seq.{take-take}
 use Rattle.std.proofs.lemmas.List.{take-map}
@@ -8,16 +8,14 @@ use Rattle.cluster_terms.specs.Row.{last_token}
 use Rattle.cluster_terms.specs.declared.row.TokenRange.{TokenRange}
 use Rattle.cluster_terms.specs.declared.token.RightEnd.{RightEnd}
 use Rattle.placement_deltas.specs.Deltas.{delta_at}
-use Rattle.placement_deltas.specs.declared.book.DeltaBookRow.{DeltaBookRow}
 use Rattle.placement_deltas.specs.declared.delta_row.DeltaRow.{DeltaRow}
 use Rattle.range_placements.proofs.MapRows.{rows_tell}
-use Rattle.range_placements.specs.Changing.{row_changed}
+use Rattle.range_placements.specs.code.Changing.{row_changed}
 use Rattle.range_placements.specs.Placements.{IsPlacementMap, map_at, placement_in, right_ends}
 use Rattle.range_placements.specs.declared.placement_row.PlacementRow.{PlacementRow}
-use Rattle.cluster_metadata.specs.Turns.{Keeps, recut_rows, row_to, turned, turned_at, turned_rows}
-use Rattle.range_placements.specs.declared.map_row.MapRow.{MapRow}
-use Rattle.cluster_metadata.specs.declared.turn.Turn.{Turn}
-use Rattle.cluster_metadata.specs.declared.turn.Turn.TheVariants.{Keep}
+use Rattle.cluster_metadata.specs.code.Turns.{Keeps, recut_rows, row_to, turned, turned_at, turned_rows}
+use Rattle.cluster_metadata.specs.declared.maps.turn.Turn.{Turn}
+use Rattle.cluster_metadata.specs.declared.maps.turn.Turn.TheVariants.{Keep}
 
 all_dropped : {X : Type 0} (P : X → Type 0) (n : ℕ) (xs : List X) → AllByRecursion P xs → AllByRecursion P (drop n xs)
 all_dropped P zero [] all = all

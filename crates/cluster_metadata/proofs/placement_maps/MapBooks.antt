@@ -1,11 +1,11 @@
 -- The books of placement maps: the map of a replication, and books that grow by one map.
-use Rattle.std.proofs.Common.{◌≡◌, ℕ, zero, suc, ◌-◌, ◌*◌, ◌^◌, ◌<◌, ◌≤◌, ℤ, ◌≤ℤ◌, Bool, true, false, cond, ◌||◌, List, [], ◌∷◌, ◌++◌, length, map, find, take, Option, Some, None, option_map, refl, sym, ap, ◌∙◌, subst, arith}
-use Rattle.std.specs.List.{AllByRecursion, list_any, slice_get}
+use Rattle.std.proofs.Common.{◌≡◌, ℕ, ◌-◌, ◌*◌, ◌^◌, ◌≤◌, ℤ, ◌≤ℤ◌, Bool, true, false, cond, ◌||◌, List, [], ◌∷◌, length, map, find, Option, Some, None, option_map, refl, sym, ap, ◌∙◌, subst, arith}
+use Rattle.std.specs.List.{AllByRecursion, list_any}
 use Rattle.std.specs.List.Sorted.{IsPermutation}
 use Rattle.std.specs.Ordering.{nat_cmp}
 use Rattle.std.specs.Str.{bytes_eq}
-use Rattle.cluster_terms.proofs.PlacementLemmas.{place-permuted}
-use Rattle.cluster_terms.proofs.ReplicationLemmas.{same_replication-exact, same_replication-refl}
+use Rattle.cluster_terms.proofs.placement.PlacementLemmas.{place-permuted}
+use Rattle.cluster_terms.proofs.texts.ReplicationLemmas.{same_replication-exact, same_replication-refl}
 use Rattle.cluster_terms.specs.Arc.{greatest_token}
 use Rattle.cluster_terms.specs.Ascending.{put_all}
 use Rattle.cluster_terms.specs.Group.{place}
@@ -23,13 +23,14 @@ use Rattle.transformations.specs.Rings.{cuts, high_ring, low_ring, read_ring, re
 use Rattle.transformations.specs.declared.image.Image.{Image}
 use Rattle.transformations.specs.declared.keyspace.KeyspaceRow.{KeyspaceRow}
 use Rattle.cluster_metadata.proofs.placement_maps.ImageMaps.{served_at, some_row}
-use Rattle.cluster_metadata.proofs.LockLemmas.{any_replications}
-use Rattle.cluster_metadata.specs.MapBasis.{AreRings, PlaceOnRings, row_placed}
-use Rattle.cluster_metadata.specs.Maps.{AreMaps, IsMapOf, placement_row, placement_rows}
+use Rattle.cluster_metadata.proofs.locks.LockLemmas.{any_replications}
+use Rattle.cluster_metadata.specs.code.MapBasis.{AreRings, PlaceOnRings, row_placed}
+use Rattle.cluster_metadata.specs.Maps.{placement_row, placement_rows}
+use Rattle.cluster_metadata.specs.code.ShownMaps.{AreMaps, IsMapOf}
 use Rattle.cluster_metadata.specs.Served.{keyspace_of, served, served_by}
 use Rattle.range_placements.specs.declared.map_row.MapRow.{MapRow}
-use Rattle.cluster_metadata.specs.declared.placers.Placers.{Placers}
-use Rattle.cluster_metadata.specs.declared.rings.Rings.{Rings}
+use Rattle.cluster_metadata.specs.declared.maps.placers.Placers.{Placers}
+use Rattle.cluster_metadata.specs.declared.maps.image_rings.Rings.{Rings}
 
 -- ---- rows that are placed
 

@@ -1,18 +1,18 @@
 -- Books whose maps are changed, by new sets or by edits: map by map.
 use Rattle.std.proofs.Common.{◌≡◌, ◌⊎◌, inl, inr, ℕ, zero, suc, ◌<◌, ◌≤◌, List, [], ◌∷◌, ◌++◌, length, get_or, slice_set, refl, ap, arith}
-use Rattle.placement_deltas.specs.declared.book.DeltaBookRow.{DeltaBookRow}
+use Rattle.placement_deltas.specs.declared.delta_book.DeltaBookRow.{DeltaBookRow}
 use Rattle.placement_deltas.specs.declared.delta_row.DeltaRow.{DeltaRow}
 use Rattle.range_placements.specs.declared.placement_row.PlacementRow.{PlacementRow}
-use Rattle.cluster_metadata.specs.MapChanges.{each_revised, revised_at}
-use Rattle.cluster_metadata.specs.Turns.{each_map}
+use Rattle.cluster_metadata.specs.code.MapChanges.{each_revised, revised_at}
+use Rattle.cluster_metadata.specs.code.Turns.{each_map}
 use Rattle.range_placements.specs.declared.map_row.MapRow.{MapRow}
 
 module _ {C : Type 0} (made : C → List PlacementRow → List PlacementRow) where
-  pub revised_stored : (change : C) (book : List MapRow) (n : ℕ) (row : MapRow) → n < length book → row ≡ get_or book n row
-      → slice_set book n (record { replication = row.replication; map = made change row.map }) ≡ revised_at made n change book
-  revised_stored change [] n row within is = absurd (omega arith)
-  revised_stored change (first ∷ book) zero row within is = ap (λ (r : MapRow). record { replication = r.replication; map = made change r.map } ∷ book) is
-  revised_stored change (first ∷ book) (suc n) row within is = ap (λ l. first ∷ l) (revised_stored change book n row (omega arith) is)
+  pub revised_stored : (change : C) (book : List MapRow) (n : ℕ) (row : MapRow) (rows : List PlacementRow) → rows ≡ made change row.map → n < length book → row ≡ get_or book n row
+      → slice_set book n (record { replication = row.replication; map = rows }) ≡ revised_at made n change book
+  revised_stored change [] n row rows same within is = absurd (omega arith)
+  revised_stored change (first ∷ book) zero row rows same within is = rw (same, is) refl
+  revised_stored change (first ∷ book) (suc n) row rows same within is = ap (λ l. first ∷ l) (revised_stored change book n row rows same (omega arith) is)
 
   pub revised_past : (change : C) (book : List MapRow) (n : ℕ) → length book ≤ n → revised_at made n change book ≡ book
   revised_past change [] n past = refl

@@ -1,25 +1,25 @@
 -- Placement maps that are changed by the deltas of a movement are those of the image after its step.
 use Rattle.std.proofs.Common.{◌≡◌, ℕ, suc, zero, ◌<◌, true, false, true≢false, ℤ, List, [], ◌∷◌, length, map, get_or, Some, refl, sym, ap, ◌∙◌, subst, arith}
 use Rattle.std.specs.List.{AllByRecursion, slice_get}
-use Rattle.cluster_terms.proofs.RowLemmas.{rows_have_last}
+use Rattle.cluster_terms.proofs.rows.RowLemmas.{rows_have_last}
 use Rattle.cluster_terms.specs.Arc.{IsToken}
 use Rattle.cluster_terms.specs.Row.{is_within, last_token, rows_between}
 use Rattle.cluster_terms.specs.declared.replication.Replication.{Replication}
 use Rattle.cluster_terms.specs.declared.row.TokenRange.{TokenRange}
 use Rattle.placement_deltas.specs.Deltas.{delta_at}
-use Rattle.placement_deltas.specs.declared.book.DeltaBookRow.{DeltaBookRow}
+use Rattle.placement_deltas.specs.declared.delta_book.DeltaBookRow.{DeltaBookRow}
 use Rattle.placement_deltas.specs.declared.delta_row.DeltaRow.{DeltaRow}
 use Rattle.placement_deltas.specs.declared.plan.Plan.{Plan}
-use Rattle.range_placements.specs.Changing.{row_changed}
+use Rattle.range_placements.specs.code.Changing.{row_changed}
 use Rattle.range_placements.specs.declared.placement_row.PlacementRow.{PlacementRow}
 use Rattle.range_placements.specs.declared.row_changes.RowChange.{RowChange}
-use Rattle.sequence_plans.specs.Deltas.{AreDeltas, HasDeltas, IsExact, gained_by, lost_by, no_nodes}
+use Rattle.sequence_plans.specs.PlanDeltas.{AreDeltas, HasDeltas, IsExact, gained_by, lost_by, no_nodes}
 use Rattle.sequence_plans.specs.Replications.{replications_of}
-use Rattle.transformations.proofs.deltas.SetChanges.{changed_none}
+use Rattle.transformation_laws.proofs.deltas.SetChanges.{changed_none}
 use Rattle.transformations.proofs.lists.ListLemmas.{all_both, all_from_map, all_weaker}
 use Rattle.transformations.proofs.ranges.RowsServed.{cuts_ascend}
 use Rattle.transformations.specs.DeltaSteps.{AreChanged, PlacementDelta, cancel_delta, step_delta, with_delta}
-use Rattle.transformations.specs.Deltas.{placed_before, placed_with}
+use Rattle.transformations.specs.MovementDeltas.{placed_before, placed_with}
 use Rattle.transformations.specs.Rings.{cuts, is_mid, reads_at, writes_at}
 use Rattle.transformations.specs.declared.image.Image.{Image}
 use Rattle.transformations.specs.declared.sequence.Goal.TheVariants as goal
@@ -29,18 +29,19 @@ use Rattle.transformations.specs.declared.sequence.SeqRow.{SeqRow}
 use Rattle.cluster_metadata.proofs.placement_maps.EditedMaps.{RecutsAll}
 use Rattle.cluster_metadata.proofs.placement_maps.ExchangedMaps.{same_count}
 use Rattle.cluster_metadata.proofs.placement_maps.ImageMaps.{served_at}
-use Rattle.cluster_metadata.proofs.RunningLemmas.{place_within, value_at}
-use Rattle.cluster_metadata.specs.MapChanges.{each_exchanged, maps_after}
-use Rattle.cluster_metadata.specs.MapSteps.{MovesAt, MovesBy, MovesOf, Stays, deltas_of, no_deltas}
-use Rattle.cluster_metadata.specs.Maps.{AreMaps, IsMapOf, placement_row, placement_rows}
-use Rattle.cluster_metadata.specs.Running.{HaveDeltas, IsRunning, movement_row, phase_of, plan_of}
+use Rattle.cluster_metadata.proofs.in_flight.RunningLemmas.{place_within, value_at}
+use Rattle.cluster_metadata.specs.code.MapChanges.{each_exchanged, maps_after}
+use Rattle.cluster_metadata.specs.code.MapSteps.{MovesAt, MovesBy, MovesOf, Stays, deltas_of, no_deltas}
+use Rattle.cluster_metadata.specs.Maps.{placement_row, placement_rows}
+use Rattle.cluster_metadata.specs.code.ShownMaps.{AreMaps, IsMapOf}
+use Rattle.cluster_metadata.specs.code.Running.{HaveDeltas, IsRunning, movement_row, phase_of, plan_of}
 use Rattle.cluster_metadata.specs.Served.{served_by}
-use Rattle.cluster_metadata.specs.Turns.{each_map, recut_rows, row_to, row_with, turned, turned_at, turned_rows, undoing}
-use Rattle.cluster_metadata.specs.declared.map_change.MapChange.{MapChange}
+use Rattle.cluster_metadata.specs.code.Turns.{each_map, recut_rows, row_to, row_with, turned, turned_at, turned_rows, undoing}
+use Rattle.cluster_metadata.specs.declared.maps.map_change.MapChange.{MapChange}
 use Rattle.range_placements.specs.declared.map_row.MapRow.{MapRow}
-use Rattle.cluster_metadata.specs.declared.running.Running.{Running}
-use Rattle.cluster_metadata.specs.declared.turn.Turn.{Turn}
-use Rattle.cluster_metadata.specs.declared.turn.Turn.TheVariants.{Keep, Reads, Writes, ReadsBack}
+use Rattle.cluster_metadata.specs.declared.movements.running.Running.{Running}
+use Rattle.cluster_metadata.specs.declared.maps.turn.Turn.{Turn}
+use Rattle.cluster_metadata.specs.declared.maps.turn.Turn.TheVariants.{Keep, Reads, Writes, ReadsBack}
 
 -- ---- the rows of a map
 
@@ -216,23 +217,21 @@ module _ (image : Image) (book : List MapRow) (running : List Running) (at : ℕ
   pub moved : (after : Image) (delta : SeqRow → List ℕ → List ℕ → PlacementDelta) → MovesOf image after at delta → MovesBy image after (deltas_of (delta s) image plan.row)
   moved after delta moves = own_moves image after (delta s) m (subst (λ q. MovesBy image after (deltas_of (delta s) image q)) (sym own) (moves s stands))
 
+  -- new sets for the rows that change, under each replication
+  turned_maps : (t : Turn) (gained lost : Replication → ℤ → List ℕ) (deltas : List DeltaBookRow) (delta : List ℕ → List ℕ → PlacementDelta) → ((r : Replication) → Turns t (gained r) (lost r) (deltas_of delta image plan.row r))
+      → AreDeltas (replications_of image.keyspaces) gained lost deltas → (after : Image) (changes : List (List RowChange)) → SetsTurned book t changes deltas → MovesAt image after at delta → AreMaps after (each_exchanged changes book)
+  turned_maps t gained lost deltas delta turns exact after changes sets steps =
+      subst (AreMaps after) (sym (sets (same_count image book deltas gained lost are exact)))
+      (maps_turned image after gained lost (deltas_of delta image plan.row) t turns book deltas steps.cuts (moved after (λ s. delta) steps.moves) are exact)
+
   pub start_maps : (after : Image) (changes : List (List RowChange)) → SetsTurned book Writes changes plan.gain → MovesAt image after at (step_delta goal.Start) → AreMaps after (each_exchanged changes book)
-  start_maps after changes sets steps =
-      subst (AreMaps after) (sym (sets (same_count image book plan.gain (gained_by image plan.row) no_nodes are held.gains)))
-      (maps_turned image after (gained_by image plan.row) no_nodes (deltas_of (step_delta goal.Start) image plan.row) Writes (start_turns image plan.row) book plan.gain steps.cuts
-      (moved after (λ s. step_delta goal.Start) steps.moves) are held.gains)
+  start_maps = turned_maps Writes (gained_by image plan.row) no_nodes plan.gain (step_delta goal.Start) (start_turns image plan.row) held.gains
 
   pub mid_maps : (after : Image) (changes : List (List RowChange)) → SetsTurned book Reads changes plan.swap → MovesAt image after at (step_delta goal.Mid) → AreMaps after (each_exchanged changes book)
-  mid_maps after changes sets steps =
-      subst (AreMaps after) (sym (sets (same_count image book plan.swap (gained_by image plan.row) (lost_by image plan.row) are held.swaps)))
-      (maps_turned image after (gained_by image plan.row) (lost_by image plan.row) (deltas_of (step_delta goal.Mid) image plan.row) Reads (mid_turns image plan.row) book plan.swap steps.cuts
-      (moved after (λ s. step_delta goal.Mid) steps.moves) are held.swaps)
+  mid_maps = turned_maps Reads (gained_by image plan.row) (lost_by image plan.row) plan.swap (step_delta goal.Mid) (mid_turns image plan.row) held.swaps
 
   pub back_maps : (after : Image) (changes : List (List RowChange)) → SetsTurned book ReadsBack changes plan.swap → MovesAt image after at (cancel_delta phase.Mid) → AreMaps after (each_exchanged changes book)
-  back_maps after changes sets steps =
-      subst (AreMaps after) (sym (sets (same_count image book plan.swap (gained_by image plan.row) (lost_by image plan.row) are held.swaps)))
-      (maps_turned image after (gained_by image plan.row) (lost_by image plan.row) (deltas_of (cancel_delta phase.Mid) image plan.row) ReadsBack (back_turns image plan.row) book plan.swap steps.cuts
-      (moved after (λ s. cancel_delta phase.Mid) steps.moves) are held.swaps)
+  back_maps = turned_maps ReadsBack (gained_by image plan.row) (lost_by image plan.row) plan.swap (cancel_delta phase.Mid) (back_turns image plan.row) held.swaps
 
   pub end_maps : (after : Image) (made : MapChange) → RecutsAll (undoing (phase_of m)) (rows_between (cuts after)) book plan.gain made → is_mid s.phase ≡ false → AllByRecursion IsToken (cuts after)
       → MovesOf image after at (λ s. cancel_delta s.phase) → AreMaps after (maps_after made book)

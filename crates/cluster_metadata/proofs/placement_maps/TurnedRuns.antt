@@ -9,14 +9,14 @@ use Rattle.cluster_terms.specs.Row.{last_token}
 use Rattle.placement_deltas.specs.Deltas.{ChangesNothing, delta_at}
 use Rattle.placement_deltas.specs.declared.delta_row.DeltaRow.{DeltaRow}
 use Rattle.range_placements.proofs.MapRows.{later_ends, within_top}
-use Rattle.range_placements.specs.Changing.{row_changed}
+use Rattle.range_placements.specs.code.Changing.{row_changed}
 use Rattle.range_placements.specs.Exchanging.{with_changes}
 use Rattle.range_placements.specs.Placements.{IsPlacementMap}
 use Rattle.range_placements.specs.declared.placement_row.PlacementRow.{PlacementRow}
 use Rattle.range_placements.specs.declared.row_changes.RowChange.{RowChange}
 use Rattle.cluster_metadata.proofs.placement_maps.TurnedSets.{turned_none}
-use Rattle.cluster_metadata.specs.Turns.{AddsTurned, AreTurned, EndUpTo, IsWithin, Keeps, turned, turned_rows}
-use Rattle.cluster_metadata.specs.declared.turn.Turn.{Turn}
+use Rattle.cluster_metadata.specs.code.Turns.{AddsTurned, AreTurned, EndUpTo, IsWithin, Keeps, turned, turned_rows}
+use Rattle.cluster_metadata.specs.declared.maps.turn.Turn.{Turn}
 
 -- ---- where the rows of a run end
 

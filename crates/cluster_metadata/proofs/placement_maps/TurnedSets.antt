@@ -2,15 +2,15 @@
 use Rattle.std.proofs.Common.{◌≡◌, ℕ, List, [], ◌∷◌, ◌++◌, length, refl, sym, ap, ◌∙◌}
 use Rattle.placement_deltas.specs.declared.delta_row.DeltaRow.{DeltaRow}
 use Rattle.range_placements.proofs.Exchanges.{exchanged_last, nodes_at}
-use Rattle.range_placements.proofs.MapChanges.{unchanged}
-use Rattle.range_placements.specs.Changing.{row_changed}
+use Rattle.range_placements.proofs.ChangedRows.{unchanged}
+use Rattle.range_placements.specs.code.Changing.{row_changed}
 use Rattle.range_placements.specs.Exchanging.{with_changes, with_nodes, with_nodes_at}
 use Rattle.range_placements.specs.declared.placement_row.PlacementRow.{PlacementRow}
 use Rattle.range_placements.specs.declared.row_changes.NewNodes.{NewNodes}
 use Rattle.range_placements.specs.declared.row_changes.RowChange.{RowChange}
-use Rattle.cluster_metadata.specs.Turns.{AddsTurned, turned}
-use Rattle.cluster_metadata.specs.declared.turn.Turn.{Turn}
-use Rattle.cluster_metadata.specs.declared.turn.Turn.TheVariants.{Keep, Reads, Writes, ReadsBack, WritesBack}
+use Rattle.cluster_metadata.specs.code.Turns.{AddsTurned, turned}
+use Rattle.cluster_metadata.specs.declared.maps.turn.Turn.{Turn}
+use Rattle.cluster_metadata.specs.declared.maps.turn.Turn.TheVariants.{Keep, Reads, Writes, ReadsBack, WritesBack}
 
 -- where nothing is gained and nothing lost, a turn changes nothing
 pub turned_none : (turn : Turn) (reads writes gained lost : List ℕ) → length gained ≡ 0 → length lost ≡ 0 → turned turn (reads, writes) (gained, lost) ≡ (reads, writes)

@@ -4,8 +4,8 @@ ghost use Rattle.std.specs.Prelude.{◌≡◌, ◌-◌, ◌++◌, ◌∷◌, [],
 ghost use Rattle.tcm_session.specs.Generated as spec;
 ghost use Rattle.tcm_session.specs.GeneratedLines as lines;
 
+use super::command_lines::{node_line, register_line, token_line};
 use super::kinds::{AnswerKind, kind_of};
-use super::texts::{node_line, register_line, token_line};
 use crate::limits::TEXT_ROOM;
 use crate::session::Session;
 use cluster_terms::{ByteText, Memory, SmallList, Token};

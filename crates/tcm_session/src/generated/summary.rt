@@ -1,7 +1,7 @@
 //! The summary of a generated script.
 
 ghost use Rattle.std.specs.Prelude.{◌≡◌, ◌≤◌, ◌++◌, codes, decimal, IfOk, OnOk};
-ghost use Rattle.script_lang.specs.Texts.{line};
+ghost use Rattle.script_lang.specs.AnswerTexts.{line};
 ghost use Rattle.tcm_session.specs.Generated as spec;
 
 use super::draw::DRAW_LIMIT;

@@ -6,7 +6,7 @@ ghost use Rattle.follower_log.specs.Follower.{Performs, hand_entry, lacks_only};
 ghost use Rattle.follower_log.specs.Prefix.{StandsAfter, StandsFor, Taken, with_entry};
 ghost use Rattle.transformations.specs.History.{empty_image, image_after, is_command, most_epochs};
 ghost use Rattle.transformations.specs.Log.{IsLog, commands_of};
-ghost use Rattle.tcm_session.specs.Steps.{FollowsLog};
+ghost use Rattle.tcm_session.specs.session.StepEnds.{FollowsLog};
 
 use cluster_metadata::Metadata;
 use epoch_log::Log;

@@ -10,7 +10,7 @@ use Rattle.cluster_terms.specs.declared.token.Pair.{Pair}
 use Rattle.transformations.proofs.lists.ListLemmas.{all_weaker, any_false, found_passes, none_found}
 use Rattle.transformations.specs.Refusals.{first_of, may_move_or_leave, has_keyspace, may_join, may_be_removed, is_taken, keyspaces_full, in_sequence, most_keyspaces, most_nodes, most_tokens, name_taken, no_keyspace, no_node, nodes_full, no_tokens, not_idle, not_one_token, other_rack, ranges_locked, early_refusal_of, refusal_of, refused_if, token_taken, tokens_full, tokens_with, too_few_nodes, unless_allowed, wrong_state}
 use Rattle.transformations.specs.States.{owns_tokens, node_tokens, started_of, state_by, state_in, state_of_row}
-use Rattle.transformations.specs.Steps.{takes_part}
+use Rattle.transformations.specs.Movements.{takes_part}
 use Rattle.transformations.specs.Valid.{IsOwned, is_standing, stands}
 use Rattle.transformations.specs.declared.command.Command.{Command}
 use Rattle.transformations.specs.declared.command.Command.TheVariants.{Register, Unregister, UnsafeJoin, Keyspace, DropKeyspace, PrepareJoin, PrepareMove, PrepareLeave, PrepareReplace}
@@ -175,8 +175,8 @@ pub record HasJoined (image : Image) (n : ℕ) : Type 0 where
   pub stands : is_standing image.nodes n ≡ true
   pub joined : owns_tokens image n ≡ true
 
-settled : (image : Image) (n : ℕ) → no_node image n ≡ None → in_sequence image n ≡ None → wrong_state may_move_or_leave image n ≡ None → HasJoined image n
-settled image n some none right =
+joined_node : (image : Image) (n : ℕ) → no_node image n ≡ None → in_sequence image n ≡ None → wrong_state may_move_or_leave image n ≡ None → HasJoined image n
+joined_node image n some none right =
     let r = has_row may_move_or_leave image n some right in
     let i = joined_row image r.row r.state in
     let up : stands (row_of image.nodes n) ≡ true = rw (r.found, i.0) refl in
@@ -190,8 +190,8 @@ pub record AreNew (image : Image) (tokens : List ℤ) : Type 0 where
   pub few : tokens_with image tokens ≤ most_tokens
 
 new : (image : Image) (tokens : List ℤ) → token_taken image tokens ≡ None → tokens_full image tokens ≡ None → AreNew image tokens
-new image tokens free room =
-    let test = test_false (nat_lt most_tokens (tokens_with image tokens)) TokensFull room in
+new image tokens free below_limit =
+    let test = test_false (nat_lt most_tokens (tokens_with image tokens)) TokensFull below_limit in
     record {
       untaken = none_found (is_taken image) tokens (mapped_none TokenTaken (find (is_taken image) tokens) free);
       few = grind (arith, nat_tests);
@@ -215,9 +215,9 @@ register_accepted image name dc rack h =
     let a = first_none (name_taken image name) (nodes_full image ∷ []) h in
     let b = first_none (nodes_full image) [] a.1 in
     let test = test_false (nat_le most_nodes (length image.nodes)) NodesFull b.0 in
-    let room : length image.nodes < most_nodes = grind (arith, nat_tests) in
+    let below_limit : length image.nodes < most_nodes = grind (arith, nat_tests) in
     let none = mapped_none (λ (row : NodeRow). NameTaken row.id) (find (λ (row : NodeRow). bytes_eq row.name name) image.nodes) a.0 in
-    (none_found (λ (row : NodeRow). bytes_eq row.name name) image.nodes none, room)
+    (none_found (λ (row : NodeRow). bytes_eq row.name name) image.nodes none, below_limit)
 
 pub unregister_accepted : (image : Image) (n : ℕ) → IsOwned image → early_refusal_of image (Unregister n) ≡ None → IsFree image n × (owns_tokens image n ≡ false)
 unfolding early_refusal_of
@@ -292,7 +292,7 @@ prepare_move_accepted image n t h =
     let count = length (node_tokens image n) in
     let same : (count == 1) ≡ true = negated (count == 1) (test_false (not (count == 1)) (NotOneToken count) a.1.1.1.0) in
     record {
-      node = settled image n a.0 a.1.0 a.1.1.0;
+      node = joined_node image n a.0 a.1.0 a.1.1.0;
       one = same_id count 1 same;
       new = new image (t ∷ []) a.1.1.1.1.0 a.1.1.1.1.1.0;
     }
@@ -301,7 +301,7 @@ pub prepare_leave_accepted : (image : Image) (n : ℕ) → early_refusal_of imag
 unfolding early_refusal_of
 prepare_leave_accepted image n h =
     let a = none_of (no_node image n ∷ in_sequence image n ∷ wrong_state may_move_or_leave image n ∷ too_few_nodes image n ∷ []) h in
-    settled image n a.0 a.1.0 a.1.1.0
+    joined_node image n a.0 a.1.0 a.1.1.0
 
 -- a node that may replace another one
 pub record MayReplace (image : Image) (n gone : ℕ) : Type 0 where

@@ -7,10 +7,10 @@ use Rattle.std.specs.Cmp.Rules.{signed_items}
 use Rattle.std.specs.Ordering.{int_eq}
 use Rattle.std.specs.Str.{bytes_eq}
 use Rattle.std.proofs.lemmas.Bool.Decides.{Decides-int_eq}
-use Rattle.cluster_terms.proofs.ReplicationLemmas.{same_replication-exact, same_replication-refl}
+use Rattle.cluster_terms.proofs.texts.ReplicationLemmas.{same_replication-exact, same_replication-refl}
 use Rattle.cluster_terms.specs.Replication.{same_replication}
 use Rattle.transformations.specs.Same.{same_goal, same_command}
-use Rattle.transformations.specs.Steps.{same_kind}
+use Rattle.transformations.specs.Movements.{same_kind}
 use Rattle.transformations.specs.declared.command.Command.{Command}
 use Rattle.transformations.specs.declared.command.Command.TheVariants.{Register, Unregister, UnsafeJoin, Keyspace, DropKeyspace, PrepareJoin, PrepareMove, PrepareLeave, PrepareReplace, Step, Cancel}
 use Rattle.transformations.specs.declared.sequence.Goal.{Goal}

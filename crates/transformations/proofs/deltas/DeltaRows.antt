@@ -2,7 +2,7 @@
 use Rattle.std.proofs.Common.{◌≡◌, true, false, ℤ, ◌≤ℤ◌}
 use Rattle.std.proofs.lemmas.List.Elements.{All-from_recursion}
 use Rattle.std.specs.List.{All, AllByRecursion}
-use Rattle.cluster_terms.proofs.PlacementRows.{place-between}
+use Rattle.cluster_terms.proofs.placement.PlacementRows.{place-between}
 use Rattle.cluster_terms.specs.Arc.{in_arc}
 use Rattle.cluster_terms.specs.Replication.{groups_of}
 use Rattle.cluster_terms.specs.Row.{is_within, last_token, rows_between}
@@ -12,7 +12,7 @@ use Rattle.transformations.proofs.lists.ListLemmas.{IsPart, all_weaker, part_app
 use Rattle.transformations.proofs.ranges.MovementRanges.{parts_incoming}
 use Rattle.transformations.proofs.ranges.RowEndLemmas.{IsUpTo, rows_upto}
 use Rattle.transformations.proofs.ranges.RowsServed.{clear_ring, cuts_ascend}
-use Rattle.transformations.specs.Deltas.{RowsStandForDeltas, StandsForDeltas, placed_before, placed_with}
+use Rattle.transformations.specs.MovementDeltas.{RowsStandForDeltas, StandsForDeltas, placed_before, placed_with}
 use Rattle.transformations.specs.Rings.{cuts, incoming, low_ring, replaced, widest}
 use Rattle.transformations.specs.declared.image.Image.{Image}
 use Rattle.transformations.specs.declared.sequence.SeqRow.{SeqRow}

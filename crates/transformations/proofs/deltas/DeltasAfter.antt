@@ -14,10 +14,10 @@ use Rattle.transformations.proofs.movements.MovesKept.{moves_kept}
 use Rattle.transformations.proofs.movements.SoleLemmas.{found_own}
 use Rattle.transformations.proofs.quorums.AdjacentLemmas.{same_keyspaces}
 use Rattle.transformations.proofs.ranges.RangesKept.{own_found}
-use Rattle.transformations.specs.Deltas.{KeepsDeltas, KeepsDeltasAt, LivesOn, MovesSame, SameDeltas, lives_through}
+use Rattle.transformations.specs.MovementDeltas.{KeepsDeltas, KeepsDeltasAt, LivesOn, MovesSame, SameDeltas, lives_through}
 use Rattle.transformations.specs.History.{are_accepted, image_after, most_epochs, next_image}
 use Rattle.transformations.specs.Refusals.{refusal_of}
-use Rattle.transformations.specs.Steps.{movement_of}
+use Rattle.transformations.specs.Movements.{movement_of}
 use Rattle.transformations.specs.Valid.{IsValid}
 use Rattle.transformations.specs.declared.command.Command.{Command}
 use Rattle.transformations.specs.declared.command.Command.TheVariants.{Register, Unregister, UnsafeJoin, Keyspace, DropKeyspace, PrepareJoin, PrepareMove, PrepareLeave, PrepareReplace, Step, Cancel}
@@ -79,14 +79,14 @@ lives_then image next after s q found on node moves keyspaces step rest = record
 
 deltas_from : (image : Image) (s : SeqRow) (commands : List Command) → IsValid image → movement_of image s.node ≡ Some s → are_accepted image commands ≡ true
     → image.epoch + length commands ≤ most_epochs → lives_through image s.node commands ≡ true → LivesOn image (image_after image commands) s
-deltas_from image s [] h found all room lives = record {
+deltas_from image s [] h found all below_limit lives = record {
   movement = s;
   found = found;
   moves = record { outs = refl; ins = refl };
   keyspaces = refl;
   deltas = λ x token. all_each (λ (k : KeyspaceRow). SameDeltas image image k.replication x s s) (λ k. record { gained = refl; lost = refl }) image.keyspaces;
 }
-deltas_from image s (c ∷ commands) h found all room lives =
+deltas_from image s (c ∷ commands) h found all below_limit lives =
     let a = accepted_first image c commands all in
     let one = next-epoch image c in
     let on : lives_through (next_image image c) s.node commands ≡ true = (and_parts (is_some (movement_of image s.node)) (lives_through (next_image image c) s.node commands) lives).1 in
@@ -108,4 +108,4 @@ deltas_from image s (c ∷ commands) h found all room lives =
 
 pub deltas_after : (image : Image) (s : SeqRow) (commands : List Command) → IsValid image → Contains image.sequences s → are_accepted image commands ≡ true
     → image.epoch + length commands ≤ most_epochs → lives_through image s.node commands ≡ true → LivesOn image (image_after image commands) s
-deltas_after image s commands h there all room lives = deltas_from image s commands h (found_own image.sequences s h.sound.movements there) all room lives
+deltas_after image s commands h there all below_limit lives = deltas_from image s commands h (found_own image.sequences s h.sound.movements there) all below_limit lives

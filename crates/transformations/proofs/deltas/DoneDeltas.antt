@@ -6,7 +6,7 @@ use Rattle.std.proofs.lemmas.Bool.Decides.{nat_tests}
 use Rattle.std.proofs.lemmas.List.{append-nil}
 use Rattle.std.proofs.lemmas.List.Kept.{IsStrictlySortedBy-filter}
 use Rattle.std.specs.List.{AllByRecursion, IsDistinct}
-use Rattle.cluster_terms.proofs.PlacedByReach.{place-same}
+use Rattle.cluster_terms.proofs.placement.PlacedByReach.{place-same}
 use Rattle.cluster_terms.specs.Arc.{IsToken}
 use Rattle.cluster_terms.specs.Group.{place}
 use Rattle.cluster_terms.specs.Pair.{has_pair}
@@ -23,14 +23,14 @@ use Rattle.transformations.proofs.movements.MovementLemmas.{others_apart}
 use Rattle.transformations.proofs.movements.SoleLemmas.{distinct_each, each_found, filter_own, itself, only_own}
 use Rattle.transformations.proofs.nodes.NodeLemmas.{groups_left}
 use Rattle.transformations.proofs.quorums.ServedLemmas.{ring_own}
-use Rattle.transformations.proofs.ranges.ApartLemmas.{found_apart}
+use Rattle.transformations.proofs.ranges.MovementsApart.{found_apart}
 use Rattle.transformations.proofs.ranges.OutcomeLemmas.{outcome_same, placed_by_ranges}
 use Rattle.transformations.proofs.ranges.RangesKept.{apart_at}
-use Rattle.transformations.specs.Deltas.{SameDeltas, newcomers, placed_before, placed_with}
+use Rattle.transformations.specs.MovementDeltas.{SameDeltas, newcomers, placed_before, placed_with}
 use Rattle.transformations.specs.Orders.{by_node}
 use Rattle.transformations.specs.Ranges.{in_ranges, outcome_ring, placed_after}
 use Rattle.transformations.specs.Rings.{incoming, outgoing, replaced}
-use Rattle.transformations.specs.Steps.{leaver, others, ring_after}
+use Rattle.transformations.specs.Movements.{leaver, others, ring_after}
 use Rattle.transformations.specs.Valid.{IsSound, IsValid}
 use Rattle.transformations.specs.declared.image.Image.{Image}
 use Rattle.transformations.specs.declared.keyspace.KeyspaceRow.{KeyspaceRow}

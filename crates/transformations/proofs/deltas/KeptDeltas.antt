@@ -2,7 +2,7 @@
 use Rattle.std.proofs.Common.{◌≡◌, ℕ, true, ◌==◌, ℤ, List, Option, Some, None, is_some, refl, sym, ap, ◌∙◌}
 use Rattle.std.specs.List.{AllByRecursion}
 use Rattle.std.specs.Option.{IfSome}
-use Rattle.cluster_terms.proofs.PlacedNodes.{placed_nodes}
+use Rattle.cluster_terms.proofs.placement.PlacedNodes.{placed_nodes}
 use Rattle.cluster_terms.specs.Arc.{IsToken}
 use Rattle.cluster_terms.specs.Group.{place}
 use Rattle.cluster_terms.specs.NodeRow.{row_of}
@@ -15,9 +15,9 @@ use Rattle.transformations.proofs.lists.ListLemmas.{all_both, all_each, all_foun
 use Rattle.transformations.proofs.movements.MovesOn.{MoveAlike, MoveOn}
 use Rattle.transformations.proofs.ranges.KeptNodes.{HaveRows}
 use Rattle.transformations.proofs.ranges.KeptRanges.{all_turned}
-use Rattle.transformations.specs.Deltas.{KeepsDeltas, KeepsDeltasAt, MovesSame, SameDeltas, newcomers, placed_before, placed_with}
+use Rattle.transformations.specs.MovementDeltas.{KeepsDeltas, KeepsDeltasAt, MovesSame, SameDeltas, newcomers, placed_before, placed_with}
 use Rattle.transformations.specs.Rings.{low_ring, replaced, widest}
-use Rattle.transformations.specs.Steps.{movement_of}
+use Rattle.transformations.specs.Movements.{movement_of}
 use Rattle.transformations.specs.declared.image.Image.{Image}
 use Rattle.transformations.specs.declared.keyspace.KeyspaceRow.{KeyspaceRow}
 use Rattle.transformations.specs.declared.sequence.SeqRow.{SeqRow}

@@ -3,14 +3,14 @@ use Rattle.std.proofs.Common.{◌≡◌, ℕ, Bool, true, false, true≢false, n
 use Rattle.std.specs.Cmp.{nat_eq_equiv}
 use Rattle.std.specs.List.{AllByRecursion, Contains}
 use Rattle.std.specs.Set.{is_member}
-use Rattle.cluster_terms.proofs.PlacedByReach.{place-same}
+use Rattle.cluster_terms.proofs.placement.PlacedByReach.{place-same}
 use Rattle.cluster_terms.specs.Replication.{groups_of}
 use Rattle.cluster_terms.specs.declared.replication.Replication.{Replication}
 use Rattle.transformations.proofs.lists.ListLemmas.{all_members, all_weaker, filter_none}
 use Rattle.transformations.proofs.movements.SoleLemmas.{found_own, only_own}
 use Rattle.transformations.proofs.quorums.ServedLemmas.{replaced_own}
 use Rattle.transformations.proofs.ranges.OutcomeLemmas.{are_outcomes, placed_by_ranges}
-use Rattle.transformations.specs.Deltas.{gained_at, lost_at, newcomers, placed_before, placed_with}
+use Rattle.transformations.specs.MovementDeltas.{gained_at, lost_at, newcomers, placed_before, placed_with}
 use Rattle.transformations.specs.Ranges.{AgreeAt, in_ranges, outcome_ring, placed_after}
 use Rattle.transformations.specs.Rings.{low_ring, replaced}
 use Rattle.transformations.specs.Valid.{IsSound}

@@ -11,10 +11,10 @@ use Rattle.transformations.proofs.movements.MovesOn.{on_none, on_others, on_phas
 use Rattle.transformations.proofs.ranges.KeptNodes.{remaining_rows, standing_rows}
 use Rattle.transformations.proofs.ranges.PreparedLemmas.{new_movement}
 use Rattle.transformations.proofs.ranges.RangesKept.{cancel_by, finish_by}
-use Rattle.transformations.specs.Deltas.{KeepsDeltas}
+use Rattle.transformations.specs.MovementDeltas.{KeepsDeltas}
 use Rattle.transformations.specs.History.{begun, is_command, next_image}
 use Rattle.transformations.specs.Refusals.{prepared_by, refusal_of}
-use Rattle.transformations.specs.Steps.{at_phase, join_of, leave_of, move_of, movement_of, others, replace_of}
+use Rattle.transformations.specs.Movements.{at_phase, join_of, leave_of, move_of, movement_of, others, replace_of}
 use Rattle.transformations.specs.Valid.{IsValid}
 use Rattle.transformations.specs.declared.command.Command.{Command}
 use Rattle.transformations.specs.declared.command.Command.TheVariants.{Register, Unregister, UnsafeJoin, Keyspace, DropKeyspace, PrepareJoin, PrepareMove, PrepareLeave, PrepareReplace, Step, Cancel}

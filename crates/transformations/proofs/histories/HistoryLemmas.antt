@@ -92,7 +92,7 @@ history_from h few all = (let short : nat_le (length h) most_epochs ≡ true = g
 
 -- what a commit that isn't refused says
 pub record IsCommitted (h : List Command) (c : Command) : Type 0 where
-  pub room : length h < 65536
+  pub below_limit : length h < 65536
   pub unrefused : refusal_of (image_after empty_image h) c ≡ None
 
 pub committed : (h : List Command) (c : Command) → commit_refusal h c ≡ None → IsCommitted h c
@@ -100,13 +100,13 @@ committed h c none = by (nat_le most_epochs (length h)) refl
   where
     by : (b : Bool) → nat_le most_epochs (length h) ≡ b → IsCommitted h c
     by true e = let some : Some EpochsFull ≡ None = rw e at none in absurd (none-some EpochsFull (sym some))
-    by false e = record { room = grind (arith, nat_tests); unrefused = rw e at none }
+    by false e = record { below_limit = grind (arith, nat_tests); unrefused = rw e at none }
 
 -- one command more, and the first ones
 pub history_push : (h : List Command) (c : Command) → IsHistory h → is_command c ≡ true → commit_refusal h c ≡ None → IsHistory (h ++ c ∷ [])
 history_push h c is right none =
     let a = committed h c none in
-    history_from (h ++ c ∷ []) (omega (arith, a.room, length-append h (c ∷ []))) (accepted_push empty_image h c (history_accepted h is) right a.unrefused)
+    history_from (h ++ c ∷ []) (omega (arith, a.below_limit, length-append h (c ∷ []))) (accepted_push empty_image h c (history_accepted h is) right a.unrefused)
 
 pub history_take : (h : List Command) (e : ℕ) → IsHistory h → IsHistory (take e h)
 history_take h e is =
@@ -139,7 +139,7 @@ valid_at h e is = valid_after (take e h) (history_take h e is)
 
 -- a command can be taken over next: there is an epoch for it, and the image so far accepts it
 pub record IsNext (image : Image) (c : Command) : Type 0 where
-  pub room : image.epoch < most_epochs
+  pub below_limit : image.epoch < most_epochs
   pub formed : is_command c ≡ true
   pub accepted : refusal_of image c ≡ None
 
@@ -159,7 +159,7 @@ next_at h i c is within at =
     subst (λ l. are_accepted empty_image l ≡ true) more ((and_parts (nat_le (length (take (i + 1) h)) most_epochs) _ (history_take h (i + 1) is)).1) in
     let last = accepted_last empty_image (take i h) c front in
     record {
-      room = omega (arith, epoch_after (take i h), length-take i h, history_short h is);
+      below_limit = omega (arith, epoch_after (take i h), length-take i h, history_short h is);
       formed = last.0;
       accepted = last.1;
     }

@@ -5,7 +5,7 @@ use Rattle.std.proofs.lemmas.Map.Keys.{IsDistinct-IsPermutation, IsDistinct-cons
 use Rattle.std.specs.List.{AllByRecursion, IsDistinct, list_any}
 use Rattle.cluster_terms.specs.Arc.{IsToken}
 use Rattle.transformations.proofs.commands.AcceptedLemmas.{drop_keyspace_idle, early_accepted, keyspace_idle, unsafe_join_idle}
-use Rattle.transformations.proofs.ranges.ApartLemmas.{both_at, both_flips, distinct_alike, distinct_map, pairs_from_distinct}
+use Rattle.transformations.proofs.ranges.MovementsApart.{both_at, both_flips, distinct_alike, distinct_map, pairs_from_distinct}
 use Rattle.transformations.proofs.movements.DoneLemmas.{done}
 use Rattle.transformations.proofs.ranges.KeptRanges.{IsKept, both_kept, ranges_alike}
 use Rattle.transformations.proofs.ranges.KeptNodes.{kept_register, kept_unregister}
@@ -18,7 +18,7 @@ use Rattle.transformations.proofs.histories.SoundLemmas.{sound_empty, sound_next
 use Rattle.transformations.specs.History.{begun, empty_image, is_command, most_epochs, next_image}
 use Rattle.transformations.specs.Ranges.{AreApart}
 use Rattle.transformations.specs.Refusals.{prepared_by, refusal_of}
-use Rattle.transformations.specs.Steps.{at_phase, join_of, leave_of, move_of, others, replace_of}
+use Rattle.transformations.specs.Movements.{at_phase, join_of, leave_of, move_of, others, replace_of}
 use Rattle.transformations.specs.Valid.{IsValid}
 use Rattle.transformations.specs.declared.command.Command.{Command}
 use Rattle.transformations.specs.declared.command.Command.TheVariants.{Register, Unregister, UnsafeJoin, Keyspace, DropKeyspace, PrepareJoin, PrepareMove, PrepareLeave, PrepareReplace, Step, Cancel}
@@ -123,7 +123,7 @@ pub valid_empty : IsValid empty_image
 valid_empty = record { sound = sound_empty; apart = apart_none empty_image refl }
 
 pub valid_next : (image : Image) (c : Command) → IsValid image → is_command c ≡ true → refusal_of image c ≡ None → image.epoch < most_epochs → IsValid (next_image image c)
-valid_next image c h right none room = record {
-  sound = sound_next image c h.sound right (early_accepted image c none) room;
+valid_next image c h right none below_limit = record {
+  sound = sound_next image c h.sound right (early_accepted image c none) below_limit;
   apart = apart_next image c h right none;
 }

@@ -4,7 +4,7 @@ use Rattle.std.proofs.lemmas.Bool.Decides.{nat_tests}
 use Rattle.std.specs.Cmp.Lexicographic.{pointwise}
 use Rattle.std.specs.List.{AllByRecursion, list_all}
 use Rattle.std.specs.List.Sorted.{IsStrictlySortedBy}
-use Rattle.cluster_terms.proofs.PairLemmas.{same_pair-refl, same_pair-tells}
+use Rattle.cluster_terms.proofs.rows.PairLemmas.{same_pair-refl, same_pair-tells}
 use Rattle.cluster_terms.specs.Pair.{same_pair, tokens_of}
 use Rattle.cluster_terms.specs.declared.token.Pair.{Pair}
 use Rattle.transformations.proofs.commands.AcceptedLemmas.{same_id}
@@ -14,11 +14,11 @@ use Rattle.transformations.proofs.lists.ListLemmas.{all_weaker, none_found}
 use Rattle.transformations.proofs.movements.ExchangeLemmas.{all_owned}
 use Rattle.transformations.proofs.pairs.RingPairs.{by_token_total}
 use Rattle.transformations.specs.ImageRules.{first_fall, fits, fits_join, fits_kind, fits_leave, fits_move, fits_replace, rule_14}
-use Rattle.transformations.specs.OneNode.{IsOfOneNode}
+use Rattle.transformations.specs.code.OneNode.{IsOfOneNode}
 use Rattle.transformations.specs.Orders.{by_token}
 use Rattle.transformations.specs.Refusals.{other_rack}
 use Rattle.transformations.specs.States.{owns_tokens}
-use Rattle.transformations.specs.Steps.{first_node, owned, pairs_of}
+use Rattle.transformations.specs.Movements.{first_node, owned, pairs_of}
 use Rattle.transformations.specs.Valid.{Fits, IsJoin, IsLeave, IsMove, IsReplace}
 use Rattle.transformations.specs.declared.image.Image.{Image}
 use Rattle.transformations.specs.declared.sequence.Kind.{Kind}

@@ -4,7 +4,7 @@ use Rattle.std.specs.Option.{option_or}
 use Rattle.transformations.proofs.images.OverLemmas.{map_none}
 use Rattle.transformations.proofs.images.FirstBadLemmas.{or_none}
 use Rattle.transformations.specs.ImageRules.{broken, broken_rule, first_broken, rule_1, rule_2, rule_3, rule_4, rule_5, rule_6, rule_7, rule_8, rule_9, rule_10, rule_11, rule_12, rule_13, rule_14, rule_15, rule_16, rule_17}
-use Rattle.transformations.specs.RuleGroups.{keyspaces_broken, movements_broken, nodes_broken, numbers_broken, repeats_broken, ring_broken}
+use Rattle.transformations.specs.code.RuleGroups.{keyspaces_broken, movements_broken, nodes_broken, numbers_broken, repeats_broken, ring_broken}
 use Rattle.transformations.specs.declared.image.Image.{Image}
 use Rattle.transformations.specs.declared.image_rules.BadImage.{BadImage}
 
@@ -19,10 +19,6 @@ unbroken n found h = map_none (λ value. mk n value) found h
 or_assoc : {A : Type 0} (a b d : Option A) → option_or a (option_or b d) ≡ option_or (option_or a b) d
 or_assoc None b d = refl
 or_assoc (Some x) b d = refl
-
-or_nil : {A : Type 0} (a : Option A) → option_or a None ≡ a
-or_nil None = refl
-or_nil (Some x) = refl
 
 pub none_of : (rule : Option BadImage) (rules : List (Option BadImage)) → first_broken (rule ∷ rules) ≡ None → (rule ≡ None) × (first_broken rules ≡ None)
 none_of rule rules h = or_none rule (first_broken rules) h
@@ -82,10 +78,6 @@ some_or (Some x) b h = refl
 none_left : {A : Type 0} (a b : Option A) → is_some a ≡ false → option_or a b ≡ b
 none_left None b h = refl
 none_left (Some x) b h = absurd (let e : true ≡ false = h in cc)
-
-pub no_some : {A : Type 0} (a : Option A) → is_some a ≡ false → a ≡ None
-no_some None h = refl
-no_some (Some x) h = absurd (let e : true ≡ false = h in cc)
 
 pub tells : {A : Type 0} (a b : Option A) (t u : Bool) → a ≡ b → t ≡ is_some a → t ≡ u → is_some b ≡ u
 tells a b t u same is e = ap is_some (sym same) ∙ sym is ∙ e

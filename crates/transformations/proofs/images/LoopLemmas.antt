@@ -24,7 +24,7 @@ use Rattle.cluster_terms.specs.declared.node.NodeRow.{NodeRow}
 use Rattle.cluster_terms.specs.declared.token.Pair.{Pair}
 use Rattle.transformations.proofs.images.FirstBadLemmas.{any_behind, bad_here, bad_more, behind, behind-more, fall_here, fall_more}
 use Rattle.transformations.specs.ImageRules.{first_bad, first_fall, id_before, id_falls, name_repeats, rule_17, shown_if}
-use Rattle.transformations.specs.Steps.{owned}
+use Rattle.transformations.specs.Movements.{owned}
 
 -- ---- ids that don't ascend
 
@@ -139,24 +139,6 @@ names_more names after nodes i row key in_i here is known updates q =
     either false false = refl
 
 -- ---- pairs that are counted
-
-pub owned_more : (pairs : List Pair) (i n : ℕ) (p : Pair) → i < length pairs → p ≡ get_or pairs i p
-    → length (owned (take (i + 1) pairs) n) ≡ length (owned (take i pairs) n) + cond (p.node == n) 1 0
-owned_more pairs i n p in_i is = rw add-one (step pairs i in_i is)
-  where
-    step : (pairs : List Pair) (i : ℕ) → i < length pairs → p ≡ get_or pairs i p → length (owned (take (suc i) pairs) n) ≡ length (owned (take i pairs) n) + cond (p.node == n) 1 0
-    step [] i h is = absurd (omega arith)
-    step (q ∷ qs) zero h is = rw is (by (q.node == n))
-      where
-        by : (b : Bool) → length (cond b (q ∷ []) []) ≡ 0 + cond b 1 0
-        by true = refl
-        by false = refl
-    step (q ∷ qs) (suc i) h is = by (q.node == n) (step qs i (omega arith) is)
-      where
-        by : (b : Bool) → length (owned (take (suc i) qs) n) ≡ length (owned (take i qs) n) + cond (p.node == n) 1 0
-            → length (cond b (q ∷ owned (take (suc i) qs) n) (owned (take (suc i) qs) n)) ≡ length (cond b (q ∷ owned (take i qs) n) (owned (take i qs) n)) + cond (p.node == n) 1 0
-        by true e = omega (arith, e)
-        by false e = e
 
 pub owned-le : (pairs : List Pair) (i n : ℕ) → length (owned (take i pairs) n) ≤ i
 owned-le pairs zero n = omega arith

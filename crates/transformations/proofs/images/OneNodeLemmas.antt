@@ -6,8 +6,8 @@ use Rattle.transformations.proofs.images.FirstBadLemmas.{any_behind, bad_here, b
 use Rattle.transformations.proofs.images.LoopLemmas.{or_false}
 use Rattle.transformations.proofs.lists.ListLemmas.{all_weaker}
 use Rattle.transformations.specs.ImageRules.{first_bad, fits, node_repeats, rule_14, shares_node, shown_if}
-use Rattle.transformations.specs.OneNode.{IsOfOneNode, is_in, meets, passes}
-use Rattle.transformations.specs.Steps.{first_node, takes_part}
+use Rattle.transformations.specs.code.OneNode.{IsOfOneNode, is_in, meets, passes}
+use Rattle.transformations.specs.Movements.{first_node, takes_part}
 use Rattle.transformations.specs.declared.image.Image.{Image}
 use Rattle.transformations.specs.declared.sequence.SeqRow.{SeqRow}
 

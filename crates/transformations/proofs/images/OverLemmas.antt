@@ -8,7 +8,7 @@ use Rattle.cluster_terms.specs.declared.node.NodeRow.{NodeRow}
 use Rattle.transformations.proofs.lists.ListLemmas.{all_weaker, none_found}
 use Rattle.transformations.specs.ImageRules.{rule_3, rule_9}
 use Rattle.transformations.specs.States.{node_tokens}
-use Rattle.transformations.specs.Steps.{owned}
+use Rattle.transformations.specs.Movements.{owned}
 use Rattle.transformations.specs.declared.image.Image.{Image}
 
 -- nothing is found where nothing is shown

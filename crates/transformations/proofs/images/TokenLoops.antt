@@ -1,7 +1,7 @@
 -- The loop that looks for a token that movements bring twice.
-use Rattle.std.proofs.Common.{◌≡◌, ℕ, ◌+◌, ◌<◌, Bool, true, false, ◌||◌, ℤ, List, [], ◌∷◌, find, get_or, length, take, cond, Option, Some, None, option_map, refl, sym, subst, ap, ◌∙◌}
+use Rattle.std.proofs.Common.{◌≡◌, ℕ, ◌+◌, ◌<◌, Bool, ◌||◌, ℤ, List, [], ◌∷◌, find, get_or, length, take, cond, Option, Some, None, option_map, refl, sym, subst, ap, ◌∙◌}
 use Rattle.std.proofs.lemmas.List.Folds.{list_any-append, list_any_more}
-use Rattle.std.specs.BTreeSet.{BTreeSet, Updates, contains}
+use Rattle.std.specs.BTreeSet.{BTreeSet, contains}
 use Rattle.std.specs.List.{list_any}
 use Rattle.std.specs.Ordering.{int_cmp, int_eq}
 use Rattle.cluster_terms.specs.declared.token.Pair.{Pair}
@@ -60,22 +60,3 @@ pub seen_more : (seen after : BTreeSet ℤ) (rows : List SeqRow) (i : ℕ) (row 
     → (t : ℤ) → contains int_cmp after t ≡ list_any (puts t) (take (i + 1) rows)
 seen_more seen after rows i row in_i here known more t =
     more t ∙ ap (λ b. b || puts t row) (known t) ∙ ap (λ r. list_any (puts t) (take i rows) || puts t r) here ∙ sym (list_any_more (puts t) rows i row in_i)
-
--- one more token in the set
-pub tokens_more : (first seen after : BTreeSet ℤ) (pairs : List Pair) (i : ℕ) (p : Pair) → i < length pairs → p ≡ get_or pairs i p
-    → ((t : ℤ) → contains int_cmp seen t ≡ (contains int_cmp first t || has_token (take i pairs) t)) → Updates int_cmp seen after p.token true
-    → (t : ℤ) → contains int_cmp after t ≡ (contains int_cmp first t || has_token (take (i + 1) pairs) t)
-tokens_more first seen after pairs i p in_i here known updates t =
-    updates.0 t ∙ either (int_eq p.token t) (contains int_cmp seen t) ∙ ap (λ b. b || int_eq p.token t) (known t)
-    ∙ turned (contains int_cmp first t) (has_token (take i pairs) t) (int_eq p.token t)
-    ∙ ap (λ b. contains int_cmp first t || b) (ap (λ (q : Pair). has_token (take i pairs) t || int_eq q.token t) here ∙ sym (list_any_more (λ (q : Pair). int_eq q.token t) pairs i p in_i))
-  where
-    either : (a b : Bool) → cond a true b ≡ (b || a)
-    either true true = refl
-    either true false = refl
-    either false true = refl
-    either false false = refl
-
-    turned : (a b c : Bool) → ((a || b) || c) ≡ (a || (b || c))
-    turned true b c = refl
-    turned false b c = refl

@@ -6,7 +6,7 @@ use Rattle.std.specs.List.{AllByRecursion, IsDistinct, list_any}
 use Rattle.std.specs.Ordering.{eq_by_cmp, is_eq, match_ordering}
 use Rattle.std.specs.declared.cmp.Ordering.{Ordering}
 use Rattle.std.specs.declared.cmp.Ordering.TheVariants.{Less, Equal, Greater}
-use Rattle.cluster_terms.proofs.AscendingLemmas.{All-put_all}
+use Rattle.cluster_terms.proofs.lists.AscendingLemmas.{All-put_all}
 use Rattle.cluster_terms.specs.Ascending.{put, put_all}
 use Rattle.transformations.proofs.lists.ListLemmas.{IsPart, dropped, kept, nothing, part_all_of, part_back, part_front}
 

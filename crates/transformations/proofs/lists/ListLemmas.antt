@@ -11,9 +11,9 @@ use Rattle.std.specs.declared.cmp.Ordering.TheVariants.{Less, Equal, Greater}
 use Rattle.std.proofs.Common.{append_assoc}
 use Rattle.std.proofs.lemmas.Bool.{false≢true, or_left as or_true_left, or_right as or_true_right}
 use Rattle.std.specs.Set.{is_member}
-use Rattle.cluster_terms.proofs.AscendingLemmas.{All-put_all}
-use Rattle.cluster_terms.proofs.GroupLemmas.{or_elim}
-use Rattle.cluster_terms.proofs.PutPermutes.{put_permutes}
+use Rattle.cluster_terms.proofs.lists.AscendingLemmas.{All-put_all}
+use Rattle.cluster_terms.proofs.placement.GroupLemmas.{or_elim}
+use Rattle.cluster_terms.proofs.lists.PutPermutes.{put_permutes}
 use Rattle.cluster_terms.specs.Ascending.{put, put_all}
 use Rattle.cluster_terms.specs.Pair.{has_pair, without_pairs}
 use Rattle.cluster_terms.specs.declared.token.Pair.{Pair}

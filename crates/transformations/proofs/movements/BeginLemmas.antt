@@ -8,7 +8,7 @@ use Rattle.std.specs.List.{list_any}
 use Rattle.std.specs.List.Sorted.{IsStrictlySortedBy}
 use Rattle.std.specs.Ordering.{int_cmp}
 use Rattle.std.specs.declared.cmp.Ordering.TheVariants.{Less}
-use Rattle.cluster_terms.proofs.GroupLemmas.{or_elim}
+use Rattle.cluster_terms.proofs.placement.GroupLemmas.{or_elim}
 use Rattle.cluster_terms.specs.Pair.{tokens_of}
 use Rattle.cluster_terms.specs.declared.token.Pair.{Pair}
 use Rattle.transformations.proofs.commands.AcceptedLemmas.{AreNew, HasJoined, IsApart, IsFree, IsIdle, MayMove, MayReplace, apart, prepare_join_accepted, prepare_leave_accepted, prepare_move_accepted, prepare_replace_accepted, same_id}
@@ -21,7 +21,7 @@ use Rattle.transformations.specs.History.{is_command}
 use Rattle.transformations.specs.Orders.{by_token}
 use Rattle.transformations.specs.Refusals.{early_refusal_of, prepared_by}
 use Rattle.transformations.specs.Rings.{widest}
-use Rattle.transformations.specs.Steps.{join_of, leave_of, move_of, owned, pairs_of, replace_of, takes_part}
+use Rattle.transformations.specs.Movements.{join_of, leave_of, move_of, owned, pairs_of, replace_of, takes_part}
 use Rattle.transformations.specs.Valid.{IsMovement, IsSound, brought, brought_by}
 use Rattle.transformations.specs.declared.command.Command.{Command}
 use Rattle.transformations.specs.declared.command.Command.TheVariants.{Register, Unregister, UnsafeJoin, Keyspace, DropKeyspace, PrepareJoin, PrepareMove, PrepareLeave, PrepareReplace, Step, Cancel}
@@ -41,18 +41,18 @@ begin_new image j may = apart image j.node (may.free j.node (own_takes j))
 -- ---- tokens
 
 -- what stands, and what movements bring to tokens of their own
-abbrev pub settled : Image → List Pair
-settled image = image.tokens ++ brought image.sequences
+abbrev pub ring_and_brought : Image → List Pair
+ring_and_brought image = image.tokens ++ brought image.sequences
 
-pub settled_few : (image : Image) → IsSound image → AreFew (settled image)
-settled_few image h = record { fresh = h.fresh; few = h.few_tokens }
+pub ring_and_brought_few : (image : Image) → IsSound image → AreFew (ring_and_brought image)
+ring_and_brought_few image h = record { fresh = h.fresh; few = h.few_tokens }
 
-pub settled_part : (image : Image) → IsPart (settled image) (widest image)
-settled_part image = part_append (part_all image.tokens) (part_brought image.sequences)
+pub ring_and_brought_part : (image : Image) → IsPart (ring_and_brought image) (widest image)
+ring_and_brought_part image = part_append (part_all image.tokens) (part_brought image.sequences)
 
 -- the pairs of new tokens are new
-pub few_new : (image : Image) (n : ℕ) (tokens : List ℤ) → IsSound image → AreTokens tokens → AreNew image tokens → AreFew (pairs_of n tokens ++ settled image)
-few_new image n tokens h t new = new_pairs image n tokens (settled image) t.ascending new (settled_part image) h.fresh
+pub few_new : (image : Image) (n : ℕ) (tokens : List ℤ) → IsSound image → AreTokens tokens → AreNew image tokens → AreFew (pairs_of n tokens ++ ring_and_brought image)
+few_new image n tokens h t new = new_pairs image n tokens (ring_and_brought image) t.ascending new (ring_and_brought_part image) h.fresh
 
 -- ---- nodes
 
@@ -103,7 +103,7 @@ may_leave : (image : Image) (n : ℕ) → IsSound image → HasJoined image n �
 may_leave image n h a = record {
   fits = record { stands = a.stands; ascending = no_pairs; fits = record { out = refl; some = owned_joined image.tokens n a.joined; in_none = refl } };
   free = λ m takes. subst (IsFree image) (own_part image.tokens n m takes) a.free;
-  few = settled_few image h;
+  few = ring_and_brought_few image h;
 }
 
 may_replace : (image : Image) (n gone : ℕ) → IsSound image → MayReplace image n gone → MayBegin image (replace_of image.tokens n gone)
@@ -118,7 +118,7 @@ may_replace image n gone h a =
       free = λ m takes.
           or_elim (n == m) (list_any (λ (p : Pair). p.node == m) out) takes (λ here. subst (IsFree image) (same_id n m here) a.node.free)
           (λ there. subst (IsFree image) (of_owned image.tokens gone m there) a.free);
-      few = settled_few image h;
+      few = ring_and_brought_few image h;
     }
 
 -- ---- each command

@@ -12,7 +12,7 @@ use Rattle.cluster_terms.specs.Pair.{has_pair, tokens_of, without_pairs}
 use Rattle.cluster_terms.specs.declared.node.NodeRow.{NodeRow}
 use Rattle.cluster_terms.specs.declared.token.Pair.{Pair}
 use Rattle.transformations.proofs.commands.AcceptedLemmas.{same_id}
-use Rattle.transformations.proofs.movements.BeginLemmas.{settled, settled_few}
+use Rattle.transformations.proofs.movements.BeginLemmas.{ring_and_brought, ring_and_brought_few}
 use Rattle.transformations.proofs.movements.ExchangeLemmas.{IsExchange}
 use Rattle.transformations.proofs.lists.FilterLemmas.{part_filtered}
 use Rattle.transformations.proofs.movements.FitsLemmas.{GoesOn}
@@ -25,7 +25,7 @@ use Rattle.transformations.proofs.pairs.RingPairs.{AreFew, few_moved, not_others
 use Rattle.transformations.proofs.pairs.SwapLemmas.{few_swapped}
 use Rattle.transformations.specs.Orders.{by_token}
 use Rattle.transformations.specs.States.{owns_tokens}
-use Rattle.transformations.specs.Steps.{leaver, others, owned, ring_after, takes_part, with_left}
+use Rattle.transformations.specs.Movements.{leaver, others, owned, ring_after, takes_part, with_left}
 use Rattle.transformations.specs.Valid.{IsMovement, IsOwned, IsSound, brought, brought_by, is_standing, stands}
 use Rattle.transformations.specs.declared.image.Image.{Image}
 use Rattle.transformations.specs.declared.sequence.SeqRow.{SeqRow}
@@ -52,10 +52,10 @@ module _ (image : Image) (s : SeqRow) (h : IsSound image) (m : IsMovement image 
   few_apart : AreFew (brought_by s.kind s.in_pairs ++ (image.tokens ++ brought rest))
   few_apart =
       let own : List Pair = brought_by s.kind s.in_pairs in
-      few_moved (settled image) (own ++ (image.tokens ++ brought rest))
+      few_moved (ring_and_brought image) (own ++ (image.tokens ++ brought rest))
       (IsPermutation-trans (image.tokens ++ brought image.sequences) (image.tokens ++ (own ++ brought rest)) (own ++ (image.tokens ++ brought rest))
       (IsPermutation-append_right image.tokens (brought image.sequences) (own ++ brought rest) (flat_without (λ (q : SeqRow). brought_by q.kind q.in_pairs) s.node image.sequences s h.movements found))
-      (exchanged image.tokens own (brought rest))) (settled_few image h)
+      (exchanged image.tokens own (brought rest))) (ring_and_brought_few image h)
 
   -- the pairs that come, beside those that stay and those that others bring
   few_after : AreFew (s.in_pairs ++ (kept ++ brought rest))

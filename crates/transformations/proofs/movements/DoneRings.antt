@@ -2,7 +2,7 @@
 use Rattle.std.proofs.Common.{◌≡◌, Bool, true, false, cond, not, ◌&&◌, ◌||◌, ◌==◌, true≢false, List, [], ◌∷◌, ◌++◌, filter, find, flat_map, Some, refl, sym, ap, ◌∙◌, arith}
 use Rattle.std.proofs.lemmas.List.Kept.{IsStrictlySortedBy-filter}
 use Rattle.std.proofs.lemmas.Option.{none-some}
-use Rattle.cluster_terms.proofs.PairLemmas.{same_pair-tells}
+use Rattle.cluster_terms.proofs.rows.PairLemmas.{same_pair-tells}
 use Rattle.cluster_terms.specs.Pair.{has_pair, same_pair}
 use Rattle.cluster_terms.specs.declared.token.Pair.{Pair}
 use Rattle.transformations.proofs.movements.DoneLemmas.{has_done}
@@ -14,7 +14,7 @@ use Rattle.transformations.proofs.movements.OnceLemmas.{not_out, others_free}
 use Rattle.transformations.proofs.pairs.OwnedLemmas.{has_append, has_filter, has_permuted}
 use Rattle.transformations.specs.Orders.{by_node}
 use Rattle.transformations.specs.Rings.{incoming, outgoing, replaced}
-use Rattle.transformations.specs.Steps.{others, ring_after, takes_part}
+use Rattle.transformations.specs.Movements.{others, ring_after, takes_part}
 use Rattle.transformations.specs.Valid.{IsMovement, IsSound}
 use Rattle.transformations.specs.declared.image.Image.{Image}
 use Rattle.transformations.specs.declared.sequence.SeqRow.{SeqRow}

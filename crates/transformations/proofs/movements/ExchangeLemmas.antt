@@ -13,7 +13,7 @@ use Rattle.transformations.proofs.pairs.OwnedLemmas.{joined_owned}
 use Rattle.transformations.proofs.pairs.RingPairs.{length-pairs, not_others, pairs_own, tokens_of-pairs}
 use Rattle.transformations.proofs.pairs.SwapLemmas.{PutsAnew}
 use Rattle.transformations.specs.States.{owns_tokens}
-use Rattle.transformations.specs.Steps.{first_node, leaver_by, owned, takes_part}
+use Rattle.transformations.specs.Movements.{first_node, leaver_by, owned, takes_part}
 use Rattle.transformations.specs.Valid.{Fits, IsMovement, IsOwned, IsReplace, IsSound, is_standing}
 use Rattle.transformations.specs.declared.image.Image.{Image}
 use Rattle.transformations.specs.declared.sequence.Kind.{Kind}

@@ -6,7 +6,7 @@ use Rattle.transformations.proofs.movements.ExchangeLemmas.{gone_joined, gone_ta
 use Rattle.transformations.proofs.lists.ListLemmas.{all_map, all_weaker}
 use Rattle.transformations.proofs.pairs.OwnedLemmas.{joined_as}
 use Rattle.transformations.specs.Refusals.{unless_near}
-use Rattle.transformations.specs.Steps.{at_phase, owned, takes_part}
+use Rattle.transformations.specs.Movements.{at_phase, owned, takes_part}
 use Rattle.transformations.specs.Valid.{Fits, IsMovement, IsOwned, is_standing, stands}
 use Rattle.transformations.specs.declared.image.Image.{Image}
 use Rattle.transformations.specs.declared.sequence.Kind.{Kind}

@@ -13,13 +13,13 @@ use Rattle.std.specs.declared.cmp.Ordering.TheVariants.{Less, Equal, Greater}
 use Rattle.cluster_terms.specs.Ascending.{put}
 use Rattle.cluster_terms.specs.declared.token.Pair.{Pair}
 use Rattle.transformations.proofs.commands.AcceptedLemmas.{same_id}
-use Rattle.cluster_terms.proofs.PutPermutes.{put_permutes}
+use Rattle.cluster_terms.proofs.lists.PutPermutes.{put_permutes}
 use Rattle.transformations.proofs.lists.ListLemmas.{IsPart, all_map, all_weaker, exchanged, filter_all, find_none, part_all, part_append, part_none}
 use Rattle.transformations.specs.History.{are_tokens, ascend}
 use Rattle.transformations.specs.Orders.{by_node}
 use Rattle.transformations.specs.Ranges.{moved_by}
 use Rattle.transformations.specs.Rings.{incoming, outgoing}
-use Rattle.transformations.specs.Steps.{at_phase, others}
+use Rattle.transformations.specs.Movements.{at_phase, others}
 use Rattle.transformations.specs.Valid.{brought, brought_by}
 use Rattle.transformations.specs.declared.sequence.Kind.{Kind}
 use Rattle.transformations.specs.declared.sequence.Kind.TheVariants.{Join, Move, Leave, Replace}

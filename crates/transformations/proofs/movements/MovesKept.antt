@@ -5,10 +5,10 @@ use Rattle.transformations.proofs.lists.ListLemmas.{all_found, found_passes}
 use Rattle.transformations.proofs.movements.MovesOn.{MoveAlike, MoveOn, on_others, on_phase, on_put, on_same}
 use Rattle.transformations.proofs.ranges.PreparedLemmas.{new_movement}
 use Rattle.transformations.proofs.ranges.RangesKept.{cancel_by, finish_by}
-use Rattle.transformations.specs.Deltas.{MovesSame}
+use Rattle.transformations.specs.MovementDeltas.{MovesSame}
 use Rattle.transformations.specs.History.{begun, is_command, next_image}
 use Rattle.transformations.specs.Refusals.{prepared_by, refusal_of}
-use Rattle.transformations.specs.Steps.{join_of, leave_of, move_of, movement_of, replace_of}
+use Rattle.transformations.specs.Movements.{join_of, leave_of, move_of, movement_of, replace_of}
 use Rattle.transformations.specs.Valid.{IsSound}
 use Rattle.transformations.specs.declared.command.Command.{Command}
 use Rattle.transformations.specs.declared.command.Command.TheVariants.{Register, Unregister, UnsafeJoin, Keyspace, DropKeyspace, PrepareJoin, PrepareMove, PrepareLeave, PrepareReplace, Step, Cancel}

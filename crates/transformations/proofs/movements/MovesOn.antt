@@ -5,13 +5,13 @@ use Rattle.std.specs.List.{AllByRecursion}
 use Rattle.std.specs.List.Sorted.{IsStrictlySortedBy}
 use Rattle.std.specs.Ordering.{nat_cmp}
 use Rattle.std.specs.declared.cmp.Ordering.TheVariants.{Less}
-use Rattle.cluster_terms.proofs.AscendingLemmas.{All-put}
+use Rattle.cluster_terms.proofs.lists.AscendingLemmas.{All-put}
 use Rattle.cluster_terms.specs.Ascending.{put}
 use Rattle.transformations.proofs.lists.ListLemmas.{all_both, all_map, all_none, all_weaker, part_all_of, part_filter}
 use Rattle.transformations.proofs.movements.MovementLemmas.{phase_in_pairs, phase_node, phase_out_pairs}
-use Rattle.transformations.specs.Deltas.{MovesSame}
+use Rattle.transformations.specs.MovementDeltas.{MovesSame}
 use Rattle.transformations.specs.Orders.{by_node}
-use Rattle.transformations.specs.Steps.{at_phase, others}
+use Rattle.transformations.specs.Movements.{at_phase, others}
 use Rattle.transformations.specs.declared.sequence.Phase.{Phase}
 use Rattle.transformations.specs.declared.sequence.SeqRow.{SeqRow}
 

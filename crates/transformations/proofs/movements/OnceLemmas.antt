@@ -6,17 +6,17 @@ use Rattle.std.proofs.lemmas.Bool.Decides.{nat_tests}
 use Rattle.std.proofs.lemmas.List.Folds.{list_any-append}
 use Rattle.std.proofs.lemmas.Map.Keys.{IsDistinct-IsPermutation, IsDistinct-cons, IsDistinct-head, IsDistinct-tail}
 use Rattle.std.specs.List.{AllByRecursion, AllPairs, IsDistinct, list_any}
-use Rattle.cluster_terms.proofs.PairLemmas.{any_from_pair}
+use Rattle.cluster_terms.proofs.rows.PairLemmas.{any_from_pair}
 use Rattle.cluster_terms.specs.Ascending.{put}
 use Rattle.cluster_terms.specs.Pair.{has_pair, same_pair}
 use Rattle.cluster_terms.specs.declared.token.Pair.{Pair}
 use Rattle.transformations.proofs.commands.AcceptedLemmas.{IsFree}
-use Rattle.transformations.proofs.ranges.ApartLemmas.{distinct_alike, distinct_from_pairs, distinct_map, found_apart, pairs_from_distinct}
+use Rattle.transformations.proofs.ranges.MovementsApart.{distinct_alike, distinct_from_pairs, distinct_map, found_apart, pairs_from_distinct}
 use Rattle.transformations.proofs.lists.ListLemmas.{all_each, all_filter, all_weaker, part_distinct, part_filter}
 use Rattle.transformations.proofs.movements.MovementLemmas.{phase_node, phase_out_pairs, sequences_put}
 use Rattle.transformations.specs.Orders.{by_node}
 use Rattle.transformations.specs.Rings.{outgoing}
-use Rattle.transformations.specs.Steps.{at_phase, others, takes_part}
+use Rattle.transformations.specs.Movements.{at_phase, others, takes_part}
 use Rattle.transformations.specs.Valid.{HaveNoNodeTwice}
 use Rattle.transformations.specs.declared.image.Image.{Image}
 use Rattle.transformations.specs.declared.sequence.Phase.{Phase}

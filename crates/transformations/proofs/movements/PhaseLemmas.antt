@@ -3,7 +3,7 @@ use Rattle.std.proofs.Common.{◌≡◌, ℕ, Bool, true, false, cond, ◌==◌,
 use Rattle.std.specs.List.{AllByRecursion}
 use Rattle.cluster_terms.specs.declared.token.Pair.{Pair}
 use Rattle.transformations.specs.Rings.{incoming, outgoing}
-use Rattle.transformations.specs.Steps.{at_phase}
+use Rattle.transformations.specs.Movements.{at_phase}
 use Rattle.transformations.specs.declared.sequence.Phase.{Phase}
 use Rattle.transformations.specs.declared.sequence.SeqRow.{SeqRow}
 

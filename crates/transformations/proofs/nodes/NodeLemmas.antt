@@ -19,7 +19,7 @@ use Rattle.cluster_terms.specs.declared.replication.Replication.TheVariants.{Sim
 use Rattle.cluster_terms.specs.declared.node.NodeRow.{NodeRow}
 use Rattle.transformations.proofs.lists.ListLemmas.{IsPart, all_append, all_map, all_weaker, any_false, part_all_of, part_distinct, part_filter, part_length, part_map, part_sorted}
 use Rattle.transformations.specs.Refusals.{most_nodes}
-use Rattle.transformations.specs.Steps.{with_left}
+use Rattle.transformations.specs.Movements.{with_left}
 use Rattle.transformations.specs.Valid.{AreNodes, is_standing, stands}
 
 -- ---- one more
@@ -34,7 +34,7 @@ sorted_push (x ∷ xs) y up below = (all_append (λ z. nat_cmp x z ≡ Less) xs 
 
 pub nodes_push : (nodes : List NodeRow) (next : ℕ) (row : NodeRow) → row.id ≡ next → 1 ≤ next → length nodes < most_nodes
     → AllByRecursion (λ (r : NodeRow). bytes_eq r.name row.name ≡ false) nodes → AreNodes nodes next → AreNodes (nodes ++ row ∷ []) (next + 1)
-nodes_push nodes next row is some room free h =
+nodes_push nodes next row is some below_limit free h =
     let ids : map (λ (r : NodeRow). r.id) (nodes ++ row ∷ []) ≡ map (λ (r : NodeRow). r.id) nodes ++ row.id ∷ [] = map-append (λ (r : NodeRow). r.id) nodes (row ∷ []) in
     let names : map (λ (r : NodeRow). r.name) (nodes ++ row ∷ []) ≡ map (λ (r : NodeRow). r.name) nodes ++ row.name ∷ [] = map-append (λ (r : NodeRow). r.name) nodes (row ∷ []) in
     let below : AllByRecursion (λ x. x < row.id) (map (λ (r : NodeRow). r.id) nodes) =

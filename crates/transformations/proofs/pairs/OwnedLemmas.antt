@@ -9,7 +9,7 @@ use Rattle.std.specs.Cmp.{IsEquivalence}
 use Rattle.std.specs.List.{AllByRecursion, IsDistinct, list_any}
 use Rattle.std.specs.List.Sorted.{IsPermutation}
 use Rattle.std.specs.Ordering.{int_eq}
-use Rattle.cluster_terms.proofs.PairLemmas.{same_pair-refl, same_pair-tells}
+use Rattle.cluster_terms.proofs.rows.PairLemmas.{same_pair-refl, same_pair-tells}
 use Rattle.cluster_terms.specs.Ascending.{put_all}
 use Rattle.cluster_terms.specs.Pair.{has_pair, same_pair, tokens_of, without_pairs}
 use Rattle.cluster_terms.specs.declared.token.Pair.{Pair}
@@ -17,7 +17,7 @@ use Rattle.transformations.proofs.lists.FilterLemmas.{any_as_filter, any_counted
 use Rattle.transformations.proofs.lists.ListLemmas.{all_members, distinct_by}
 use Rattle.transformations.specs.Orders.{by_token}
 use Rattle.transformations.specs.Rings.{fixed_ring, incoming, outgoing, widest}
-use Rattle.transformations.specs.Steps.{owned}
+use Rattle.transformations.specs.Movements.{owned}
 use Rattle.transformations.specs.declared.image.Image.{Image}
 
 -- ---- pairs that pass a test

@@ -12,8 +12,8 @@ use Rattle.std.specs.List.Sorted.{IsPermutation, IsStrictlySortedBy}
 use Rattle.std.specs.Ordering.{int_cmp, int_eq}
 use Rattle.std.specs.declared.cmp.Ordering.TheVariants.{Less}
 use Rattle.std.specs.Set.{distinct_count, is_member}
-use Rattle.cluster_terms.proofs.AscendingLemmas.{All-put_all, below_sorted, put_all_sorted}
-use Rattle.cluster_terms.proofs.DistinctCounts.{distinct_count-within}
+use Rattle.cluster_terms.proofs.lists.AscendingLemmas.{All-put_all, below_sorted, put_all_sorted}
+use Rattle.cluster_terms.proofs.lists.DistinctCounts.{distinct_count-within}
 use Rattle.cluster_terms.specs.Ascending.{put_all}
 use Rattle.cluster_terms.specs.Pair.{tokens_of}
 use Rattle.cluster_terms.specs.declared.token.Pair.{Pair}
@@ -24,7 +24,7 @@ use Rattle.transformations.specs.Orders.{by_token}
 use Rattle.transformations.specs.Refusals.{is_taken, most_tokens, tokens_with}
 use Rattle.transformations.specs.Rings.{widest}
 use Rattle.transformations.specs.States.{owns_tokens}
-use Rattle.transformations.specs.Steps.{pairs_of}
+use Rattle.transformations.specs.Movements.{pairs_of}
 use Rattle.transformations.specs.Valid.{IsOwned, is_standing}
 use Rattle.transformations.specs.declared.image.Image.{Image}
 

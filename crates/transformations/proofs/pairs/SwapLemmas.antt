@@ -7,7 +7,7 @@ use Rattle.cluster_terms.specs.declared.token.Pair.{Pair}
 use Rattle.transformations.proofs.lists.ListLemmas.{part_all, part_append, part_filter}
 use Rattle.transformations.proofs.pairs.OwnedLemmas.{ring_split, without}
 use Rattle.transformations.proofs.pairs.RingPairs.{AreFew, few_alike, few_moved, few_part}
-use Rattle.transformations.specs.Steps.{owned}
+use Rattle.transformations.specs.Movements.{owned}
 use Rattle.transformations.specs.Valid.{brought_by}
 use Rattle.transformations.specs.declared.sequence.Kind.{Kind}
 use Rattle.transformations.specs.declared.sequence.SeqRow.{SeqRow}

@@ -7,11 +7,11 @@ use Rattle.std.proofs.lemmas.List.Folds.{list_any-append}
 use Rattle.std.proofs.lemmas.Map.Keys.{IsDistinct-head}
 use Rattle.std.specs.List.{AllByRecursion, Contains, IsDistinct, list_any}
 use Rattle.std.specs.Ordering.{int_eq}
-use Rattle.cluster_terms.proofs.PairLemmas.{same_pair-refl}
+use Rattle.cluster_terms.proofs.rows.PairLemmas.{same_pair-refl}
 use Rattle.cluster_terms.specs.Pair.{has_pair, same_pair, tokens_of, without_pairs}
 use Rattle.cluster_terms.specs.declared.token.Pair.{Pair}
 use Rattle.transformations.proofs.commands.AcceptedLemmas.{same_id}
-use Rattle.transformations.proofs.movements.BeginLemmas.{settled_few}
+use Rattle.transformations.proofs.movements.BeginLemmas.{ring_and_brought_few}
 use Rattle.transformations.proofs.movements.ExchangeLemmas.{IsExchange, exchanges, own_takes}
 use Rattle.transformations.proofs.lists.FilterLemmas.{filter_alike, filter_both}
 use Rattle.transformations.proofs.lists.ListLemmas.{all_both, all_members, all_pi, all_weaker, exchanged, filter_all, filter_none, nothing, part_all, part_all_of, part_append, part_distinct, part_filter, part_flat, part_front, part_map, part_without_pairs}
@@ -21,7 +21,7 @@ use Rattle.transformations.proofs.pairs.OwnedLemmas.{has_filter, owned_without, 
 use Rattle.transformations.proofs.pairs.RingPairs.{AreFew, few_moved, few_part, not_others}
 use Rattle.transformations.proofs.pairs.SwapLemmas.{PutsAnew, few_swapped}
 use Rattle.transformations.specs.Rings.{high_ring, incoming, is_mid, has_started, low_ring, outgoing, read_ring, replaced, ring_at}
-use Rattle.transformations.specs.Steps.{owned, takes_part}
+use Rattle.transformations.specs.Movements.{owned, takes_part}
 use Rattle.transformations.specs.Valid.{IsSound, brought, brought_by}
 use Rattle.transformations.specs.declared.image.Image.{Image}
 use Rattle.transformations.specs.declared.sequence.Phase.{Phase}
@@ -117,7 +117,7 @@ replaced_few test image h =
     few_replaced image.tokens (filter test image.sequences)
     (part_all_of (IsSwap image.tokens) part (all_weaker (IsExchange image) (IsSwap image.tokens) (swap image) image.sequences (exchanges image h)))
     (λ n. part_distinct (both_take n) part (once_by_node image.sequences h.once n))
-    (few_part (part_append (part_all image.tokens) (part_flat (λ (q : SeqRow). brought_by q.kind q.in_pairs) test image.sequences)) (settled_few image h))
+    (few_part (part_append (part_all image.tokens) (part_flat (λ (q : SeqRow). brought_by q.kind q.in_pairs) test image.sequences)) (ring_and_brought_few image h))
 
 ring_few : (applied : Phase → Bool) (image : Image) → IsSound image → AreFew (ring_at applied image)
 ring_few applied = replaced_few (λ s. applied s.phase)

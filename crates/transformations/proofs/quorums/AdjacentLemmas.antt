@@ -20,7 +20,7 @@ use Rattle.transformations.specs.History.{is_command, most_epochs, next_image}
 use Rattle.transformations.specs.Meeting.{AreWritten, ExistAt, HaveReplications, MeetAt, QuorumsMeet, makes_movement_epoch}
 use Rattle.transformations.specs.Refusals.{early_refusal_of, no_node, no_sequence, refusal_of, unless_next, wrong_step}
 use Rattle.transformations.specs.Rings.{is_mid, has_started, reads_at}
-use Rattle.transformations.specs.Steps.{at_phase, finished, is_next_step, join_of, leave_of, move_of, movement_of, others, phase_before, replace_of, same_kind, same_phase, sequences_after_cancel}
+use Rattle.transformations.specs.Movements.{at_phase, finished, is_next_step, join_of, leave_of, move_of, movement_of, others, phase_before, replace_of, same_kind, same_phase, sequences_after_cancel}
 use Rattle.transformations.specs.Valid.{IsSound, IsValid}
 use Rattle.transformations.specs.declared.command.Command.{Command}
 use Rattle.transformations.specs.declared.command.Command.TheVariants.{Register, Unregister, UnsafeJoin, Keyspace, DropKeyspace, PrepareJoin, PrepareMove, PrepareLeave, PrepareReplace, Step, Cancel}
@@ -190,5 +190,5 @@ pub meet_itself : (image : Image) → IsValid image → HaveReplications image �
 meet_itself image h valid = meet_sharing image image h h refl valid (λ r x. inl (record { reads = refl; places = λ dc v there. refl }))
 
 pub meet_next : (image : Image) (c : Command) → IsValid image → HaveReplications image → is_command c ≡ true → refusal_of image c ≡ None → makes_movement_epoch c ≡ true → image.epoch < most_epochs → QuorumsMeet image (next_image image c)
-meet_next image c h valid right none is room =
-    meet_sharing image (next_image image c) h (valid_next image c h right none room) (same_keyspaces image c is) valid (share_next image c h.sound right none is)
+meet_next image c h valid right none is below_limit =
+    meet_sharing image (next_image image c) h (valid_next image c h right none below_limit) (same_keyspaces image c is) valid (share_next image c h.sound right none is)

@@ -1,6 +1,6 @@
 -- The last step of a movement leaves what is read as it is.
 use Rattle.std.proofs.Common.{◌≡◌, ℕ, true, ◌==◌, find, is_some, Some, inl, ap, ◌∙◌}
-use Rattle.cluster_terms.proofs.PlacedByReach.{place-same}
+use Rattle.cluster_terms.proofs.placement.PlacedByReach.{place-same}
 use Rattle.cluster_terms.specs.Group.{place}
 use Rattle.cluster_terms.specs.Replication.{groups_of}
 use Rattle.transformations.proofs.movements.DoneLemmas.{done}
@@ -8,7 +8,7 @@ use Rattle.transformations.proofs.movements.DoneRings.{ring_same}
 use Rattle.transformations.proofs.nodes.NodeLemmas.{groups_left, rack_left}
 use Rattle.transformations.proofs.quorums.SameSets.{ShareSets, mid}
 use Rattle.transformations.specs.Rings.{is_mid, read_ring, reads_at}
-use Rattle.transformations.specs.Steps.{leaver}
+use Rattle.transformations.specs.Movements.{leaver}
 use Rattle.transformations.specs.Valid.{IsSound}
 use Rattle.transformations.specs.declared.image.Image.{Image}
 use Rattle.transformations.specs.declared.sequence.SeqRow.{SeqRow}

@@ -4,9 +4,9 @@ use Rattle.std.proofs.lemmas.Bool.{and_parts, or_left, or_right}
 use Rattle.std.proofs.lemmas.List.Kept.{IsStrictlySortedBy-filter}
 use Rattle.std.specs.List.{AllByRecursion}
 use Rattle.std.specs.Ordering.{nat_cmp}
-use Rattle.cluster_terms.proofs.GroupLemmas.{has}
-use Rattle.cluster_terms.proofs.PlacementCounts.{datacenter_few, place_few}
-use Rattle.cluster_terms.proofs.QuorumLemmas.{AreAmong, Ascend, has_filter, quorums_exist, quorums_meet}
+use Rattle.cluster_terms.proofs.placement.GroupLemmas.{has}
+use Rattle.cluster_terms.proofs.placement.PlacementCounts.{datacenter_few, place_few}
+use Rattle.cluster_terms.proofs.quorums.QuorumLemmas.{AreAmong, Ascend, has_filter, quorums_exist, quorums_meet}
 use Rattle.cluster_terms.specs.NodeRow.{row_of}
 use Rattle.cluster_terms.specs.Quorum.{Meet}
 use Rattle.cluster_terms.specs.Replication.{IsReplication, rack_within, total_of}

@@ -6,9 +6,9 @@ use Rattle.std.proofs.lemmas.Map.Views.{exact_unsigned_eq}
 use Rattle.std.specs.Cmp.{unsigned_tied}
 use Rattle.std.specs.List.{AllByRecursion}
 use Rattle.std.specs.Ordering.{nat_cmp, eq_by_cmp}
-use Rattle.cluster_terms.proofs.GroupLemmas.{has, or_elim}
-use Rattle.cluster_terms.proofs.PlacedNodes.{placed_nodes}
-use Rattle.cluster_terms.proofs.PlacementCounts.{placed_within}
+use Rattle.cluster_terms.proofs.placement.GroupLemmas.{has, or_elim}
+use Rattle.cluster_terms.proofs.placement.PlacedNodes.{placed_nodes}
+use Rattle.cluster_terms.proofs.placement.PlacementCounts.{placed_within}
 use Rattle.cluster_terms.specs.Ascending.{put, put_all}
 use Rattle.cluster_terms.specs.Group.{nodes_of, place}
 use Rattle.cluster_terms.specs.NodeRow.{row_of}
@@ -25,7 +25,7 @@ use Rattle.transformations.proofs.quorums.ServedLemmas.{IsServed}
 use Rattle.transformations.specs.History.{begun}
 use Rattle.transformations.specs.Orders.{by_node}
 use Rattle.transformations.specs.Rings.{incoming, is_mid, has_started, outgoing, read_ring, reads_at, replaced, widest, writes_at}
-use Rattle.transformations.specs.Steps.{at_phase, others}
+use Rattle.transformations.specs.Movements.{at_phase, others}
 use Rattle.transformations.specs.declared.image.Image.{Image}
 use Rattle.transformations.specs.declared.sequence.Phase.{Phase}
 use Rattle.transformations.specs.declared.sequence.SeqRow.{SeqRow}

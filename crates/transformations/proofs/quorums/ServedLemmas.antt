@@ -5,12 +5,12 @@ use Rattle.std.proofs.lemmas.List.{append-nil}
 use Rattle.std.specs.Cmp.{nat_cmp_total}
 use Rattle.std.specs.List.{AllByRecursion, IsDistinct}
 use Rattle.std.specs.Ordering.{nat_cmp}
-use Rattle.cluster_terms.proofs.AscendingLemmas.{member-put_all, put_all_sorted}
-use Rattle.cluster_terms.proofs.GroupLemmas.{has}
-use Rattle.cluster_terms.proofs.PlacedByReach.{place-same}
-use Rattle.cluster_terms.proofs.PlacementCounts.{IsRing, place_ascends}
-use Rattle.cluster_terms.proofs.PlacementLemmas.{tied}
-use Rattle.cluster_terms.proofs.QuorumLemmas.{Ascend, AreAmong}
+use Rattle.cluster_terms.proofs.lists.AscendingLemmas.{member-put_all, put_all_sorted}
+use Rattle.cluster_terms.proofs.placement.GroupLemmas.{has}
+use Rattle.cluster_terms.proofs.placement.PlacedByReach.{place-same}
+use Rattle.cluster_terms.proofs.placement.PlacementCounts.{IsRing, place_ascends}
+use Rattle.cluster_terms.proofs.placement.PlacementLemmas.{tied}
+use Rattle.cluster_terms.proofs.quorums.QuorumLemmas.{Ascend, AreAmong}
 use Rattle.cluster_terms.specs.Arc.{IsToken}
 use Rattle.cluster_terms.specs.Ascending.{put_all}
 use Rattle.cluster_terms.specs.Group.{Group, place}
@@ -27,7 +27,7 @@ use Rattle.transformations.proofs.ranges.RangesKept.{apart_at}
 use Rattle.transformations.proofs.movements.SoleLemmas.{distinct_each, filter_own, found_by_node, itself, one_passes}
 use Rattle.transformations.specs.Ranges.{AgreeAt, SamePairs, in_ranges, outcome_ring, placed_after}
 use Rattle.transformations.specs.Rings.{high_ring, incoming, is_mid, has_started, low_ring, outgoing, read_ring, reads_at, replaced, writes_at}
-use Rattle.transformations.specs.Steps.{ring_after}
+use Rattle.transformations.specs.Movements.{ring_after}
 use Rattle.transformations.specs.Valid.{IsMovement, IsSound, IsValid}
 use Rattle.transformations.specs.declared.image.Image.{Image}
 use Rattle.transformations.specs.declared.keyspace.KeyspaceRow.{KeyspaceRow}

@@ -1,7 +1,7 @@
 -- Movements keep their ranges where nodes come and go that have no pairs and take part in no movement.
 use Rattle.std.proofs.Common.{◌≡◌, ℕ, ◌+◌, true, false, not, ◌==◌, ℤ, List, [], ◌∷◌, ◌++◌, filter, None, sym, ap, ◌∙◌}
 use Rattle.std.specs.List.{AllByRecursion}
-use Rattle.cluster_terms.proofs.ReachNodes.{reached-nodes}
+use Rattle.cluster_terms.proofs.reach.ReachNodes.{reached-nodes}
 use Rattle.cluster_terms.specs.NodeRow.{row_of}
 use Rattle.cluster_terms.specs.declared.node.NodeRow.{NodeRow}
 use Rattle.cluster_terms.specs.declared.replication.Replication.{Replication}

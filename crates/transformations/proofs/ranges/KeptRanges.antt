@@ -3,20 +3,20 @@ use Rattle.std.proofs.Common.{◌≡◌, Bool, true, false, not, ◌&&◌, ◌||
 use Rattle.std.proofs.lemmas.Bool.{false≢true}
 use Rattle.std.specs.List.{AllByRecursion, list_any}
 use Rattle.std.specs.Option.{IfSome}
-use Rattle.cluster_terms.proofs.ReachKept.{IsNarrowed, reached-kept}
+use Rattle.cluster_terms.proofs.reach.ReachKept.{IsNarrowed, reached-kept}
 use Rattle.cluster_terms.specs.Arc.{IsToken}
 use Rattle.cluster_terms.specs.Pair.{has_pair}
 use Rattle.cluster_terms.specs.Reach.{is_reached}
 use Rattle.cluster_terms.specs.Replication.{groups_of}
 use Rattle.cluster_terms.specs.declared.replication.Replication.{Replication}
 use Rattle.cluster_terms.specs.declared.token.Pair.{Pair}
-use Rattle.transformations.proofs.ranges.ApartLemmas.{both_at}
+use Rattle.transformations.proofs.ranges.MovementsApart.{both_at}
 use Rattle.transformations.proofs.lists.ListLemmas.{all_both, all_each, all_false, all_found, all_weaker, found_passes}
 use Rattle.transformations.proofs.movements.MovesOn.{MoveAlike, MoveOn}
-use Rattle.transformations.specs.Deltas.{MovesSame}
+use Rattle.transformations.specs.MovementDeltas.{MovesSame}
 use Rattle.transformations.specs.Ranges.{KeepsAt, KeepsRanges, in_both, in_ranges, moved_by}
 use Rattle.transformations.specs.Rings.{fixed_ring, widest}
-use Rattle.transformations.specs.Steps.{movement_of}
+use Rattle.transformations.specs.Movements.{movement_of}
 use Rattle.transformations.specs.declared.image.Image.{Image}
 use Rattle.transformations.specs.declared.keyspace.KeyspaceRow.{KeyspaceRow}
 use Rattle.transformations.specs.declared.sequence.SeqRow.{SeqRow}

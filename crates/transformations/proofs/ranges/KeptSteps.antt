@@ -1,7 +1,7 @@
 -- Movements keep their ranges where one of them takes a step, is done or is given up.
 use Rattle.std.proofs.Common.{◌≡◌, ℕ, false, not, ◌&&◌, ◌||◌, ◌==◌, ℤ, List, ◌++◌, map, find, Some, refl, sym, ap, ◌∙◌}
 use Rattle.std.specs.List.{AllByRecursion}
-use Rattle.cluster_terms.proofs.ReachKept.{IsNarrowed}
+use Rattle.cluster_terms.proofs.reach.ReachKept.{IsNarrowed}
 use Rattle.cluster_terms.specs.Pair.{has_pair, without_pairs}
 use Rattle.cluster_terms.specs.declared.token.Pair.{Pair}
 use Rattle.transformations.proofs.movements.DoneLemmas.{done, has_done}
@@ -13,7 +13,7 @@ use Rattle.transformations.proofs.nodes.NodeLemmas.{groups_left}
 use Rattle.transformations.proofs.pairs.OwnedLemmas.{has_append, has_fixed, has_permuted, has_widest}
 use Rattle.transformations.specs.Ranges.{in_both, in_ranges, moved_by}
 use Rattle.transformations.specs.Rings.{fixed_ring, incoming, outgoing, widest}
-use Rattle.transformations.specs.Steps.{at_phase, leaver, others}
+use Rattle.transformations.specs.Movements.{at_phase, leaver, others}
 use Rattle.transformations.specs.Valid.{IsMovement, IsSound}
 use Rattle.transformations.specs.declared.image.Image.{Image}
 use Rattle.transformations.specs.declared.keyspace.KeyspaceRow.{KeyspaceRow}

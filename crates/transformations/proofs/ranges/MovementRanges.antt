@@ -1,27 +1,25 @@
 -- The ranges of movements, row by row: they are the same from a token up to the end of its row between cuts.
-use Rattle.std.proofs.Common.{◌≡◌, true, false, true≢false, ◌&&◌, ◌==◌, ℤ, ◌≤ℤ◌, List, [], ◌∷◌, ◌++◌, find, Option, Some, None, option_map, refl, sym, ◌∙◌, subst}
+use Rattle.std.proofs.Common.{◌≡◌, true, false, ◌&&◌, ◌==◌, ℤ, ◌≤ℤ◌, List, [], ◌∷◌, ◌++◌, find, Option, Some, None, option_map, refl, sym, ◌∙◌, subst}
 use Rattle.std.proofs.lemmas.Bool.Decides.{Decides-int_eq}
 use Rattle.std.proofs.lemmas.Cmp.{int_cmp_total, int_eq_equiv}
-use Rattle.std.proofs.Math.Logic.{◌↔◌}
 use Rattle.std.proofs.lemmas.Option.{none-some}
 use Rattle.std.specs.List.{AllByRecursion, list_any}
 use Rattle.std.specs.Ordering.{int_cmp, int_eq}
 use Rattle.std.specs.Set.{is_member}
-use Rattle.cluster_terms.proofs.AscendingLemmas.{All-put_all, ascending_sorted, member-ascending}
-use Rattle.cluster_terms.proofs.PairLemmas.{same_pair-refl, same_pair-tells}
-use Rattle.cluster_terms.proofs.ReachLemmas.{reached-between}
-use Rattle.cluster_terms.proofs.RowLemmas.{rows_have_last}
+use Rattle.cluster_terms.proofs.lists.AscendingLemmas.{ascending_sorted, member-ascending}
+use Rattle.cluster_terms.proofs.rows.PairLemmas.{same_pair-refl, same_pair-tells}
+use Rattle.cluster_terms.proofs.reach.ReachLemmas.{reached-between}
 use Rattle.cluster_terms.specs.Arc.{IsToken, in_arc}
 use Rattle.cluster_terms.specs.Pair.{has_pair, same_pair, tokens_of}
 use Rattle.cluster_terms.specs.Replication.{groups_of}
-use Rattle.cluster_terms.specs.Row.{is_within, last_token, rows_between}
+use Rattle.cluster_terms.specs.Row.{last_token, rows_between}
 use Rattle.cluster_terms.specs.declared.replication.Replication.{Replication}
 use Rattle.cluster_terms.specs.declared.row.TokenRange.{TokenRange}
 use Rattle.cluster_terms.specs.declared.token.Pair.{Pair}
 use Rattle.cluster_terms.specs.declared.token.RightEnd.{RightEnd}
 use Rattle.transformations.proofs.commands.AcceptedLemmas.{mapped_none}
 use Rattle.transformations.proofs.movements.ExchangeLemmas.{IsExchange, exchanges}
-use Rattle.transformations.proofs.lists.ListLemmas.{IsPart, all_append, all_both, all_flat_map, all_found, all_from_map, all_map, all_members, all_weaker, found_passes, member_holds, none_found, part_all_of, part_append, part_back, part_filter, part_front, part_none, part_trans, part_without_pairs}
+use Rattle.transformations.proofs.lists.ListLemmas.{IsPart, all_append, all_both, all_flat_map, all_from_map, all_members, all_weaker, found_passes, member_holds, none_found, part_all_of, part_append, part_back, part_filter, part_front, part_none, part_trans, part_without_pairs}
 use Rattle.transformations.proofs.ranges.RowEndLemmas.{HasEnd, end_of}
 use Rattle.transformations.specs.Ranges.{first_shared, in_both, in_ranges, is_shared, moved_by}
 use Rattle.transformations.specs.Rings.{cuts, fixed_ring, incoming, outgoing, widest}
@@ -113,20 +111,3 @@ shared_found image s q right some = by (find (is_shared image s q) (rows_between
     by (Some row) found is =
         let same : row.right ≡ right = cc in
         subst (λ end. in_both image s q (last_token end) ≡ true) same (found_passes (is_shared image s q) (rows_between (cuts image)) row found)
-
--- where no row between cuts is in the ranges of both, no token is, and the other way round, where the pairs have tokens
-pub shared_none : (image : Image) (s q : SeqRow) → IsWithinWidest image s → IsWithinWidest image q → AllByRecursion (λ p. IsToken p.token) (widest image)
-    → (first_shared image s q ≡ None) ↔ ((x : ℤ) → IsToken x → in_both image s q x ≡ false)
-shared_none image s q one other tokens = (none_shared image s q one other, λ apart. by apart (find (is_shared image s q) (rows_between (cuts image))) refl)
-  where
-    tokens_are : AllByRecursion IsToken (cuts image)
-    tokens_are = All-put_all int_cmp IsToken (tokens_of (widest image)) [] (all_map IsToken (λ (p : Pair). p.token) (widest image) tokens) tt
-
-    ends : AllByRecursion (λ (row : TokenRange). (is_within (last_token row.right) row ≡ true) × IsToken (last_token row.right)) (rows_between (cuts image))
-    ends = rows_have_last (cuts image) (ascending_sorted int_cmp int_cmp_total (tokens_of (widest image))) tokens_are
-
-    by : ((x : ℤ) → IsToken x → in_both image s q x ≡ false) → (o : Option TokenRange) → find (is_shared image s q) (rows_between (cuts image)) ≡ o → option_map (λ (row : TokenRange). row.right) o ≡ None
-    by apart None found = refl
-    by apart (Some row) found =
-        let end = all_found (λ (row : TokenRange). (is_within (last_token row.right) row ≡ true) × IsToken (last_token row.right)) (is_shared image s q) (rows_between (cuts image)) row found ends in
-        absurd (true≢false (sym (found_passes (is_shared image s q) (rows_between (cuts image)) row found) ∙ apart (last_token row.right) end.1))

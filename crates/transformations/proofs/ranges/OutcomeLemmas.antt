@@ -4,10 +4,10 @@ use Rattle.std.proofs.Math.Bool.{or_assoc}
 use Rattle.std.proofs.lemmas.Bool.{or_left, or_right, and_right, and_left}
 use Rattle.std.specs.List.{AllByRecursion}
 use Rattle.std.specs.Ordering.{nat_cmp}
-use Rattle.cluster_terms.proofs.GroupLemmas.{or_elim}
-use Rattle.cluster_terms.proofs.PairLemmas.{same_pair-tells}
-use Rattle.cluster_terms.proofs.PlacedByReach.{place-same, placed_by_reach}
-use Rattle.cluster_terms.proofs.ReachSame.{reached-append, reached-none}
+use Rattle.cluster_terms.proofs.placement.GroupLemmas.{or_elim}
+use Rattle.cluster_terms.proofs.rows.PairLemmas.{same_pair-tells}
+use Rattle.cluster_terms.proofs.placement.PlacedByReach.{place-same, placed_by_reach}
+use Rattle.cluster_terms.proofs.reach.ReachSame.{reached-append, reached-none}
 use Rattle.cluster_terms.specs.Ascending.{put_all}
 use Rattle.cluster_terms.specs.Pair.{has_pair, same_pair}
 use Rattle.cluster_terms.specs.Reach.{IsBetween, is_reached}
@@ -21,7 +21,7 @@ use Rattle.transformations.proofs.pairs.OwnedLemmas.{has_append, has_filter, has
 use Rattle.transformations.proofs.ranges.MovementRanges.{IsWithinWidest, fixed_part, moved_within, part_taken}
 use Rattle.transformations.specs.Ranges.{AgreeAt, AreOutcomes, ArePlacedByOutcomes, PlacedByRanges, in_ranges, moved_by, outcome_ring, side}
 use Rattle.transformations.specs.Rings.{fixed_ring, high_ring, incoming, is_mid, has_started, low_ring, outgoing, read_ring, reads_at, replaced, widest, writes_at}
-use Rattle.transformations.specs.Steps.{takes_part}
+use Rattle.transformations.specs.Movements.{takes_part}
 use Rattle.transformations.specs.Valid.{IsSound}
 use Rattle.transformations.specs.declared.image.Image.{Image}
 use Rattle.transformations.specs.declared.sequence.SeqRow.{SeqRow}

@@ -4,7 +4,7 @@ use Rattle.std.proofs.Common.{◌≡◌, true, false, ◌&&◌, ◌==◌, ℤ, L
 use Rattle.std.proofs.lemmas.List.Elements.{All-from_recursion, recursion_from_All}
 use Rattle.std.proofs.lemmas.List.Sorted.{All-permutation, IsPermutation-sym}
 use Rattle.std.specs.List.{AllByRecursion, list_any}
-use Rattle.cluster_terms.proofs.ReachKept.{IsNarrowed}
+use Rattle.cluster_terms.proofs.reach.ReachKept.{IsNarrowed}
 use Rattle.cluster_terms.specs.Arc.{IsToken}
 use Rattle.cluster_terms.specs.Ascending.{put}
 use Rattle.transformations.proofs.commands.AcceptedLemmas.{early_accepted, mapped_none, none_of, ranges_accepted}
@@ -21,7 +21,7 @@ use Rattle.transformations.specs.Orders.{by_node}
 use Rattle.transformations.specs.Ranges.{first_shared, in_both, in_ranges, moved_by}
 use Rattle.transformations.specs.Refusals.{locked, locked_by, prepared_by, refusal_of, with_movement}
 use Rattle.transformations.specs.Rings.{fixed_ring, incoming, outgoing, widest}
-use Rattle.transformations.specs.Steps.{others}
+use Rattle.transformations.specs.Movements.{others}
 use Rattle.transformations.specs.Valid.{IsSound}
 use Rattle.transformations.specs.declared.command.Command.{Command}
 use Rattle.transformations.specs.declared.image.Image.{Image}

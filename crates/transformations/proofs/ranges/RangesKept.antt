@@ -3,7 +3,7 @@ use Rattle.std.proofs.Common.{◌≡◌, ℕ, ◌+◌, Bool, true, false, if◌t
 use Rattle.std.specs.List.{AllByRecursion, IsDistinct}
 use Rattle.cluster_terms.specs.Arc.{IsToken}
 use Rattle.transformations.proofs.commands.AcceptedLemmas.{drop_keyspace_idle, early_accepted, keyspace_idle, same_id, unsafe_join_idle}
-use Rattle.transformations.proofs.ranges.ApartLemmas.{both_at, both_flips, distinct_from_pairs, found_apart}
+use Rattle.transformations.proofs.ranges.MovementsApart.{both_at, both_flips, distinct_from_pairs, found_apart}
 use Rattle.transformations.proofs.movements.DoneLemmas.{done}
 use Rattle.transformations.proofs.ranges.KeptRanges.{IsKept, keeps, keeps_all, ranges_alike}
 use Rattle.transformations.proofs.ranges.KeptNodes.{kept_register, kept_unregister}
@@ -15,7 +15,7 @@ use Rattle.transformations.proofs.ranges.PreparedLemmas.{kept_begun, new_movemen
 use Rattle.transformations.specs.History.{begun, is_command, next_image}
 use Rattle.transformations.specs.Ranges.{KeepsRanges, in_both, in_ranges}
 use Rattle.transformations.specs.Refusals.{prepared_by, refusal_of}
-use Rattle.transformations.specs.Steps.{at_phase, finished, join_of, leave_of, move_of, movement_of, others, replace_of, same_phase, sequences_after_cancel}
+use Rattle.transformations.specs.Movements.{at_phase, finished, join_of, leave_of, move_of, movement_of, others, replace_of, same_phase, sequences_after_cancel}
 use Rattle.transformations.specs.Valid.{IsValid}
 use Rattle.transformations.specs.declared.command.Command.{Command}
 use Rattle.transformations.specs.declared.command.Command.TheVariants.{Register, Unregister, UnsafeJoin, Keyspace, DropKeyspace, PrepareJoin, PrepareMove, PrepareLeave, PrepareReplace, Step, Cancel}

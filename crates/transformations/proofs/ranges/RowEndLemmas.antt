@@ -7,7 +7,7 @@ use Rattle.std.specs.List.{AllByRecursion}
 use Rattle.std.specs.List.Sorted.{IsStrictlySortedBy}
 use Rattle.std.specs.Ordering.{int_cmp}
 use Rattle.std.specs.declared.cmp.Ordering.TheVariants.{Less}
-use Rattle.cluster_terms.proofs.RowLemmas.{past_cuts, past_more, upto_last}
+use Rattle.cluster_terms.proofs.rows.RowLemmas.{past_cuts, past_more, upto_last}
 use Rattle.cluster_terms.specs.Arc.{greatest_token, in_arc}
 use Rattle.cluster_terms.specs.Row.{is_last, is_past, is_within, last_token, rows_between, rows_from}
 use Rattle.cluster_terms.specs.declared.row.TokenRange.{TokenRange}

@@ -5,8 +5,8 @@ use Rattle.std.proofs.lemmas.List.Elements.{All-from_recursion}
 use Rattle.std.specs.List.{All, AllByRecursion}
 use Rattle.std.specs.List.Sorted.{IsStrictlySortedBy}
 use Rattle.std.specs.Ordering.{int_cmp, nat_cmp}
-use Rattle.cluster_terms.proofs.AscendingLemmas.{ascending_sorted}
-use Rattle.cluster_terms.proofs.PlacementRows.{place-between}
+use Rattle.cluster_terms.proofs.lists.AscendingLemmas.{ascending_sorted}
+use Rattle.cluster_terms.proofs.placement.PlacementRows.{place-between}
 use Rattle.cluster_terms.specs.Arc.{in_arc}
 use Rattle.cluster_terms.specs.Ascending.{put_all}
 use Rattle.cluster_terms.specs.Pair.{tokens_of}

@@ -1,5 +1,5 @@
 use Rattle.std.proofs.Common.{◌∙◌}
-use Rattle.cluster_metadata.proofs.NodeLemmas.{owner_refused}
+use Rattle.cluster_metadata.proofs.accepted.ChangedNodes.{owner_refused}
 use Rattle.cluster_metadata.proofs.permit.first_refusal.Goals as goal
 
 pub returns-in-Register : goal.returns-in-Register

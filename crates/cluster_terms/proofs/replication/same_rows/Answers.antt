@@ -1,5 +1,5 @@
 use Rattle.std.proofs.Common.{◌∙◌}
-use Rattle.cluster_terms.proofs.ReplicationLemmas.{beside}
+use Rattle.cluster_terms.proofs.texts.ReplicationLemmas.{beside}
 use Rattle.cluster_terms.specs.Replication.{same_factor_row}
 use Rattle.cluster_terms.proofs.replication.same_rows.Goals as goal
 

@@ -1,6 +1,6 @@
 use Rattle.std.proofs.Common.{◌∙◌, sym}
-use Rattle.cluster_terms.proofs.ReadWords.{AreRead-more}
-use Rattle.cluster_terms.proofs.ReplicationTexts.{all_rows, no_rows}
+use Rattle.cluster_terms.proofs.texts.ReadWords.{AreRead-more}
+use Rattle.cluster_terms.proofs.texts.ReplicationTexts.{all_rows, no_rows}
 use Rattle.cluster_terms.specs.ReplicationText.{factor_row_of}
 use Rattle.cluster_terms.proofs.replication_text.rows_of.Goals as goal
 

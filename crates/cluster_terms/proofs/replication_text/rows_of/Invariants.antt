@@ -1,4 +1,4 @@
-use Rattle.cluster_terms.proofs.ReadWords.{AreRead}
+use Rattle.cluster_terms.proofs.texts.ReadWords.{AreRead}
 use Rattle.cluster_terms.specs.ReplicationText.{factor_row_of}
 use Rattle.cluster_terms.proofs.replication_text.rows_of.Given as goal
 

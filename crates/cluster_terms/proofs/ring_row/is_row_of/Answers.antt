@@ -1,6 +1,6 @@
 use Rattle.std.proofs.Common.{◌≡◌, ◌-◌, ◌<◌, ◌≤◌, true, false, int_lt, length, rules, arith}
 use Rattle.cluster_terms.specs.Row.{last_token}
-use Rattle.cluster_terms.proofs.RingRows.{climb_high, climb_low}
+use Rattle.cluster_terms.proofs.rows.RingRows.{climb_high, climb_low}
 use Rattle.cluster_terms.proofs.ring_row.is_row_of.Goals as goal
 
 pub returns-then-at-eq0-clause-row : goal.returns-then-at-eq0-clause-row

@@ -3,7 +3,7 @@ use Rattle.std.proofs.lemmas.Int.{to_z-of_z}
 use Rattle.std.proofs.lemmas.List.Sorted.{IsPartitionPoint-from_clause}
 use Rattle.cluster_terms.specs.Arc.{greatest_token}
 use Rattle.cluster_terms.specs.Row.{last_token}
-use Rattle.cluster_terms.proofs.RingRows.{ends_climb, some_left}
+use Rattle.cluster_terms.proofs.rows.RingRows.{ends_climb, some_left}
 use Rattle.cluster_terms.proofs.ring_row.row_index.Goals as goal
 
 pub returns-clause-row : goal.returns-clause-row

@@ -1,5 +1,5 @@
 use Rattle.std.proofs.Common.{◌≡◌, ◌∙◌, ◌⊎◌, ap, inl, inr, length, sym}
-use Rattle.locked_ranges.specs.FirstEnd.{first_end}
+use Rattle.locked_ranges.specs.code.FirstEnd.{first_end}
 use Rattle.locked_ranges.proofs.FirstSharedEnds.{apart_done, apart_turn, first_none, shared_done, shared_turn}
 use Rattle.locked_ranges.proofs.first_end.first_shared.Goals as goal
 

@@ -1,8 +1,8 @@
 use Rattle.std.proofs.Common.{◌≡◌, ◌↔◌, IsNone}
 use Rattle.std.specs.List.{AllByRecursion}
-use Rattle.token_ring.specs.Ranges.{AreCutOut}
+use Rattle.token_ring.specs.TokenRanges.{AreCutOut}
 use Rattle.locked_ranges.specs.Conflict.{first_shared_end}
-use Rattle.locked_ranges.specs.FirstEnd.{first_end}
+use Rattle.locked_ranges.specs.code.FirstEnd.{first_end}
 use Rattle.locked_ranges.specs.Sharing.{ShareNoToken}
 use Rattle.locked_ranges.proofs.first_end.first_shared.Given as goal
 

@@ -1,7 +1,7 @@
 use Rattle.std.proofs.Common.{◌≡◌, drop}
 use Rattle.cluster_terms.specs.Group.{nodes_of}
 use Rattle.node_directory.specs.Members.{group_of}
-use Rattle.node_directory.specs.Tally.{met_all}
+use Rattle.node_directory.specs.code.GroupTally.{met_all}
 use Rattle.node_directory.proofs.shape.tally_of.Given as goal
 
 -- what the rest of the pairs adds to the tally so far is what all of them add to the first one

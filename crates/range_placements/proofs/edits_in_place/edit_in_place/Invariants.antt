@@ -1,6 +1,6 @@
 use Rattle.std.proofs.Common.{length}
 use Rattle.range_placements.specs.Editing.{edited_rows}
-use Rattle.range_placements.specs.InPlace.{LeadsTo}
+use Rattle.range_placements.specs.code.InPlace.{LeadsTo}
 use Rattle.range_placements.proofs.edits_in_place.edit_in_place.Given as goal
 
 -- the edits that are left lead to the rows

@@ -1,6 +1,6 @@
 use Rattle.std.proofs.Common.{◌+◌, ◌-◌, ◌/◌, ◌≤ℤ◌, ◌≤◌, ◌<◌, length, sym, subst, ◌∙◌, rules, w64, to_z, of_z, arith}
 use Rattle.std.proofs.lemmas.Int.{to_z-of_z}
-use Rattle.cluster_terms.proofs.RingRows.{climb_high, climb_low}
+use Rattle.cluster_terms.proofs.rows.RingRows.{climb_high, climb_low}
 use Rattle.cluster_terms.specs.Arc.{greatest_token}
 use Rattle.range_placements.proofs.Halving.{begin_cost, begin_enough, begin_narrow, step_costs, step_keeps, step_narrows}
 use Rattle.range_placements.proofs.MapRows.{last_stays, none_low, some_rows}

@@ -1,5 +1,5 @@
 use Rattle.std.proofs.Common.{◌≡◌, IfOk, ℕ, List, length, sym, subst, rules}
-use Rattle.range_placements.proofs.MapChanges.{no_loss, unchanged}
+use Rattle.range_placements.proofs.ChangedRows.{no_loss, unchanged}
 use Rattle.range_placements.proofs.placement_row.with_change.Goals as goal
 
 pub returns-then-is_empty-2 : goal.returns-then-is_empty-2

@@ -5,8 +5,8 @@ use Rattle.std.specs.List.{flat_map}
 use Rattle.std.specs.Ordering.{int_eq}
 use Rattle.std.specs.Set.{is_member}
 use Rattle.token_ring.proofs.BoundLemmas.{out_more}
-use Rattle.ring_reach.specs.Change.{tokens_of_both}
-use Rattle.ring_reach.specs.Windows.{window_bounds}
+use Rattle.ring_reach.specs.code.RingChange.{tokens_of_both}
+use Rattle.ring_reach.specs.code.Windows.{window_bounds}
 use Rattle.ring_reach.proofs.groups.ranges_in_groups.Goals as goal
 
 pub returns-in_ok-windows-in-Simple-clause-bounds : goal.returns-in_ok-windows-in-Simple-clause-bounds

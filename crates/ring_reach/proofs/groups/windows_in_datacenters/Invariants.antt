@@ -2,9 +2,9 @@ use Rattle.std.proofs.Common.{◌≡◌, ℤ, map, take}
 use Rattle.std.specs.List.{flat_map}
 use Rattle.cluster_terms.specs.Reach.{is_reached}
 use Rattle.cluster_terms.specs.Replication.{datacenter_group}
-use Rattle.ring_reach.specs.Change.{tokens_of_both}
-use Rattle.ring_reach.specs.Moved.{AreTokensAmong}
-use Rattle.ring_reach.specs.Windows.{any_have, window_bounds}
+use Rattle.ring_reach.specs.code.RingChange.{tokens_of_both}
+use Rattle.ring_reach.specs.code.Moved.{AreTokensAmong}
+use Rattle.ring_reach.specs.code.Windows.{any_have, window_bounds}
 use Rattle.ring_reach.proofs.groups.windows_in_datacenters.Given as goal
 
 -- the windows of the datacenters so far

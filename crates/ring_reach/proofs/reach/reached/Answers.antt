@@ -1,6 +1,6 @@
 use Rattle.std.proofs.Common.{sym, ◌∙◌}
 use Rattle.std.proofs.lemmas.Result.{IfOk-weaker}
-use Rattle.cluster_terms.proofs.PlacedByReach.{placed_by_reach}
+use Rattle.cluster_terms.proofs.placement.PlacedByReach.{placed_by_reach}
 use Rattle.cluster_terms.specs.Replication.{groups_of}
 use Rattle.ring_reach.proofs.reach.reached.Goals as goal
 

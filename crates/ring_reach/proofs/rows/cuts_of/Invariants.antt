@@ -1,6 +1,6 @@
 use Rattle.std.proofs.Common.{◌≡◌, take}
 use Rattle.std.specs.List.{flat_map}
-use Rattle.ring_reach.specs.Windows.{window_bounds}
+use Rattle.ring_reach.specs.code.Windows.{window_bounds}
 use Rattle.ring_reach.proofs.rows.cuts_of.Given as goal
 
 -- the bounds of the groups so far

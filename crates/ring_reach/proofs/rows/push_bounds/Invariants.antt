@@ -1,5 +1,5 @@
 use Rattle.std.proofs.Common.{◌≡◌, ◌++◌, drop}
-use Rattle.ring_reach.specs.Windows.{window_bounds}
+use Rattle.ring_reach.specs.code.Windows.{window_bounds}
 use Rattle.ring_reach.proofs.rows.push_bounds.Given as goal
 
 -- the bounds so far, and those of the windows that are left

@@ -6,9 +6,9 @@ use Rattle.std.specs.Ordering.{int_cmp, int_eq}
 use Rattle.std.specs.Result.{IfOk}
 use Rattle.std.specs.Set.{is_member}
 use Rattle.token_ring.proofs.BoundLemmas.{out_more}
-use Rattle.ring_reach.specs.Moved.{HaveSameTokens}
-use Rattle.ring_reach.specs.Windows.{any_have, window_bounds}
-use Rattle.ring_reach.proofs.RowLemmas.{rows_reached}
+use Rattle.ring_reach.specs.code.Moved.{HaveSameTokens}
+use Rattle.ring_reach.specs.code.Windows.{any_have, window_bounds}
+use Rattle.ring_reach.proofs.ReachedRows.{rows_reached}
 use Rattle.ring_reach.proofs.rows.ranges_of.Goals as goal
 
 IfOk-both : {T E : Type 0} (r : Result T E) (P Q : T → Type 0) → IfOk r P → IfOk r Q → IfOk r (λ x. P x × Q x)

@@ -1,6 +1,6 @@
 use Rattle.std.proofs.Common.{◌≡◌, ◌++◌, ℕ, ℤ, List, Option, None, drop, length, take}
 use Rattle.range_placements.specs.declared.placement_row.PlacementRow.{PlacementRow}
-use Rattle.script_lang.specs.Texts.{map_rows_text}
+use Rattle.script_lang.specs.AnswerTexts.{map_rows_text}
 use Rattle.script_lang.proofs.placements.add_rows.Given as goal
 
 -- the text so far and the text of the rows that are left make the whole text

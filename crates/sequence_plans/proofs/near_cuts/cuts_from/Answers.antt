@@ -1,7 +1,7 @@
 use Rattle.std.proofs.Common.{ℤ, int_lt, rules, ◌∙◌}
 use Rattle.std.proofs.lemmas.List.{take_rest}
 use Rattle.std.proofs.lemmas.List.Sorted.{IsPartitionPoint-from_clause}
-use Rattle.sequence_plans.proofs.NearCuts.{below_first, from_left, from_none}
+use Rattle.sequence_plans.proofs.NearCutSearch.{below_first, from_left, from_none}
 use Rattle.sequence_plans.proofs.near_cuts.cuts_from.Goals as goal
 
 pub returns-in-None : goal.returns-in-None

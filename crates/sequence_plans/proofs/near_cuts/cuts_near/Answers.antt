@@ -3,7 +3,7 @@ use Rattle.std.proofs.lemmas.List.Kept.{IsStrictlySortedBy-filter}
 use Rattle.std.specs.Ordering.{int_cmp}
 use Rattle.cluster_terms.specs.Row.{last_token}
 use Rattle.transformations.proofs.lists.FilterLemmas.{filter_both}
-use Rattle.sequence_plans.specs.NearCuts.{is_from}
+use Rattle.sequence_plans.specs.code.NearCuts.{is_from}
 use Rattle.sequence_plans.proofs.near_cuts.cuts_near.Goals as goal
 
 pub cuts_up_to-requires : goal.cuts_up_to-requires

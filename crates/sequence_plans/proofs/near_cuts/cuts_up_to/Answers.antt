@@ -1,6 +1,6 @@
 use Rattle.std.proofs.Common.{ℤ, int_le, rules}
 use Rattle.std.proofs.lemmas.List.Sorted.{IsPartitionPoint-from_clause}
-use Rattle.sequence_plans.proofs.NearCuts.{passed_first, upto_first}
+use Rattle.sequence_plans.proofs.NearCutSearch.{passed_first, upto_first}
 use Rattle.sequence_plans.proofs.near_cuts.cuts_up_to.Goals as goal
 
 pub returns : goal.returns

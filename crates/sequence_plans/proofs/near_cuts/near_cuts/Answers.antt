@@ -1,5 +1,5 @@
 use Rattle.std.proofs.Common.{◌++◌, sym, ◌∙◌}
-use Rattle.sequence_plans.proofs.NearCuts.{near_more, near_none}
+use Rattle.sequence_plans.proofs.NearCutSearch.{near_more, near_none}
 use Rattle.sequence_plans.proofs.near_cuts.near_cuts.Goals as goal
 
 pub loop-range-init : goal.loop-range-init

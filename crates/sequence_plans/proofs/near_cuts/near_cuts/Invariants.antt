@@ -1,5 +1,5 @@
 use Rattle.std.proofs.Common.{◌≡◌, take}
-use Rattle.sequence_plans.specs.NearCuts.{near_cuts}
+use Rattle.sequence_plans.specs.code.NearCuts.{near_cuts}
 use Rattle.sequence_plans.proofs.near_cuts.near_cuts.Given as goal
 
 -- the cuts near the ranges so far

@@ -4,7 +4,7 @@ use Rattle.transformations.specs.Refusals.{with_movement}
 use Rattle.transformations.specs.declared.image.Image.{Image}
 use Rattle.sequence_plans.proofs.BookLemmas.{own_within}
 use Rattle.sequence_plans.proofs.DeltaBookLemmas.{own_contained}
-use Rattle.sequence_plans.specs.Basis.{MovesWithin}
+use Rattle.sequence_plans.specs.code.Basis.{MovesWithin}
 use Rattle.sequence_plans.proofs.planning.planned.Goals as goal
 
 pub book_of-requires-clause-within : goal.book_of-requires-clause-within

@@ -1,7 +1,7 @@
 use Rattle.std.proofs.Common.{map, take}
-use Rattle.placement_deltas.specs.Changes.{AreJoined}
+use Rattle.placement_deltas.specs.code.Changes.{AreJoined}
 use Rattle.sequence_plans.specs.Placers.{placed_by}
-use Rattle.sequence_plans.specs.RowChanges.{change_at}
+use Rattle.sequence_plans.specs.code.RowChanges.{change_at}
 use Rattle.sequence_plans.proofs.row_changes.changes_of.Given as goal
 
 -- what changes in the rows so far

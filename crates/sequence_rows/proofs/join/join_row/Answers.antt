@@ -2,7 +2,7 @@ use Rattle.std.proofs.Common.{◌≡◌, sym, subst}
 use Rattle.std.proofs.lemmas.Result.{IfOk-weaker}
 use Rattle.transformations.proofs.histories.SoundLemmas.{sound_with_join}
 use Rattle.transformations.specs.Refusals.{with_movement}
-use Rattle.transformations.specs.Steps.{join_of}
+use Rattle.transformations.specs.Movements.{join_of}
 use Rattle.transformations.specs.Valid.{IsSound}
 use Rattle.transformations.specs.declared.sequence.SeqRow.{SeqRow}
 use Rattle.sequence_rows.proofs.join.join_row.Goals as goal

@@ -2,7 +2,7 @@ use Rattle.std.proofs.Common.{◌≡◌, refl, sym, subst}
 use Rattle.std.proofs.lemmas.Result.{IfOk-weaker}
 use Rattle.transformations.proofs.histories.SoundLemmas.{sound_prepared}
 use Rattle.transformations.specs.Refusals.{with_movement}
-use Rattle.transformations.specs.Steps.{replace_of}
+use Rattle.transformations.specs.Movements.{replace_of}
 use Rattle.transformations.specs.Valid.{IsSound}
 use Rattle.transformations.specs.declared.command.Command.TheVariants.{PrepareReplace}
 use Rattle.transformations.specs.declared.sequence.SeqRow.{SeqRow}

@@ -1,5 +1,5 @@
 use Rattle.std.proofs.Common.{[], ◌∷◌}
-use Rattle.cluster_terms.proofs.PlacementLemmas.{placed_nowhere}
+use Rattle.cluster_terms.proofs.placement.PlacementLemmas.{placed_nowhere}
 use Rattle.cluster_terms.specs.Replication.{whole_group}
 use Rattle.simple_strategy.proofs.SimplePlacement.{placed_by_walk}
 use Rattle.simple_strategy.proofs.validity.placement_is_walked.Goals as goal

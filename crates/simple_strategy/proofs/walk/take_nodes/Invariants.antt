@@ -1,6 +1,6 @@
 use Rattle.std.proofs.Common.{◌≡◌, drop}
 use Rattle.cluster_terms.specs.Group.{nodes_of}
-use Rattle.simple_strategy.specs.Walk.{taken_after}
+use Rattle.simple_strategy.specs.SimpleWalk.{taken_after}
 use Rattle.simple_strategy.proofs.walk.take_nodes.Given as goal
 
 abbrev pub invariant-loop-pair : goal.invariant-loop-pair

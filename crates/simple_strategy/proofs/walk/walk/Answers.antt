@@ -3,8 +3,8 @@ use Rattle.std.specs.Ordering.{nat_cmp}
 use Rattle.cluster_terms.specs.Ascending.{ascending}
 use Rattle.cluster_terms.specs.Group.{nodes_of, place}
 use Rattle.cluster_terms.specs.Replication.{whole_group}
-use Rattle.simple_strategy.specs.Walk.{taken_after}
-use Rattle.cluster_terms.proofs.PlacementLemmas.{placed_nowhere}
+use Rattle.simple_strategy.specs.SimpleWalk.{taken_after}
+use Rattle.cluster_terms.proofs.placement.PlacementLemmas.{placed_nowhere}
 use Rattle.simple_strategy.proofs.SimplePlacement.{placed_in_parts}
 use Rattle.simple_strategy.proofs.walk.walk.Goals as goal
 

@@ -1,7 +1,7 @@
 use Rattle.std.proofs.Common.{nat_le, rules}
 use Rattle.std.proofs.lemmas.List.Sorted.{IsPartitionPoint-from_clause, IsPartitionedBy-leb}
 use Rattle.transformations.specs.declared.image.Image.{Image}
-use Rattle.snapshot_store.proofs.KeptLemmas.{epochs_ascend, split_from_tests}
+use Rattle.snapshot_store.proofs.NearestImages.{epochs_ascend, split_from_tests}
 use Rattle.snapshot_store.proofs.nearest.count_to.Goals as goal
 
 pub returns-clause-split : goal.returns-clause-split

@@ -1,8 +1,8 @@
 use Rattle.std.proofs.Common.{◌≡◌, ◌+◌, ◌-◌, ◌<◌, length, sym, subst, arith}
 use Rattle.std.proofs.lemmas.Result.{IfOk-weaker}
 use Rattle.transformations.specs.declared.image.Image.{Image}
-use Rattle.snapshot_store.specs.Images.{IsNearest}
-use Rattle.snapshot_store.proofs.KeptLemmas.{nearest_found}
+use Rattle.snapshot_store.specs.code.NearestImage.{IsNearest}
+use Rattle.snapshot_store.proofs.NearestImages.{nearest_found}
 use Rattle.snapshot_store.proofs.nearest.nearest.Goals as goal
 
 pub returns : goal.returns

@@ -1,4 +1,4 @@
-use Rattle.snapshot_store.proofs.KeptLemmas.{not_bad}
+use Rattle.snapshot_store.proofs.NearestImages.{not_bad}
 use Rattle.snapshot_store.proofs.snapshots.metadata_of.Goals as goal
 
 pub unreachable-requires : goal.unreachable-requires

@@ -172,8 +172,8 @@ fn deltas_between_sets(rt: HostRuntime) -> Result<(), Fail> {
 }
 
 /// The last of the tokens from `t` on at which a delta changes nothing.
-fn last_unchanged(delta: &Delta, t: i64, near: &mut usize) -> Option<i64> {
-    let tokens = delta.unchanged_from(Token::new(t), near)?;
+fn last_unchanged(delta: &Delta, t: i64, hint: &mut usize) -> Option<i64> {
+    let tokens = delta.unchanged_from(Token::new(t), hint)?;
     Some(tokens.last.value())
 }
 
@@ -191,13 +191,13 @@ fn tokens_at_which_a_delta_changes_nothing(rt: HostRuntime) -> Result<(), Fail> 
     let alloc = rt.alloc();
     let (cuts, before, after, _, _) = CASES[0];
     let delta = delta_of(alloc, cuts, before, after)?;
-    let mut near = 0;
-    assert_eq!(rt; last_unchanged(&delta, -5, &mut near), Some(0));
-    assert_eq!(rt; last_unchanged(&delta, 0, &mut near), Some(0));
-    assert_eq!(rt; last_unchanged(&delta, 1, &mut near), None);
-    assert_eq!(rt; last_unchanged(&delta, 100, &mut near), None);
-    assert_eq!(rt; last_unchanged(&delta, 101, &mut near), Some(i64::MAX));
-    assert_eq!(rt; last_unchanged(&delta, -5, &mut near), Some(0));
+    let mut hint = 0;
+    assert_eq!(rt; last_unchanged(&delta, -5, &mut hint), Some(0));
+    assert_eq!(rt; last_unchanged(&delta, 0, &mut hint), Some(0));
+    assert_eq!(rt; last_unchanged(&delta, 1, &mut hint), None);
+    assert_eq!(rt; last_unchanged(&delta, 100, &mut hint), None);
+    assert_eq!(rt; last_unchanged(&delta, 101, &mut hint), Some(i64::MAX));
+    assert_eq!(rt; last_unchanged(&delta, -5, &mut hint), Some(0));
     assert_eq!(rt; is_in(1, 3, 0), false);
     assert_eq!(rt; is_in(1, 3, 1), true);
     assert_eq!(rt; is_in(1, 3, 3), true);

@@ -347,7 +347,7 @@ fn script_of(letter: u8) -> Result<(&'static str, &'static str), Fail> {
 }
 
 fn apply(metadata: &mut Metadata, command: &Command) -> Result<(), Fail>
-    requires room { metadata.old.epoch < 65536 }
+    requires below_limit { metadata.old.epoch < 65536 }
     requires formed { IsTrue (is_command command.now) }
 {
     metadata.apply(command).map_err(|_| "refused")?;

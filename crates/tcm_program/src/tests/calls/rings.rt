@@ -3,7 +3,7 @@
 ghost use Rattle.std.specs.Prelude.{◌≡◌, IfOk};
 ghost use Rattle.std.specs.List.Sorted.{IsStrictlySortedBy};
 ghost use Rattle.std.specs.Ordering.{int_cmp};
-ghost use Rattle.token_ring.specs.Ranges.{AreCutOut};
+ghost use Rattle.token_ring.specs.TokenRanges.{AreCutOut};
 
 use cluster_terms::{
     NodeId, Pair, Replication, Rf, RightEnd, Token, TokenList, TryCopy, rows_between,

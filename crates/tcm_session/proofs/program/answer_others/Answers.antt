@@ -1,10 +1,14 @@
 use Rattle.std.specs.Prelude.{map, string_bytes}
-use Rattle.std.proofs.Common.{refl}
-use Rattle.tcm_session.proofs.ReplayRuns.{others_last, others_replay}
+use Rattle.tcm_session.proofs.log_files.ReplayRuns.{end_printed, end_stopped, other_ended}
 use Rattle.tcm_session.proofs.program.answer_others.Goals as goal
 
-pub returns-in-Some-clause-writes : goal.returns-in-Some-clause-writes
-returns-in-Some-clause-writes g c = others_replay (map string_bytes c.args.words.now) _ _ _ _ _ c.replay.result refl c.in-Some.ensures.files c.replay.ensures.writes
+pub returns-in_err-ending-clause-writes : goal.returns-in_err-ending-clause-writes
+returns-in_err-ending-clause-writes g c = end_stopped _ _ _ c.from_residual.result _ c.from_residual.ensures.1
 
-pub returns-in-None-clause-writes : goal.returns-in-None-clause-writes
-returns-in-None-clause-writes g c = others_last (map string_bytes c.args.words.now) _ _ _ _ c.answer_last.result refl c.in-None.ensures.files c.answer_last.ensures.writes
+pub returns-clause-writes : goal.returns-clause-writes
+returns-clause-writes g c =
+    let writes = rw c.as_slice.ensures at c.end_with.ensures.writes in
+    end_printed _ _ _ _ _ _ c.in_ok-ending.ending c.end_with.result c.in_ok-ending.ensures.ends writes c.end_with.ensures.status
+
+pub returns-clause-ended : goal.returns-clause-ended
+returns-clause-ended g c = other_ended (map string_bytes c.args.words.now) _ c.in_ok-ending.ending c.end_with.result c.in_ok-ending.ensures.ends c.end_with.ensures.status

@@ -1,9 +1,9 @@
 use Rattle.std.proofs.Common.{None, Some, refl, ap, ◌∙◌}
 use Rattle.std.specs.Option.{option_copied}
 use Rattle.std.specs.Prelude.{map, string_bytes}
-use Rattle.tcm_session.proofs.LeftLemmas.{named_files}
-use Rattle.tcm_session.proofs.ReplayRuns.{runs_others}
-use Rattle.tcm_session.proofs.RunLemmas.{named_file, runs_commit, runs_unloaded}
+use Rattle.tcm_session.proofs.runs.LeftLemmas.{named_files}
+use Rattle.tcm_session.proofs.log_files.ReplayRuns.{runs_others}
+use Rattle.tcm_session.proofs.runs.RunLemmas.{named_file, runs_commit, runs_unloaded}
 use Rattle.tcm_session.proofs.program.answer_words.Goals as goal
 
 pub returns-in-Some-None-clause-runs : goal.returns-in-Some-None-clause-runs

@@ -1,5 +1,5 @@
 use Rattle.tcm_session.specs.declared.fault.RunFault.TheVariants as fault
-use Rattle.tcm_session.proofs.RunLemmas.{runs_err, runs_none}
+use Rattle.tcm_session.proofs.runs.RunLemmas.{runs_err, runs_none}
 use Rattle.tcm_session.proofs.program.commit.Goals as goal
 
 pub returns-in_err-session-clause-runs : goal.returns-in_err-session-clause-runs

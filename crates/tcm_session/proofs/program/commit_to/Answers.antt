@@ -1,8 +1,8 @@
 use Rattle.std.proofs.Common.{Some, refl, sym, true≢false}
 use Rattle.tcm_session.specs.Outcome.{too_large_text}
-use Rattle.tcm_session.proofs.CutLemmas.{held_after, load_of}
-use Rattle.tcm_session.proofs.LeftLemmas.{absent_script, files_loaded, files_same, found_absent}
-use Rattle.tcm_session.proofs.RunLemmas.{final_end, load_not_source, runs_early, runs_left, runs_loaded, runs_unloaded, runs_err_on, runs_unread}
+use Rattle.tcm_session.proofs.log_files.CutFiles.{held_after, load_of}
+use Rattle.tcm_session.proofs.runs.LeftLemmas.{absent_script, files_loaded, files_same, found_absent}
+use Rattle.tcm_session.proofs.runs.RunLemmas.{final_end, load_not_source, runs_early, runs_left, runs_loaded, runs_unloaded, runs_err_on, runs_unread}
 use Rattle.tcm_session.proofs.program.commit_to.Goals as goal
 
 pub returns-in_err-load-clause-runs : goal.returns-in_err-load-clause-runs

@@ -1,6 +1,6 @@
 use Rattle.std.specs.Option.{option_copied}
 use Rattle.tcm_session.specs.Outcome.{too_large_text}
-use Rattle.tcm_session.proofs.StopLemmas.{on_fault, stopped_text}
+use Rattle.tcm_session.proofs.runs.StopLemmas.{on_fault, stopped_text}
 use Rattle.tcm_session.proofs.program.finish.Goals as goal
 
 pub returns-in-PastLimit-clause-stopped : goal.returns-in-PastLimit-clause-stopped

@@ -1,6 +1,6 @@
 use Rattle.std.proofs.Common.{◌≡◌, length, map, string_bytes}
 use Rattle.std.specs.List.{list_all}
-use Rattle.tcm_session.proofs.ReplayLemmas.{IsNamed}
+use Rattle.tcm_session.proofs.log_files.ReplayLemmas.{IsNamed}
 use Rattle.tcm_session.proofs.program.have_names.Given as goal
 
 abbrev pub invariant-loop-name : goal.invariant-loop-name

@@ -1,5 +1,5 @@
-use Rattle.tcm_session.proofs.PrintedLemmas.{is_run}
-use Rattle.tcm_session.proofs.RunLemmas.{not_6, shows_status}
+use Rattle.tcm_session.proofs.quorums.PrintedLemmas.{is_run}
+use Rattle.tcm_session.proofs.runs.RunLemmas.{not_6, shows_status}
 use Rattle.tcm_session.proofs.program.run.Goals as goal
 
 pub returns-clause-outcome : goal.returns-clause-outcome

@@ -1,5 +1,5 @@
 use Rattle.std.proofs.Common.{refl}
-use Rattle.tcm_session.proofs.RunLemmas.{runs_err, runs_part, runs_stopped, runs_whole}
+use Rattle.tcm_session.proofs.runs.RunLemmas.{runs_err, runs_part, runs_stopped, runs_whole}
 use Rattle.tcm_session.proofs.program.run_script.Goals as goal
 
 pub returns-in_err-ending-clause-runs : goal.returns-in_err-ending-clause-runs

@@ -1,5 +1,5 @@
 use Rattle.std.proofs.Common.{refl}
-use Rattle.tcm_session.proofs.RunLemmas.{comes_surely, ends_surely}
+use Rattle.tcm_session.proofs.runs.RunLemmas.{comes_surely, ends_surely}
 use Rattle.tcm_session.proofs.program.run_surely.Goals as goal
 
 pub returns-clause-surely : goal.returns-clause-surely

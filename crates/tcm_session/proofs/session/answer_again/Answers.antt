@@ -1,5 +1,5 @@
 use Rattle.std.proofs.Common.{true≢false, sym, ◌∙◌}
-use Rattle.tcm_session.proofs.StepLemmas.{repeated_other, repeated_same}
+use Rattle.tcm_session.proofs.machine.StepEndLemmas.{repeated_other, repeated_same}
 use Rattle.tcm_session.proofs.session.answer_again.Goals as goal
 
 pub returns-then-same : goal.returns-then-same

@@ -1,8 +1,8 @@
-use Rattle.tcm_session.specs.Machine.{session_after, session_over}
-use Rattle.tcm_session.proofs.FileLogs.{session_file}
-use Rattle.tcm_session.proofs.SessionLemmas.{after_lines}
-use Rattle.tcm_session.proofs.TakenLemmas.{entry_at_epoch, image_at_epoch}
-use Rattle.tcm_session.proofs.TakenLines.{answer_as_log, followers_show}
+use Rattle.tcm_session.specs.session.Machine.{session_after, session_over}
+use Rattle.tcm_session.proofs.log_files.FileLogs.{session_file}
+use Rattle.tcm_session.proofs.machine.SessionLemmas.{after_lines}
+use Rattle.tcm_session.proofs.machine.TakenLemmas.{entry_at_epoch, image_at_epoch}
+use Rattle.tcm_session.proofs.machine.TakenLines.{answer_as_log, followers_show}
 use Rattle.tcm_session.proofs.validity.followers_show_prefixes.Goals as goal
 
 pub returns-clause-prefixes : goal.returns-clause-prefixes

@@ -1,4 +1,4 @@
-use Rattle.tcm_session.proofs.LinesLemmas.{HasNoFeed-lines, HasNoFeed-open, lines_whole}
+use Rattle.tcm_session.proofs.inputs.LinesLemmas.{HasNoFeed-lines, HasNoFeed-open, lines_whole}
 use Rattle.tcm_session.proofs.validity.lines_make_the_input.Goals as goal
 
 pub returns : goal.returns

@@ -1,4 +1,4 @@
-use Rattle.tcm_session.proofs.ReplayPrefixes.{comes_to_prefix}
+use Rattle.tcm_session.proofs.log_files.ReplayPrefixes.{comes_to_prefix}
 use Rattle.tcm_session.proofs.validity.replays_show_the_longest_prefix.Goals as goal
 
 pub returns : goal.returns

@@ -1,5 +1,5 @@
-use Rattle.tcm_session.proofs.SentFiles.{left_goes_on}
-use Rattle.tcm_session.proofs.SentLemmas.{comes_to_same}
+use Rattle.tcm_session.proofs.inputs.SentFiles.{left_goes_on}
+use Rattle.tcm_session.proofs.inputs.SentLemmas.{comes_to_same}
 use Rattle.tcm_session.proofs.validity.scripts_are_sent_again.Goals as goal
 
 pub returns-clause-log : goal.returns-clause-log

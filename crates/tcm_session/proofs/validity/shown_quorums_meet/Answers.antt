@@ -1,7 +1,7 @@
-use Rattle.tcm_session.specs.Machine.{session_over}
-use Rattle.tcm_session.proofs.FileLogs.{session_file}
-use Rattle.tcm_session.proofs.PrintedLemmas.{answers_shown, answers_whole}
-use Rattle.tcm_session.proofs.ShownLemmas.{shown_meet}
+use Rattle.tcm_session.specs.session.Machine.{session_over}
+use Rattle.tcm_session.proofs.log_files.FileLogs.{session_file}
+use Rattle.tcm_session.proofs.quorums.PrintedLemmas.{answers_shown, answers_whole}
+use Rattle.tcm_session.proofs.quorums.ShownLemmas.{shown_meet}
 use Rattle.tcm_session.proofs.validity.shown_quorums_meet.Goals as goal
 
 pub returns-clause-whole : goal.returns-clause-whole

@@ -1,6 +1,6 @@
 use Rattle.std.proofs.Common.{sym, ◌∙◌}
-use Rattle.token_ring.specs.Ranges.{ends_by}
-use Rattle.token_ring.proofs.ApartLemmas.{advance_one, advance_other}
+use Rattle.token_ring.specs.code.EndedRanges.{ends_by}
+use Rattle.token_ring.proofs.RangesApart.{advance_one, advance_other}
 use Rattle.token_ring.proofs.common.are_apart.Goals as goal
 
 pub loop-i-preserved-then-ends_by : goal.loop-i-preserved-then-ends_by

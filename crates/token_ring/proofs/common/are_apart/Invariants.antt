@@ -1,5 +1,5 @@
 use Rattle.std.proofs.Common.{◌+◌, ◌-◌, length}
-use Rattle.token_ring.proofs.ApartLemmas.{ShareFrom}
+use Rattle.token_ring.proofs.RangesApart.{ShareFrom}
 use Rattle.token_ring.proofs.common.are_apart.Given as goal
 
 -- the tokens in common are those that are left in both lists

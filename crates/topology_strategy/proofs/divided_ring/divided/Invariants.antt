@@ -1,5 +1,5 @@
 use Rattle.std.proofs.Common.{◌≡◌, take}
-use Rattle.topology_strategy.specs.DatacenterRing.{parts_of}
+use Rattle.topology_strategy.specs.code.RingParts.{parts_of}
 use Rattle.topology_strategy.proofs.divided_ring.divided.Given as goal
 
 -- the parts of the datacenters so far

@@ -1,7 +1,7 @@
 use Rattle.std.proofs.Common.{take}
 use Rattle.node_directory.specs.Members.{group_of}
 use Rattle.node_directory.specs.Tally.{racks_in}
-use Rattle.topology_strategy.specs.RackedPairs.{AreListed}
+use Rattle.topology_strategy.specs.code.RackedPairs.{AreListed}
 use Rattle.topology_strategy.proofs.racked_pairs.racked_pairs.Given as goal
 
 -- the pairs within the group so far

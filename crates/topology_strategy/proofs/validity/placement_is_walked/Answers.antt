@@ -1,10 +1,10 @@
 use Rattle.std.proofs.Common.{take, drop, map, sym, ap, ◌∙◌}
 use Rattle.std.specs.Ordering.{nat_cmp}
-use Rattle.cluster_terms.proofs.PlacementLemmas.{nodes_of-append, placed_nowhere}
+use Rattle.cluster_terms.proofs.placement.PlacementLemmas.{nodes_of-append, placed_nowhere}
 use Rattle.cluster_terms.specs.Ascending.{ascending}
 use Rattle.cluster_terms.specs.Group.{nodes_of}
 use Rattle.cluster_terms.specs.Replication.{datacenter_group}
-use Rattle.topology_strategy.specs.Shape.{shapes_of}
+use Rattle.topology_strategy.specs.DatacenterShapes.{shapes_of}
 use Rattle.topology_strategy.specs.Walk.{taken_in_all}
 use Rattle.topology_strategy.proofs.TopologyPlacement.{placed_by_walks}
 use Rattle.topology_strategy.proofs.validity.placement_is_walked.Goals as goal

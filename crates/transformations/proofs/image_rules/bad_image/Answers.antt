@@ -1,7 +1,7 @@
 use Rattle.std.proofs.Common.{◌≡◌, false, is_some, subst, ◌∙◌}
 use Rattle.std.specs.Prelude.{IfOk}
 use Rattle.transformations.proofs.images.GroupLaws.{at_keyspaces, at_movements, at_nodes, at_numbers, at_repeats, at_ring, tells}
-use Rattle.transformations.specs.RuleGroups.{keyspaces_broken, movements_broken, nodes_broken, numbers_broken, ring_broken}
+use Rattle.transformations.specs.code.RuleGroups.{keyspaces_broken, movements_broken, nodes_broken, numbers_broken, ring_broken}
 use Rattle.transformations.proofs.image_rules.bad_image.Goals as goal
 
 pub returns-then-is_some : goal.returns-then-is_some

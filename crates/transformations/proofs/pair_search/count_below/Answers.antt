@@ -1,7 +1,7 @@
 use Rattle.std.proofs.Common.{int_lt, rules}
 use Rattle.std.proofs.lemmas.List.Sorted.{IsPartitionPoint-from_clause}
 use Rattle.cluster_terms.specs.declared.token.Pair.{Pair}
-use Rattle.transformations.proofs.pairs.SearchLemmas.{below_first, split_from_tests}
+use Rattle.transformations.proofs.pairs.PairSearch.{below_first, split_from_tests}
 use Rattle.transformations.proofs.pair_search.count_below.Goals as goal
 
 pub returns-clause-split : goal.returns-clause-split

@@ -1,6 +1,6 @@
 use Rattle.std.proofs.Common.{◌<◌, ◌≤◌, ◌∙◌, length, arith}
 use Rattle.std.proofs.lemmas.Bool.{le-ltb}
-use Rattle.transformations.proofs.pairs.SearchLemmas.{has_first, has_none}
+use Rattle.transformations.proofs.pairs.PairSearch.{has_first, has_none}
 use Rattle.transformations.proofs.pair_search.finds.Goals as goal
 
 pub returns-then-below-pairs : goal.returns-then-below-pairs

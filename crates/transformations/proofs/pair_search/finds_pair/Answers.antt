@@ -1,7 +1,7 @@
 use Rattle.std.proofs.Common.{◌<◌, ◌≤◌, ap, ◌∙◌, length, arith}
 use Rattle.std.proofs.lemmas.Bool.{le-ltb}
 use Rattle.cluster_terms.specs.Pair.{same_pair}
-use Rattle.transformations.proofs.pairs.SearchLemmas.{has_first_pair, has_no_pair}
+use Rattle.transformations.proofs.pairs.PairSearch.{has_first_pair, has_no_pair}
 use Rattle.transformations.proofs.pair_search.finds_pair.Goals as goal
 
 pub returns-then-below-pairs : goal.returns-then-below-pairs

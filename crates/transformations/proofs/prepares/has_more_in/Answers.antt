@@ -4,8 +4,8 @@ use Rattle.std.proofs.lemmas.List.{length_push}
 use Rattle.std.specs.Option.{option_copied}
 use Rattle.std.specs.Set.{is_member, distinct_count}
 use Rattle.cluster_terms.specs.Group.{nodes_of}
-use Rattle.transformations.proofs.commands.CountedLemmas.{AreFound, found_among, found_new, found_old, found_other, nodes_after, nodes_up_to}
-use Rattle.transformations.specs.Counted.{is_in_group}
+use Rattle.transformations.proofs.commands.DatacenterGroupLemmas.{AreFound, found_among, found_new, found_old, found_other, nodes_after, nodes_up_to}
+use Rattle.transformations.specs.code.DatacenterGroups.{is_in_group}
 use Rattle.transformations.proofs.prepares.has_more_in.Goals as goal
 use Rattle.transformations.proofs.prepares.has_more_in.Goals.{then-has_node-via-then-has_node, then-has_node-via-else-has_node+then-not-is_in}
 

@@ -1,8 +1,8 @@
 use Rattle.std.proofs.Common.{◌≤◌, length, take}
 use Rattle.std.specs.Option.{option_copied}
 use Rattle.cluster_terms.specs.Group.{nodes_of}
-use Rattle.transformations.proofs.commands.CountedLemmas.{AreFound}
-use Rattle.transformations.specs.Counted.{is_in_group}
+use Rattle.transformations.proofs.commands.DatacenterGroupLemmas.{AreFound}
+use Rattle.transformations.specs.code.DatacenterGroups.{is_in_group}
 use Rattle.transformations.proofs.prepares.has_more_in.Given as goal
 
 -- the nodes of the pairs so far are found, and are no more than asked

@@ -1,7 +1,7 @@
 use Rattle.std.proofs.Common.{ℕ, List, Some, ap, ◌∙◌}
 use Rattle.std.specs.List.{list_any}
-use Rattle.transformations.proofs.commands.CountedLemmas.{few_topology}
-use Rattle.transformations.specs.Counted.{is_short_at}
+use Rattle.transformations.proofs.commands.DatacenterGroupLemmas.{few_topology}
+use Rattle.transformations.specs.code.DatacenterGroups.{is_short_at}
 use Rattle.transformations.proofs.prepares.is_too_few.Goals as goal
 
 pub returns-in-Topology : goal.returns-in-Topology

@@ -1,5 +1,5 @@
 use Rattle.std.proofs.Common.{◌≡◌, ℕ, ◌<◌, get_or, length, take}
-use Rattle.transformations.specs.Steps.{owned}
+use Rattle.transformations.specs.Movements.{owned}
 use Rattle.transformations.proofs.ring_rules.count_pairs.Given as goal
 
 -- the pairs of each node so far are counted

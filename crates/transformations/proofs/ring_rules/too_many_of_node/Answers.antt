@@ -1,7 +1,7 @@
 use Rattle.std.proofs.Common.{find, get_or, length, nat_lt, option_map, pos, ap, ◌∙◌}
 use Rattle.cluster_terms.specs.declared.node.NodeRow.{NodeRow}
 use Rattle.transformations.proofs.images.OverLemmas.{over_counted}
-use Rattle.transformations.specs.Steps.{owned}
+use Rattle.transformations.specs.Movements.{owned}
 use Rattle.transformations.proofs.ring_rules.too_many_of_node.Goals as goal
 
 pub returns : goal.returns

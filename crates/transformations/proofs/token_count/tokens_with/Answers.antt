@@ -3,7 +3,7 @@ use Rattle.std.proofs.lemmas.Cmp.{int_cmp_total}
 use Rattle.std.specs.Ordering.{int_cmp, int_eq}
 use Rattle.std.specs.Set.{distinct_count}
 use Rattle.cluster_terms.specs.declared.token.Pair.{Pair}
-use Rattle.cluster_terms.proofs.AscendingLemmas.{length-ascending}
+use Rattle.cluster_terms.proofs.lists.AscendingLemmas.{length-ascending}
 use Rattle.transformations.specs.Refusals.{tokens_with}
 use Rattle.transformations.proofs.token_count.tokens_with.Goals as goal
 

@@ -1,7 +1,7 @@
 use Rattle.std.proofs.Common.{◌≡◌, Bor, List, ℕ, ◌++◌, Result, Ok, Err, MatchResult, IsUtf8, subst, sym, ap, ◌∙◌, rules}
 use Rattle.std.specs.Result.{IsOk}
 use Rattle.cluster_terms.specs.ReplicationText.{text_of}
-use Rattle.wire_json.proofs.TextBytes.{IsUtf8-replication}
+use Rattle.wire_json.proofs.json_values.TextBytes.{IsUtf8-replication}
 use Rattle.wire_json.proofs.command_values.replication_value.Goals as goal
 
 -- a text that is UTF-8 is read

@@ -1,5 +1,5 @@
 use Rattle.std.proofs.Common.{ℕ, List, [], Bor, false}
-use Rattle.wire_json.proofs.KeysLemmas.{of_object, wrong_key, no_key, no_more}
+use Rattle.wire_json.proofs.json_values.KeysLemmas.{of_object, wrong_key, no_key, no_more}
 use Rattle.wire_json.proofs.values.same_keys.Goals as goal
 
 -- what stands past the end of a list

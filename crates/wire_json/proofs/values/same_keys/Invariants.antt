@@ -1,5 +1,5 @@
 use Rattle.std.proofs.Common.{◌≡◌, drop}
-use Rattle.wire_json.proofs.KeysLemmas.{same_from}
+use Rattle.wire_json.proofs.json_values.KeysLemmas.{same_from}
 use Rattle.wire_json.proofs.values.same_keys.Given as goal
 
 abbrev pub invariant-loop-wanted : goal.invariant-loop-wanted

@@ -1,4 +1,4 @@
-use Rattle.cluster_metadata.proofs.LockPlaces.{all_locked, locks_named}
+use Rattle.cluster_metadata.proofs.locks.LockPlaces.{all_locked, locks_named}
 use Rattle.cluster_metadata.proofs.metadata.Metadata.close.Goals as goal
 
 pub close_all-requires : goal.close_all-requires

@@ -1,43 +1,47 @@
 use Rattle.std.proofs.Common.{◌≡◌, true, subst, sym}
-use Rattle.transformations.proofs.cut_changes.CutsFollowed.{same_across}
+use Rattle.transformation_laws.proofs.cut_changes.CutsFollowed.{same_across}
 use Rattle.transformations.specs.Meeting.{QuorumsMeet, makes_movement_epoch}
 use Rattle.transformations.specs.Ranges.{KeepsRanges}
 use Rattle.transformations.specs.Valid.{IsValid}
-use Rattle.cluster_metadata.proofs.DeltasAcross.{deltas_across}
-use Rattle.cluster_metadata.proofs.LockPlaces.{locks_named}
-use Rattle.cluster_metadata.proofs.LocksKept.{locks_held}
-use Rattle.cluster_metadata.proofs.LocksTaken.{may_lock}
+use Rattle.cluster_metadata.proofs.placement_maps.DeltasAcross.{deltas_across}
+use Rattle.cluster_metadata.proofs.locks.LockPlaces.{locks_named}
+use Rattle.cluster_metadata.proofs.locks.LocksKept.{locks_held}
+use Rattle.cluster_metadata.proofs.locks.LocksTaken.{may_lock}
 use Rattle.cluster_metadata.proofs.PermitOutcomes.{acts_by_delta, cuts_move, keeps_ranges, placed, placements, quorums_meet, replications_kept, rings, valid_after}
-use Rattle.cluster_metadata.proofs.PlanLemmas.{deltas_held}
+use Rattle.cluster_metadata.proofs.in_flight.PlanLemmas.{deltas_held}
 use Rattle.cluster_metadata.proofs.placement_maps.EditedMaps.{maps_hold}
-use Rattle.cluster_metadata.specs.Change.{changed}
+use Rattle.cluster_metadata.specs.code.Change.{changed}
 use Rattle.cluster_metadata.specs.CutDeltas.{ActsByDelta, CutsMove}
-use Rattle.cluster_metadata.specs.Maps.{AreMaps}
+use Rattle.cluster_metadata.specs.code.ShownMaps.{AreMaps}
+use Rattle.cluster_metadata.specs.code.PermitParts.{IsPermitted}
 use Rattle.cluster_metadata.proofs.metadata.Metadata.enact.Goals as goal
+
+-- the permit is for this image and this command
+permitted : (c : goal.After-make) → IsPermitted c.self.inside.image c.args.permit.command c.permit.inside.change
+permitted c =
+    let same : c.permit.inside.image.value ≡ c.self.inside.image = cc in
+    let command : c.permit.inside.command.value ≡ c.args.permit.command = cc in
+    rw (same, command) at c.permit.invariant.0
 
 -- the image that is made is valid
 valid : (c : goal.After-make) → IsValid c.make.new.image
-valid c =
-    let same : c.permit.inside.image.value ≡ c.self.inside.image = cc in
-    let permitted = rw same at c.permit.invariant.0 in
-    valid_after c.self.inside.image c.make.new.image _ _ permitted c.make.ensures.made c.self.invariant.valid
+valid c = valid_after c.self.inside.image c.make.new.image _ _ (permitted c) c.make.ensures.made c.self.invariant.valid
 
 pub invariant_of-self : goal.invariant_of-self
 invariant_of-self c =
     let same : c.permit.inside.image.value ≡ c.self.inside.image = cc in
-    let permitted = rw same at c.permit.invariant.0 in
     let brings = rw same at c.permit.invariant.3 in
     let maps = subst (AreMaps _) (sym c.exchange.ensures) (brings c.self.inside.maps c.self.invariant.maps) in
     record {
       valid = valid c;
-      replications = replications_kept c.self.inside.image c.make.new.image _ _ permitted c.make.ensures.made c.self.invariant.valid c.self.invariant.replications;
+      replications = replications_kept c.self.inside.image c.make.new.image _ _ (permitted c) c.make.ensures.made c.self.invariant.valid c.self.invariant.replications;
       directory = c.make.ensures.directory;
       maps = rw c.make.ensures.made maps;
       running = c.make.ensures.running;
-      deltas = deltas_held c.self.inside.image c.make.new.image _ _ _ _ permitted c.make.ensures.made c.self.invariant.valid c.self.invariant.running c.self.invariant.deltas
+      deltas = deltas_held c.self.inside.image c.make.new.image _ _ _ _ (permitted c) c.make.ensures.made c.self.invariant.valid c.self.invariant.running c.self.invariant.deltas
           (valid c).sound.movements c.make.ensures.running c.make.ensures.plans;
       locks = rw c.make.ensures.locks
-          (locks_held c.self.inside.image c.make.new.image _ _ _ _ _ permitted c.make.ensures.made c.self.invariant.valid c.self.invariant.running c.self.invariant.locks
+          (locks_held c.self.inside.image c.make.new.image _ _ _ _ _ (permitted c) c.make.ensures.made c.self.invariant.valid c.self.invariant.running c.self.invariant.locks
           (valid c).sound.movements c.make.ensures.running c.make.ensures.plans);
     }
 
@@ -70,34 +74,23 @@ returns-clause-placements c = placements _ (valid c)
 
 pub returns-clause-ranges : goal.returns-clause-ranges
 returns-clause-ranges c =
-    let same : c.permit.inside.image.value ≡ c.self.inside.image = cc in
-    let permitted = rw same at c.permit.invariant.0 in
-    let kept = keeps_ranges c.self.inside.image c.make.new.image _ _ permitted c.make.ensures.made c.self.invariant.valid in
-    subst (λ i. KeepsRanges i c.make.new.image) c.self.view_is kept
+    subst (λ i. KeepsRanges i c.make.new.image) c.self.view_is
+    (keeps_ranges c.self.inside.image c.make.new.image _ _ (permitted c) c.make.ensures.made c.self.invariant.valid)
 
 pub returns-clause-meets : goal.returns-clause-meets
 returns-clause-meets c =
-    let same : c.permit.inside.image.value ≡ c.self.inside.image = cc in
-    let permitted = rw same at c.permit.invariant.0 in
-    let command : c.permit.inside.command.value ≡ c.args.permit.command = cc in
-    λ moves. subst (λ i. QuorumsMeet i c.make.new.image) c.self.view_is
-    (quorums_meet c.self.inside.image c.make.new.image _ _ permitted c.make.ensures.made c.self.invariant.valid c.self.invariant.replications (rw command moves))
+    subst (λ i. makes_movement_epoch c.args.permit.command ≡ true → QuorumsMeet i c.make.new.image) c.self.view_is
+    (quorums_meet c.self.inside.image c.make.new.image _ _ (permitted c) c.make.ensures.made c.self.invariant.valid c.self.invariant.replications)
 
 pub returns-clause-acts : goal.returns-clause-acts
 returns-clause-acts c =
-    let same : c.permit.inside.image.value ≡ c.self.inside.image = cc in
-    let command : c.permit.inside.command.value ≡ c.args.permit.command = cc in
-    let permitted = rw (same, command) at c.permit.invariant.0 in
     subst (λ i. makes_movement_epoch c.args.permit.command ≡ true → ActsByDelta i c.make.new.image c.args.permit.command) c.self.view_is
-    (acts_by_delta c.self.inside.image c.make.new.image _ _ permitted c.make.ensures.made c.self.invariant.valid)
+    (acts_by_delta c.self.inside.image c.make.new.image _ _ (permitted c) c.make.ensures.made c.self.invariant.valid)
 
 pub returns-clause-cuts : goal.returns-clause-cuts
 returns-clause-cuts c =
-    let same : c.permit.inside.image.value ≡ c.self.inside.image = cc in
-    let command : c.permit.inside.command.value ≡ c.args.permit.command = cc in
-    let permitted = rw (same, command) at c.permit.invariant.0 in
     subst (λ i. makes_movement_epoch c.args.permit.command ≡ true → CutsMove i c.make.new.image c.args.permit.command) c.self.view_is
-    (cuts_move c.self.inside.image c.make.new.image _ _ permitted c.make.ensures.made c.self.invariant.valid)
+    (cuts_move c.self.inside.image c.make.new.image _ _ (permitted c) c.make.ensures.made c.self.invariant.valid)
 
 pub returns-clause-across : goal.returns-clause-across
 returns-clause-across c = same_across _

@@ -1,6 +1,6 @@
 use Rattle.std.proofs.Common.{◌≡◌, subst}
 use Rattle.transformations.specs.declared.image.Image.{Image}
-use Rattle.cluster_metadata.proofs.LockPlaces.{lock_nodes, locks_named, row_nodes}
+use Rattle.cluster_metadata.proofs.locks.LockPlaces.{lock_nodes, locks_named, row_nodes}
 use Rattle.cluster_metadata.proofs.metadata.Metadata.locks.Goals as goal
 
 pub returns-clause-nodes : goal.returns-clause-nodes

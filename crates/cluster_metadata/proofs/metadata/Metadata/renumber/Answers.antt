@@ -2,7 +2,7 @@ use Rattle.std.proofs.Common.{◌≡◌, subst, ap, ◌∙◌}
 use Rattle.node_directory.specs.Directory.{Registry}
 use Rattle.transformations.specs.declared.image.Image.{Image}
 use Rattle.cluster_metadata.proofs.NumberLemmas.{fits, renumbered}
-use Rattle.cluster_metadata.specs.Held.{DiffersInNumbers}
+use Rattle.cluster_metadata.specs.code.MetadataParts.{DiffersInNumbers}
 use Rattle.cluster_metadata.proofs.metadata.Metadata.renumber.Goals as goal
 
 differs : (image image' other other' : Image) → image ≡ image' → other ≡ other' → DiffersInNumbers image' other' → DiffersInNumbers image other

@@ -1,5 +1,5 @@
 use Rattle.std.proofs.Common.{arith, sym}
-use Rattle.cluster_terms.proofs.FactorTexts.{one_digit_at, ten_and_at}
+use Rattle.cluster_terms.proofs.texts.FactorTexts.{one_digit_at, ten_and_at}
 use Rattle.cluster_terms.proofs.rf.Rf.from_text.Goals as goal
 
 pub returns-in-49-to-57 : goal.returns-in-49-to-57

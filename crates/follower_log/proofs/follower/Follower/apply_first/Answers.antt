@@ -2,8 +2,8 @@ use Rattle.std.proofs.Common.{◌≡◌, ◌+◌, ap, ◌∙◌, subst, arith}
 use Rattle.transformations.proofs.histories.HistoryLemmas.{next-epoch}
 use Rattle.transformations.specs.declared.image.Image.{Image}
 use Rattle.follower_log.proofs.AdvanceLemmas.{leads_from}
-use Rattle.follower_log.proofs.KeptLemmas.{applied_waits}
-use Rattle.follower_log.specs.Kept.{Leads}
+use Rattle.follower_log.proofs.EntriesByEpoch.{applied_waits}
+use Rattle.follower_log.specs.code.WaitingEntries.{Leads}
 use Rattle.follower_log.proofs.follower.Follower.apply_first.Goals as goal
 
 -- the first entry is the next one

@@ -1,6 +1,6 @@
 use Rattle.std.proofs.Common.{length, Result}
 use Rattle.follower_log.specs.Follower.{FollowerState}
-use Rattle.follower_log.specs.Kept.{Advances}
+use Rattle.follower_log.specs.code.WaitingEntries.{Advances}
 use Rattle.follower_log.specs.declared.fault.FollowerFault.{FollowerFault}
 use Rattle.follower_log.specs.declared.took.Took.{Took}
 use Rattle.follower_log.proofs.follower.Follower.apply_waiting.Given as goal

@@ -1,4 +1,4 @@
-use Rattle.follower_log.proofs.CutLemmas.{cut_low, entry_from}
+use Rattle.follower_log.proofs.StepsCutShort.{cut_low, entry_from}
 use Rattle.follower_log.proofs.ShowsLemmas.{entry_shows}
 use Rattle.follower_log.proofs.follower.Follower.deliver.Goals as goal
 

@@ -1,4 +1,4 @@
-use Rattle.follower_log.proofs.CutLemmas.{cut_low, image_from}
+use Rattle.follower_log.proofs.StepsCutShort.{cut_low, image_from}
 use Rattle.follower_log.proofs.ShowsLemmas.{image_shows}
 use Rattle.follower_log.proofs.follower.Follower.snapshot.Goals as goal
 

@@ -1,7 +1,7 @@
 use Rattle.std.proofs.Common.{ap, subst, sym, arith}
-use Rattle.cluster_terms.proofs.AscendingLemmas.{All-put}
+use Rattle.cluster_terms.proofs.lists.AscendingLemmas.{All-put}
 use Rattle.follower_log.specs.Follower.{FollowerState, by_epoch}
-use Rattle.follower_log.specs.Kept.{CanWait, CanWaitAt}
+use Rattle.follower_log.specs.code.WaitingEntries.{CanWait, CanWaitAt}
 use Rattle.follower_log.proofs.follower.Follower.take.Goals as goal
 
 pub invariant_of-self-2 : goal.invariant_of-self-2

@@ -3,9 +3,9 @@ use Rattle.std.proofs.lemmas.Bool.Decides.{nat_tests}
 use Rattle.transformations.specs.declared.entry.Entry.{Entry}
 use Rattle.transformations.specs.declared.image.Image.{Image}
 use Rattle.follower_log.proofs.AdvanceLemmas.{any_before}
-use Rattle.follower_log.proofs.KeptLemmas.{can_wait-filter}
+use Rattle.follower_log.proofs.EntriesByEpoch.{can_wait-filter}
 use Rattle.follower_log.specs.Follower.{Performs, FollowerState, advanced, hand_valid}
-use Rattle.follower_log.specs.Kept.{Advances, CanWait}
+use Rattle.follower_log.specs.code.WaitingEntries.{Advances, CanWait}
 use Rattle.follower_log.specs.declared.fault.FollowerFault.{FollowerFault}
 use Rattle.follower_log.specs.declared.took.Took.{Took}
 use Rattle.follower_log.proofs.follower.Follower.take_image.Goals as goal

@@ -9,10 +9,10 @@ use Rattle.transformations.specs.declared.refusal.Refusal.{Refusal}
 use Rattle.cluster_metadata.specs.Permission.{ShowsRefusal}
 use Rattle.cluster_terms.specs.Ascending.{put}
 use Rattle.follower_log.proofs.AdvanceLemmas.{advanced_refused, advances_on, any_before}
-use Rattle.follower_log.proofs.CutLemmas.{advanced_from, cut_low}
-use Rattle.follower_log.proofs.KeptLemmas.{can_wait_on, put_first, waits_past}
+use Rattle.follower_log.proofs.StepsCutShort.{advanced_from, cut_low}
+use Rattle.follower_log.proofs.EntriesByEpoch.{can_wait_on, put_first, waits_past}
 use Rattle.follower_log.specs.Follower.{Performs, FollowerState, Handed, IsCutFrom, advanced, by_epoch, cut_first, stays, waiting_at}
-use Rattle.follower_log.specs.Kept.{Advances, CanWait, Leads}
+use Rattle.follower_log.specs.code.WaitingEntries.{Advances, CanWait, Leads}
 use Rattle.follower_log.specs.declared.fault.FollowerFault.{FollowerFault}
 use Rattle.follower_log.specs.declared.fault.FollowerFault.TheVariants.{Refused}
 use Rattle.follower_log.specs.declared.took.Took.{Took}

@@ -1,7 +1,7 @@
 use Rattle.std.proofs.Common.{subst}
 use Rattle.std.specs.Map.{values_of}
 use Rattle.follower_log.proofs.WaitingLemmas.{above_first}
-use Rattle.follower_log.specs.Kept.{AreAbove, first_entry}
+use Rattle.follower_log.specs.code.WaitingEntries.{AreAbove, first_entry}
 use Rattle.follower_log.proofs.waiting.Waiting.drop_first.Goals as goal
 
 pub returns-clause-above : goal.returns-clause-above

@@ -1,6 +1,6 @@
 use Rattle.std.proofs.Common.{ap, ◌∙◌}
 use Rattle.follower_log.proofs.WaitingLemmas.{first_of}
-use Rattle.follower_log.specs.Kept.{first_entry}
+use Rattle.follower_log.specs.code.WaitingEntries.{first_entry}
 use Rattle.follower_log.proofs.waiting.Waiting.first.Goals as goal
 
 pub returns-in-Some : goal.returns-in-Some

@@ -1,6 +1,6 @@
 use Rattle.std.proofs.Common.{ap, rules}
 use Rattle.node_directory.specs.Directory.{Registry}
-use Rattle.node_directory.proofs.KeptLemmas.{node_named-lookup}
+use Rattle.node_directory.proofs.StoredRowLemmas.{node_named-lookup}
 use Rattle.node_directory.proofs.directory.Directory.find.Goals as goal
 
 pub returns : goal.returns

@@ -1,9 +1,9 @@
 use Rattle.std.proofs.Common.{◌≡◌, ◌≤◌, ap, is_some}
 use Rattle.std.specs.Map.{values_of}
 use Rattle.indexmap.specs.IndexMap.{spare}
-use Rattle.node_directory.specs.Kept.{AreNamed}
+use Rattle.node_directory.specs.code.StoredRows.{AreNamed}
 use Rattle.node_directory.specs.Room.{reserve_at}
-use Rattle.node_directory.proofs.ChangeLemmas.{kept-from_rows}
+use Rattle.node_directory.proofs.DirectoryChanges.{kept-from_rows}
 use Rattle.node_directory.proofs.directory.Directory.from_rows.Goals as goal
 
 pub invariant_of-result : goal.invariant_of-result

@@ -3,7 +3,7 @@ use Rattle.std.proofs.lemmas.Option.{get_or_from_slice_get, slice_get_within}
 use Rattle.std.specs.Option.{option_copied}
 use Rattle.cluster_terms.specs.declared.node.NodeRow.{NodeRow}
 use Rattle.node_directory.proofs.NodeRows.{ids-ascend}
-use Rattle.node_directory.proofs.SearchLemmas.{place-from_id}
+use Rattle.node_directory.proofs.RowSearch.{place-from_id}
 use Rattle.node_directory.proofs.directory.Directory.is_at.Goals as goal
 
 pub returns-in-Some : goal.returns-in-Some

@@ -1,6 +1,6 @@
 use Rattle.std.proofs.Common.{subst}
-use Rattle.node_directory.specs.Kept.{IsPlaceOf}
-use Rattle.node_directory.proofs.ChangeLemmas.{kept-marked}
+use Rattle.node_directory.specs.code.StoredRows.{IsPlaceOf}
+use Rattle.node_directory.proofs.DirectoryChanges.{kept-marked}
 use Rattle.node_directory.proofs.directory.Directory.mark_left.Goals as goal
 
 pub invariant_of-self : goal.invariant_of-self

@@ -1,5 +1,5 @@
 use Rattle.std.proofs.Common.{◌∙◌, arith}
-use Rattle.node_directory.proofs.ChangeLemmas.{kept-registered}
+use Rattle.node_directory.proofs.DirectoryChanges.{kept-registered}
 use Rattle.node_directory.proofs.directory.Directory.register_in.Goals as goal
 
 pub invariant_of-self : goal.invariant_of-self

@@ -3,7 +3,7 @@ use Rattle.std.specs.Map.{values_of}
 use Rattle.std.proofs.lemmas.List.Sorted.{answers_always}
 use Rattle.node_directory.specs.Directory.{are_ascending, ids_of}
 use Rattle.node_directory.proofs.NodeRows.{ids-ascend}
-use Rattle.node_directory.proofs.SearchLemmas.{searched}
+use Rattle.node_directory.proofs.RowSearch.{searched}
 use Rattle.node_directory.proofs.directory.Directory.search.Goals as goal
 
 pub returns : goal.returns

@@ -1,7 +1,7 @@
 use Rattle.std.proofs.Common.{◌≡◌, ◌+◌, ◌≤◌, length, ◌++◌}
 use Rattle.std.specs.Map.{values_of}
 use Rattle.indexmap.specs.IndexMap.{spare}
-use Rattle.node_directory.specs.Kept.{AreNamed}
+use Rattle.node_directory.specs.code.StoredRows.{AreNamed}
 use Rattle.node_directory.specs.Room.{reserve_at}
 use Rattle.node_directory.proofs.directory.DirectoryTryCopy.copy.Given as goal
 

@@ -4,7 +4,7 @@ use Rattle.cluster_terms.specs.declared.row.TokenRange.{TokenRange}
 use Rattle.placement_deltas.proofs.JoinedDeltas.{between_is, between_shows, between_ends}
 use Rattle.placement_deltas.proofs.delta.Delta.between.Goals as goal
 use Rattle.placement_deltas.specs.Deltas.{IsDelta, EndAtCuts, ShowsChanges}
-use Rattle.placement_deltas.specs.Joining.{change_rows, joined_from}
+use Rattle.placement_deltas.specs.code.JoinedRows.{change_rows, joined_from}
 
 pub invariant_of-result : goal.invariant_of-result
 invariant_of-result c =

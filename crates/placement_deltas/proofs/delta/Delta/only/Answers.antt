@@ -1,7 +1,7 @@
 use Rattle.std.proofs.Common.{List, None, map, ap, sym, ◌∙◌, subst}
 use Rattle.placement_deltas.proofs.SideDeltas.{side_is, side_told}
 use Rattle.placement_deltas.specs.Deltas.{IsDelta, delta_at}
-use Rattle.placement_deltas.specs.Joining.{joined_from, row_of_side}
+use Rattle.placement_deltas.specs.code.JoinedRows.{joined_from, row_of_side}
 use Rattle.placement_deltas.specs.declared.delta_row.DeltaRow.{DeltaRow}
 use Rattle.placement_deltas.proofs.delta.Delta.only.Goals as goal
 

@@ -1,8 +1,8 @@
 use Rattle.std.proofs.Common.{◌≤◌, ◌∙◌, List, ◌≡◌, length, ap, sym, subst}
 use Rattle.std.proofs.lemmas.List.{take_all}
-use Rattle.range_placements.proofs.MapChanges.{changed_at, changed_map, same_ends}
+use Rattle.range_placements.proofs.ChangedRows.{changed_at, changed_map, same_ends}
 use Rattle.range_placements.proofs.placement_map.PlacementMap.with_reads.Goals as goal
-use Rattle.range_placements.specs.Changing.{rows_changed}
+use Rattle.range_placements.specs.code.Changing.{rows_changed}
 use Rattle.range_placements.specs.Placements.{IsPlacementMap, map_at, reads_changed, right_ends}
 use Rattle.range_placements.specs.declared.placement_row.PlacementRow.{PlacementRow}
 

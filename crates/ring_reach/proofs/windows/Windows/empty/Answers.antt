@@ -2,7 +2,7 @@ use Rattle.std.proofs.Common.{sym, subst}
 use Rattle.std.specs.List.Sorted.{IsStrictlySortedBy}
 use Rattle.std.specs.Ordering.{int_cmp}
 use Rattle.ring_reach.proofs.WindowLemmas.{none_ascend}
-use Rattle.ring_reach.specs.Windows.{rights_of}
+use Rattle.ring_reach.specs.code.Windows.{rights_of}
 use Rattle.ring_reach.proofs.windows.Windows.empty.Goals as goal
 
 pub invariant_of-result : goal.invariant_of-result

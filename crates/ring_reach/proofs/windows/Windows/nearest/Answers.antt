@@ -1,6 +1,6 @@
 use Rattle.std.proofs.Common.{◌<◌, ◌≤◌, List, Some, ap, ◌∙◌, length, arith}
 use Rattle.ring_reach.proofs.WindowLemmas.{nearest-within, nearest-past}
-use Rattle.ring_reach.specs.Windows.{nearest}
+use Rattle.ring_reach.specs.code.Windows.{nearest}
 use Rattle.ring_reach.specs.declared.windows.Window.{Window}
 use Rattle.ring_reach.proofs.windows.Windows.nearest.Goals as goal
 

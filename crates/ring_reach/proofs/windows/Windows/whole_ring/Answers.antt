@@ -2,7 +2,7 @@ use Rattle.std.proofs.Common.{sym, subst}
 use Rattle.std.specs.List.Sorted.{IsStrictlySortedBy}
 use Rattle.std.specs.Ordering.{int_cmp}
 use Rattle.ring_reach.proofs.WindowLemmas.{one_ascends}
-use Rattle.ring_reach.specs.Windows.{rights_of, window}
+use Rattle.ring_reach.specs.code.Windows.{rights_of, window}
 use Rattle.ring_reach.proofs.windows.Windows.whole_ring.Goals as goal
 
 pub invariant_of-result : goal.invariant_of-result

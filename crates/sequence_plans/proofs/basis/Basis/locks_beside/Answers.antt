@@ -1,7 +1,7 @@
 use Rattle.std.proofs.Common.{◌≡◌, ◌+◌, ◌==◌, List, [], ◌∷◌, ◌++◌, take, refl, sym, ◌∙◌, subst}
 use Rattle.std.proofs.lemmas.Bool.{not-false, not-true}
-use Rattle.token_ring.specs.declared.book.LockRow.{LockRow}
-use Rattle.transformations.specs.Steps.{others}
+use Rattle.token_ring.specs.declared.range_book.LockRow.{LockRow}
+use Rattle.transformations.specs.Movements.{others}
 use Rattle.sequence_plans.specs.Plan.{AreLocks}
 use Rattle.sequence_plans.proofs.BookLemmas.{each_within, locks_more, locks_passed}
 use Rattle.sequence_plans.proofs.basis.Basis.locks_beside.Goals as goal

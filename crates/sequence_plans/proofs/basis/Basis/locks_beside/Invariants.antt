@@ -1,5 +1,5 @@
 use Rattle.std.proofs.Common.{take}
-use Rattle.transformations.specs.Steps.{others}
+use Rattle.transformations.specs.Movements.{others}
 use Rattle.sequence_plans.specs.Plan.{AreLocks}
 use Rattle.sequence_plans.proofs.basis.Basis.locks_beside.Given as goal
 

@@ -1,6 +1,6 @@
 use Rattle.std.proofs.Common.{sym, subst}
 use Rattle.snapshot_store.specs.Images.{Ascend}
-use Rattle.snapshot_store.proofs.KeptLemmas.{kept_push}
+use Rattle.snapshot_store.proofs.NearestImages.{kept_push}
 use Rattle.snapshot_store.proofs.snapshots.Snapshots.keep.Goals as goal
 use Rattle.snapshot_store.proofs.snapshots.Snapshots.keep.Goals.{in-Ok, in-Err}
 

@@ -1,7 +1,7 @@
 use Rattle.std.proofs.Common.{◌≤◌, List, subst}
 use Rattle.std.specs.List.{AllByRecursion}
 use Rattle.transformations.specs.declared.image.Image.{Image}
-use Rattle.snapshot_store.proofs.KeptLemmas.{none_past_last}
+use Rattle.snapshot_store.proofs.NearestImages.{none_past_last}
 use Rattle.snapshot_store.proofs.snapshots.Snapshots.last_epoch.Goals as goal
 
 pub returns-in-Some-clause-greatest : goal.returns-in-Some-clause-greatest

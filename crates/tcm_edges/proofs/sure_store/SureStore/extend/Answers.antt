@@ -1,7 +1,7 @@
 use Rattle.std.proofs.Common.{◌≡◌, ◌++◌, ap, sym, subst, ◌∙◌, Some, None, OnOk, Option, position, ℕ, List}
 use Rattle.std.specs.FinMap as map
 use Rattle.tcm_edges.specs.Files.{content, file_of}
-use Rattle.tcm_edges.specs.StoredFiles.{is_named}
+use Rattle.tcm_edges.specs.code.StoredFiles.{is_named}
 use Rattle.tcm_edges.proofs.FileLemmas.{put_placed-more, file_of-unplaced}
 use Rattle.tcm_edges.proofs.sure_store.SureStore.extend.Goals as goal
 

@@ -1,6 +1,6 @@
 use Rattle.std.proofs.Common.{◌≡◌, ap, sym, ◌∙◌, Some, None, position, ℕ, List}
 use Rattle.tcm_edges.specs.Files.{file_of}
-use Rattle.tcm_edges.specs.StoredFiles.{is_named}
+use Rattle.tcm_edges.specs.code.StoredFiles.{is_named}
 use Rattle.tcm_edges.proofs.FileLemmas.{file_of-placed, file_of-unplaced}
 use Rattle.tcm_edges.proofs.sure_store.SureStore.file.Goals as goal
 

@@ -1,5 +1,5 @@
 use Rattle.std.proofs.Common.{◌≡◌, ap, ◌∙◌, Some, None, position, ℕ, List}
-use Rattle.tcm_edges.specs.StoredFiles.{is_named}
+use Rattle.tcm_edges.specs.code.StoredFiles.{is_named}
 use Rattle.tcm_edges.proofs.FileLemmas.{as_map, put_placed, put_unplaced}
 use Rattle.tcm_edges.proofs.sure_store.SureStore.put.Goals as goal
 

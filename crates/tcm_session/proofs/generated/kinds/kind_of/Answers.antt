@@ -1,5 +1,5 @@
 use Rattle.std.proofs.Common.{sym, ◌∙◌}
-use Rattle.tcm_session.proofs.GeneratedLemmas.{kind_else}
+use Rattle.tcm_session.proofs.gen_script.GeneratedLemmas.{kind_else}
 use Rattle.tcm_session.proofs.generated.kinds.kind_of.Goals as goal
 
 pub returns-else-begins : goal.returns-else-begins

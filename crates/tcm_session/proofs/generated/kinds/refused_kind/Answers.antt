@@ -1,6 +1,6 @@
 use Rattle.std.proofs.Common.{sym, ap, ◌∙◌}
 use Rattle.tcm_session.specs.declared.generated.kinds.AnswerKind.TheVariants.{Refused}
-use Rattle.tcm_session.proofs.GeneratedLemmas.{refused_here, refused_never}
+use Rattle.tcm_session.proofs.gen_script.GeneratedLemmas.{refused_here, refused_never}
 use Rattle.tcm_session.proofs.generated.kinds.refused_kind.Goals as goal
 
 pub returns-then-begins : goal.returns-then-begins

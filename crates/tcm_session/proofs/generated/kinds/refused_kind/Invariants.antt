@@ -1,5 +1,5 @@
 use Rattle.std.proofs.Common.{◌≡◌, ◌+◌}
-use Rattle.tcm_session.proofs.GeneratedLemmas.{AreOthers}
+use Rattle.tcm_session.proofs.gen_script.GeneratedLemmas.{AreOthers}
 use Rattle.tcm_session.proofs.generated.kinds.refused_kind.Given as goal
 
 abbrev pub invariant-loop-front : goal.invariant-loop-front

@@ -1,4 +1,4 @@
-use Rattle.tcm_session.proofs.GeneratedLemmas.{if_ok, opened}
+use Rattle.tcm_session.proofs.gen_script.GeneratedLemmas.{if_ok, opened}
 use Rattle.tcm_session.proofs.generated.opening.open.Goals as goal
 
 pub returns : goal.returns

@@ -1,7 +1,7 @@
 use Rattle.std.proofs.Common.{ap, arith, ◌∙◌}
 use Rattle.tcm_session.specs.Generated.{after_lines}
 use Rattle.tcm_session.specs.GeneratedLines.{register_line, register_lines}
-use Rattle.tcm_session.proofs.GeneratedLemmas.{after_last, after_next, each-next, each-none, register_all}
+use Rattle.tcm_session.proofs.gen_script.GeneratedLemmas.{after_last, after_next, each-next, each-none, register_all}
 use Rattle.tcm_session.proofs.generated.opening.register_nodes.Goals as goal
 
 pub loop-i-init : goal.loop-i-init

@@ -1,4 +1,4 @@
-use Rattle.tcm_session.proofs.GeneratedLemmas.{if_ok, round_committed}
+use Rattle.tcm_session.proofs.gen_script.GeneratedLemmas.{if_ok, round_committed}
 use Rattle.tcm_session.proofs.generated.rounds.commit_round.Goals as goal
 
 pub returns : goal.returns

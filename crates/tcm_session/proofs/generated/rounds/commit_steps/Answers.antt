@@ -1,6 +1,6 @@
 use Rattle.std.proofs.Common.{map, arith, ◌∙◌}
 use Rattle.tcm_session.specs.GeneratedLines.{step_lines}
-use Rattle.tcm_session.proofs.GeneratedLemmas.{after_last, steps-next, steps-none}
+use Rattle.tcm_session.proofs.gen_script.GeneratedLemmas.{after_last, steps-next, steps-none}
 use Rattle.tcm_session.proofs.generated.rounds.commit_steps.Goals as goal
 
 pub loop-word-preserved : goal.loop-word-preserved

@@ -1,5 +1,5 @@
 use Rattle.std.proofs.Common.{refl}
-use Rattle.tcm_session.proofs.GeneratedLemmas.{if_ok, round_done}
+use Rattle.tcm_session.proofs.gen_script.GeneratedLemmas.{if_ok, round_done}
 use Rattle.tcm_session.proofs.generated.rounds.run_round.Goals as goal
 
 pub returns : goal.returns

@@ -1,6 +1,6 @@
 use Rattle.std.proofs.Common.{arith, ◌∙◌}
 use Rattle.tcm_session.specs.GeneratedLines.{rounds_lines}
-use Rattle.tcm_session.proofs.GeneratedLemmas.{after_last, rounds-next, rounds-none}
+use Rattle.tcm_session.proofs.gen_script.GeneratedLemmas.{after_last, rounds-next, rounds-none}
 use Rattle.tcm_session.proofs.generated.rounds.run_rounds.Goals as goal
 
 pub loop-j-preserved : goal.loop-j-preserved

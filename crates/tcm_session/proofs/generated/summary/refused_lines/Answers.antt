@@ -1,5 +1,5 @@
 use Rattle.std.proofs.Common.{sym, arith, ◌∙◌}
-use Rattle.tcm_session.proofs.GeneratedLemmas.{refused-next, refused-none, refused_all}
+use Rattle.tcm_session.proofs.gen_script.GeneratedLemmas.{refused-next, refused-none, refused_all}
 use Rattle.tcm_session.proofs.generated.summary.refused_lines.Goals as goal
 
 pub loop-number-init : goal.loop-number-init

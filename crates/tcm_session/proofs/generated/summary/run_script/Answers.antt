@@ -1,4 +1,4 @@
-use Rattle.tcm_session.proofs.GeneratedLemmas.{if_ok, scripted}
+use Rattle.tcm_session.proofs.gen_script.GeneratedLemmas.{if_ok, scripted}
 use Rattle.tcm_session.proofs.generated.summary.run_script.Goals as goal
 
 pub returns : goal.returns

@@ -1,8 +1,8 @@
 use Rattle.std.proofs.Common.{sym, ap, subst}
 use Rattle.cluster_metadata.specs.Permission.{Permission}
-use Rattle.tcm_session.specs.Machine.{SessionState}
-use Rattle.tcm_session.specs.Steps.{IsNextEntry}
-use Rattle.tcm_session.proofs.StepLemmas.{session_kept}
+use Rattle.tcm_session.specs.session.Machine.{SessionState}
+use Rattle.tcm_session.specs.code.StepParts.{IsNextEntry}
+use Rattle.tcm_session.proofs.machine.StepEndLemmas.{session_kept}
 use Rattle.tcm_session.proofs.session.Session.accept.Goals as goal
 
 pub invariant_of-self-in-Ok : goal.invariant_of-self-in-Ok

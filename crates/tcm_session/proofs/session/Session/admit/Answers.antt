@@ -5,8 +5,8 @@ use Rattle.transformations.specs.Log.{commands_of}
 use Rattle.transformations.specs.declared.image.Image.{Image}
 use Rattle.tcm_session.proofs.session.Session.admit.Goals as goal
 
-pub permit-requires-clause-room : goal.permit-requires-clause-room
-permit-requires-clause-room c =
+pub permit-requires-clause-below_limit : goal.permit-requires-clause-below_limit
+permit-requires-clause-below_limit c =
     let log = c.self.inside.log in
     let epoch = ap (λ (i : Image). i.epoch) c.self.invariant.0 in
     omega (arith, epoch, epoch_after (commands_of log), length-commands_of log)

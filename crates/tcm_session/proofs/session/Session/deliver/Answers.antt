@@ -1,43 +1,34 @@
-use Rattle.std.proofs.Common.{position, set, sym, subst, ◌∙◌, ap}
+use Rattle.std.proofs.Common.{ℕ, List, sym, ap}
 use Rattle.epoch_log.specs.Epochs.{entry_at}
-use Rattle.transformations.specs.Log.{commands_of}
-use Rattle.script_lang.specs.Texts.{no_text}
-use Rattle.follower_log.proofs.CutLemmas.{entry_from}
-use Rattle.tcm_session.specs.Machine.{SessionState, deliver_to, follower_named, no_epoch, on_follower}
-use Rattle.tcm_session.specs.Steps.{Alone, OnlyAnswers}
-use Rattle.tcm_session.proofs.FollowerLemmas.{named, unplaced}
-use Rattle.tcm_session.proofs.HandedLemmas.{alone_missing, alone_moved, alone_turned, entry_kept, entry_of, follows_shown, has_follower, moved_follow, no_epoch_of, one_log_shown}
+use Rattle.follower_log.proofs.StepsCutShort.{entry_from}
+use Rattle.follower_log.specs.Follower.{FollowerState}
+use Rattle.tcm_session.specs.session.Machine.{Reply, SessionState, deliver_to}
+use Rattle.tcm_session.proofs.machine.HandedLemmas.{IsHanded, IsLogEntry, alone_missing, alone_moved, alone_past, entry_handed, entry_of, has_follower}
 use Rattle.tcm_session.proofs.session.Session.deliver.Goals as goal
+use Rattle.tcm_session.proofs.session.Session.deliver.Goals.{After-hand_over, In-Some-entry}
+
+abbrev reply : List ℕ → ℕ → SessionState → FollowerState → Reply
+reply name epoch s f = deliver_to s name f (entry_at s.log epoch)
 
 pub returns-in_default : goal.returns-in_default
-returns-in_default c =
-    let name = c.args.name.now in
-    let s : SessionState = record { log = c.self.inside.log; followers = c.self.inside.followers.items } in
-    let at = sym (c.in_default.ensures ∙ ap (position (named name)) c.deref.ensures.value) in
-    record {
-      steps = subst (λ (s : SessionState). Alone (follower_named s.followers name) (on_follower s name (λ f. deliver_to s name f (entry_at s.log c.args.epoch))) s c.args.self.now c.args.out.now c.refuse_line.new.out c.refuse_line.result)
-          c.self.view_is
-          (alone_missing s c.args.self.now name _ _ c.refuse_line.result (λ f. deliver_to s name f (entry_at s.log c.args.epoch)) (unplaced name s.followers at) (sym c.self.view_is) c.refuse_line.ensures.only);
-    }
+returns-in_default c = record { steps = alone_missing (reply c.args.name.now c.args.epoch) _ _ c.args.name.now _ _ c.refuse_line.result c.self.view_is _ c.deref.ensures.value c.in_default.ensures c.refuse_line.ensures.only }
 
 pub returns-in_default-entry : goal.returns-in_default-entry
 returns-in_default-entry c =
-    let name = c.args.name.now in
     let s : SessionState = record { log = c.self.inside.log; followers = c.self.inside.followers.items } in
-    let at = sym (c.in-Some.ensures ∙ ap (position (named name)) c.deref.ensures.value) in
-    let text = no_text (no_epoch (commands_of s.log)) in
-    let only = subst (λ t. OnlyAnswers t c.args.out.now c.past_last.new.out c.past_last.result) (sym (no_epoch_of s.log c.last_epoch.result c.last_epoch.ensures.last)) c.past_last.ensures.only in
     record {
-      steps = subst (λ (s : SessionState). Alone (follower_named s.followers name) (on_follower s name (λ f. deliver_to s name f (entry_at s.log c.args.epoch))) s c.args.self.now c.args.out.now c.past_last.new.out c.past_last.result) c.self.view_is
-          (alone_turned s c.args.self.now name c.in-Some.place text _ _ c.past_last.result (λ f. deliver_to s name f (entry_at s.log c.args.epoch)) c.self.invariant.2 at
-          (λ f. ap (deliver_to s name f) (sym c.in_default-entry.ensures.entry)) (sym c.self.view_is) only);
+      steps = alone_past (reply c.args.name.now c.args.epoch) s _ c.args.name.now _ _ c.past_last.result c.self.view_is _ _ _ c.self.invariant.2 c.deref.ensures.value c.in-Some.ensures c.last_epoch.ensures.last
+          (λ f. ap (deliver_to s c.args.name.now f) (sym c.in_default-entry.ensures.entry)) c.past_last.ensures.only;
     }
 
+of_log : (c : In-Some-entry) → IsLogEntry c.self.inside.log c.in-Some-entry.entry.now
+of_log c = entry_of c.self.inside.log c.args.epoch c.in-Some-entry.entry.now c.self.invariant.1 (sym c.in-Some-entry.ensures.entry)
+
 pub hand_over-requires-clause-formed : goal.hand_over-requires-clause-formed
-hand_over-requires-clause-formed c = (entry_of c.self.inside.log c.args.epoch c.in-Some-entry.entry.now c.self.invariant.1 (sym c.in-Some-entry.ensures.entry)).formed
+hand_over-requires-clause-formed c = (of_log (goal.at.hand_over-requires-clause-formed c).In-Some-entry).formed
 
 pub hand_over-requires-clause-epoch : goal.hand_over-requires-clause-epoch
-hand_over-requires-clause-epoch c = (entry_of c.self.inside.log c.args.epoch c.in-Some-entry.entry.now c.self.invariant.1 (sym c.in-Some-entry.ensures.entry)).epoch
+hand_over-requires-clause-epoch c = (of_log (goal.at.hand_over-requires-clause-epoch c).In-Some-entry).epoch
 
 pub hand_over-requires-clause-log : goal.hand_over-requires-clause-log
 hand_over-requires-clause-log c = c.self.invariant.1
@@ -46,44 +37,29 @@ pub hand_over-requires-clause-last : goal.hand_over-requires-clause-last
 hand_over-requires-clause-last c = c.self.invariant.0
 
 pub hand_over-requires-clause-among : goal.hand_over-requires-clause-among
-hand_over-requires-clause-among c = (entry_of c.self.inside.log c.args.epoch c.in-Some-entry.entry.now c.self.invariant.1 (sym c.in-Some-entry.ensures.entry)).among
+hand_over-requires-clause-among c = (of_log (goal.at.hand_over-requires-clause-among c).In-Some-entry).among
 
 pub hand_over-requires-clause-follows : goal.hand_over-requires-clause-follows
 hand_over-requires-clause-follows c =
-    let name = c.args.name.now in
     let s : SessionState = record { log = c.self.inside.log; followers = c.self.inside.followers.items } in
-    let at = sym (c.in-Some.ensures ∙ ap (position (named name)) c.deref.ensures.value) in
-    (has_follower s name c.in-Some.place c.index_mut-named.result.now _ c.self.invariant.2 at c.index_mut-named.ensures.value).follows
+    (has_follower s c.args.name.now c.in-Some.place c.index_mut-named.result.now _ _ c.self.invariant.2 c.deref.ensures.value c.in-Some.ensures c.index_mut-named.ensures.value).follows
+
+-- the follower was handed the entry
+handed : (c : After-hand_over)
+    → IsHanded (record { log = c.self.inside.log; followers = c.self.inside.followers.items }) c.args.name.now c.in-Some.place c.index_mut-named.result.now c.hand_over.new.follower c.hand_over.result
+handed c = entry_handed _ _ _ _ _ _ _ _ c.self.invariant.2 c.deref.ensures.value c.in-Some.ensures c.index_mut-named.ensures.value c.in-Some-entry.entry.now.epoch c.hand_over.ensures.shows
 
 pub answer_handed-requires : goal.answer_handed-requires
-answer_handed-requires c =
-    let name = c.args.name.now in
-    let s : SessionState = record { log = c.self.inside.log; followers = c.self.inside.followers.items } in
-    let at = sym (c.in-Some.ensures ∙ ap (position (named name)) c.deref.ensures.value) in
-    let has = has_follower s name c.in-Some.place c.index_mut-named.result.now _ c.self.invariant.2 at c.index_mut-named.ensures.value in
-    one_log_shown s.log has.follows.taken _ c.hand_over.result c.hand_over.new.follower (c.hand_over.ensures.shows has.follows.taken has.follows.stands)
+answer_handed-requires c = (handed (goal.at.answer_handed-requires c).After-hand_over).of_log
 
 pub invariant_of-self : goal.invariant_of-self
-invariant_of-self c =
-    let name = c.args.name.now in
-    let s : SessionState = record { log = c.self.inside.log; followers = c.self.inside.followers.items } in
-    let at = sym (c.in-Some.ensures ∙ ap (position (named name)) c.deref.ensures.value) in
-    let has = has_follower s name c.in-Some.place c.index_mut-named.result.now _ c.self.invariant.2 at c.index_mut-named.ensures.value in
-    let follows = follows_shown s.log has.follows.taken _ c.hand_over.result c.hand_over.new.follower (c.hand_over.ensures.shows has.follows.taken has.follows.stands) in
-    (c.self.invariant.0, c.self.invariant.1, moved_follow s name c.in-Some.place c.index_mut-named.result.now c.hand_over.new.follower has c.self.invariant.2 follows, c.self.invariant.3)
+invariant_of-self c = (c.self.invariant.0, c.self.invariant.1, (handed (goal.at.invariant_of-self c).After-hand_over).all, c.self.invariant.3)
 
 pub returns : goal.returns
 returns c =
-    let name = c.args.name.now in
     let s : SessionState = record { log = c.self.inside.log; followers = c.self.inside.followers.items } in
     let f = c.index_mut-named.result.now in
-    let at = sym (c.in-Some.ensures ∙ ap (position (named name)) c.deref.ensures.value) in
-    let has = has_follower s name c.in-Some.place f _ c.self.invariant.2 at c.index_mut-named.ensures.value in
-    let follows = follows_shown s.log has.follows.taken _ c.hand_over.result c.hand_over.new.follower (c.hand_over.ensures.shows has.follows.taken has.follows.stands) in
-    let keeps = entry_kept s.log c.in-Some-entry.entry.now.epoch c.hand_over.result f.follower c.hand_over.new.follower c.hand_over.ensures.shows in
-    let after : SessionState = record s { followers = set s.followers c.in-Some.place (record f { follower = c.hand_over.new.follower }) } in
     record {
-      steps = subst (λ (s : SessionState). Alone (follower_named s.followers name) (on_follower s name (λ f. deliver_to s name f (entry_at s.log c.args.epoch))) s after c.args.out.now c.answer_handed.new.out c.answer_handed.result) c.self.view_is
-          (alone_moved s name c.in-Some.place f c.hand_over.new.follower _ c.hand_over.result _ _ c.answer_handed.result (λ f. deliver_to s name f (entry_at s.log c.args.epoch)) has
-          (ap (deliver_to s name f.follower) (sym c.in-Some-entry.ensures.entry)) (entry_from f.follower c.in-Some-entry.entry.now) follows keeps c.hand_over.ensures.step c.answer_handed.ensures);
+      steps = alone_moved (reply c.args.name.now c.args.epoch) s _ c.args.name.now _ _ c.answer_handed.result c.self.view_is c.in-Some.place f _ _ c.hand_over.result (handed (goal.at.returns c).After-hand_over)
+          (ap (deliver_to s c.args.name.now f.follower) (sym c.in-Some-entry.ensures.entry)) (entry_from f.follower c.in-Some-entry.entry.now) c.hand_over.ensures.step c.answer_handed.ensures;
     }

@@ -1,5 +1,5 @@
 use Rattle.std.proofs.Common.{◌≡◌, ◌++◌, OnOk, ap, subst, ◌∙◌}
-use Rattle.tcm_session.specs.Machine.{SessionState, follower_named, image_named, query_text}
+use Rattle.tcm_session.specs.session.Machine.{SessionState, follower_named, image_named, query_text}
 use Rattle.tcm_session.proofs.session.Session.query_follower.Goals as goal
 
 pub returns-in-None-clause-text : goal.returns-in-None-clause-text

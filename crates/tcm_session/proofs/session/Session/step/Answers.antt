@@ -1,10 +1,10 @@
 use Rattle.std.proofs.Common.{subst}
-use Rattle.tcm_session.specs.Machine.{SessionState}
-use Rattle.tcm_session.specs.Steps.{AllFollow}
+use Rattle.tcm_session.specs.session.Machine.{SessionState}
+use Rattle.tcm_session.specs.code.StepParts.{AllFollow}
 use Rattle.tcm_session.specs.declared.fault.StepFault.TheVariants as fault
-use Rattle.tcm_session.proofs.AnswersLemmas.{reply-said}
-use Rattle.tcm_session.proofs.HandedLemmas.{stops_unread}
-use Rattle.tcm_session.proofs.ReadLemmas.{at_fault}
+use Rattle.tcm_session.proofs.machine.AnswersLemmas.{reply-said}
+use Rattle.tcm_session.proofs.machine.HandedLemmas.{stops_unread}
+use Rattle.tcm_session.proofs.inputs.ReadLemmas.{at_fault}
 use Rattle.tcm_session.proofs.session.Session.step.Goals as goal
 
 pub returns-clause-text : goal.returns-clause-text

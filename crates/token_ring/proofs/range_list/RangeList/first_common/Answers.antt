@@ -3,7 +3,7 @@ use Rattle.std.specs.List.{AllByRecursion}
 use Rattle.std.proofs.lemmas.Int.{to_z-of_z}
 use Rattle.std.proofs.lemmas.List.{take_all}
 use Rattle.cluster_terms.specs.Arc.{IsToken}
-use Rattle.token_ring.proofs.ApartLemmas.{apart_end}
+use Rattle.token_ring.proofs.RangesApart.{apart_end}
 use Rattle.token_ring.proofs.ChosenRows.{first_found, first_last, none_common}
 use Rattle.token_ring.proofs.range_list.RangeList.first_common.Goals as goal
 

@@ -1,7 +1,7 @@
 use Rattle.std.proofs.Common.{◌≡◌, false, ◌&&◌, take}
 use Rattle.std.specs.List.{AllByRecursion}
 use Rattle.cluster_terms.specs.Arc.{IsToken}
-use Rattle.token_ring.specs.Ranges.{have_token}
+use Rattle.token_ring.specs.TokenRanges.{have_token}
 use Rattle.token_ring.proofs.range_list.RangeList.first_common.Given as goal
 
 -- the cuts so far are tokens, and none of them is in both lists

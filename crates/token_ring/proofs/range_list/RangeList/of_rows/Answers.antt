@@ -2,7 +2,7 @@ use Rattle.std.proofs.Common.{Bool, length, sym, ap, subst, List, ◌∙◌}
 use Rattle.std.proofs.lemmas.List.{length-map}
 use Rattle.cluster_terms.specs.Row.{rows_between}
 use Rattle.cluster_terms.specs.declared.row.TokenRange.{TokenRange}
-use Rattle.token_ring.specs.Ranges.{IsRangeList, AreCutOut, have_chosen, have_token}
+use Rattle.token_ring.specs.TokenRanges.{IsRangeList, AreCutOut, have_chosen, have_token}
 use Rattle.token_ring.proofs.JoinLemmas.{chosen_list, chosen_have, chosen_out}
 use Rattle.token_ring.proofs.range_list.RangeList.of_rows.Goals as goal
 

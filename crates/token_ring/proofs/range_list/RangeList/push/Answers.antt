@@ -1,5 +1,5 @@
 use Rattle.std.proofs.Common.{sym, subst}
-use Rattle.token_ring.specs.Ranges.{IsRangeList}
+use Rattle.token_ring.specs.TokenRanges.{IsRangeList}
 use Rattle.token_ring.proofs.RangeLemmas.{list_push}
 use Rattle.token_ring.proofs.range_list.RangeList.push.Goals as goal
 use Rattle.token_ring.proofs.range_list.RangeList.push.Goals.{in-Ok, in-Err}

@@ -1,5 +1,5 @@
 use Rattle.std.proofs.Common.{rules, ◌∙◌}
-use Rattle.token_ring.specs.Ranges.{either_has}
+use Rattle.token_ring.specs.TokenRanges.{either_has}
 use Rattle.token_ring.proofs.ChosenRows.{have_either}
 use Rattle.token_ring.proofs.range_list.RangeList.union.Goals as goal
 

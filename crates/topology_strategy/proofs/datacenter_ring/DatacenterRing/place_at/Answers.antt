@@ -6,8 +6,9 @@ use Rattle.cluster_terms.specs.Replication.{datacenter_group}
 use Rattle.node_directory.specs.Tally.{racks_in}
 use Rattle.node_sets.specs.NodeSets.{has_node}
 use Rattle.token_ring.specs.Ring.{IsFirstAt}
-use Rattle.topology_strategy.specs.DatacenterRing.{RingPart, is_replica_in}
-use Rattle.topology_strategy.specs.Walk.{found_among}
+use Rattle.topology_strategy.specs.DatacenterRing.{RingPart}
+use Rattle.topology_strategy.specs.code.RingParts.{is_replica_in}
+use Rattle.topology_strategy.specs.code.WalkAmong.{found_among}
 use Rattle.topology_strategy.proofs.RackedLemmas.{listed_ring, taken_within}
 use Rattle.topology_strategy.proofs.datacenter_ring.DatacenterRing.place_at.Goals as goal
 
@@ -36,5 +37,5 @@ returns-clause-nodes c =
     c.args.t j part.shape first c.self.invariant.1.1.0 begun middle found c.begin-walk.ensures
     (c.go_among.ensures ∙ (λ i. found_among part.shape.wanted (nodes_of (rest i)) (rest_racks i) begun))
     (c.go_among-2.ensures ∙ (λ i. found_among part.shape.wanted (nodes_of (front i)) (front_racks i) middle)) v in
-    c.in_ok-placed.ensures.nodes v ∙ ap (λ l. has_node old v || has_node l v) c.nodes.ensures
+    c.in_ok-add_all.ensures.nodes v ∙ ap (λ l. has_node old v || has_node l v) c.nodes.ensures
     ∙ ap (λ b. has_node old v || b) (walked ∙ ap (λ (r : RingPart). is_replica_in r c.args.t v) c.self.view_is)

@@ -1,7 +1,7 @@
 use Rattle.std.proofs.Common.{◌<◌, ◌≤◌, length, ap, sym, ◌∙◌, add-one, arith, rules, drop}
 use Rattle.cluster_terms.specs.Group.{nodes_of}
 use Rattle.node_directory.specs.Tally.{racks_in}
-use Rattle.topology_strategy.specs.Walk.{found_among}
+use Rattle.topology_strategy.specs.code.WalkAmong.{found_among}
 use Rattle.topology_strategy.proofs.WithinLemmas.{among_full, among_step}
 use Rattle.topology_strategy.proofs.walk.Walk.go_among.Goals as goal
 

@@ -1,7 +1,7 @@
 use Rattle.std.proofs.Common.{◌≡◌, drop}
 use Rattle.cluster_terms.specs.Group.{nodes_of}
 use Rattle.node_directory.specs.Tally.{racks_in}
-use Rattle.topology_strategy.specs.Walk.{found_among}
+use Rattle.topology_strategy.specs.code.WalkAmong.{found_among}
 use Rattle.topology_strategy.proofs.walk.Walk.go_among.Given as goal
 
 -- what the rest of the walk adds to what is found so far is what the whole walk adds

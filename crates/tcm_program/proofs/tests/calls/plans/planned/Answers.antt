@@ -1,5 +1,5 @@
 use Rattle.transformations.specs.declared.sequence.Phase.TheVariants as phase
-use Rattle.cluster_metadata.proofs.ResumeLemmas.{sound_resumed}
+use Rattle.cluster_metadata.proofs.in_flight.ResumeLemmas.{sound_resumed}
 use Rattle.tcm_program.proofs.tests.calls.plans.planned.Goals as goal
 
 pub plan-requires-clause-sound : goal.plan-requires-clause-sound

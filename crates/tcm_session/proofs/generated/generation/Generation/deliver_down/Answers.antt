@@ -1,6 +1,6 @@
 use Rattle.std.proofs.Common.{◌-◌, ◌∙◌}
 use Rattle.tcm_session.specs.GeneratedLines.{delivers}
-use Rattle.tcm_session.proofs.GeneratedLemmas.{after_last, after_next, delivers-next, delivers-none}
+use Rattle.tcm_session.proofs.gen_script.GeneratedLemmas.{after_last, after_next, delivers-next, delivers-none}
 use Rattle.tcm_session.proofs.generated.generation.Generation.deliver_down.Goals as goal
 
 pub loop-epoch-preserved : goal.loop-epoch-preserved

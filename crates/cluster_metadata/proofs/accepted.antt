@@ -1,0 +1,3 @@
+-- What accepted commands say of nodes and keyspaces, and the changes that they make.
+pub mod ChangedNodes
+pub mod KeyspaceLemmas

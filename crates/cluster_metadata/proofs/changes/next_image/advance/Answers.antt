@@ -1,0 +1,16 @@
+use Rattle.std.proofs.Common.{◌≡◌, Some}
+use Rattle.transformations.proofs.commands.AcceptedLemmas.{early_accepted}
+use Rattle.transformations.specs.Refusals.{prepared_by}
+use Rattle.cluster_metadata.proofs.in_flight.PrepareLemmas.{prepared_begun}
+use Rattle.cluster_metadata.proofs.changes.next_image.advance.Goals as goal
+
+pub row_prepared-requires-clause-early : goal.row_prepared-requires-clause-early
+row_prepared-requires-clause-early c = early_accepted _ _ c.requires.accepted
+
+pub change_at_once-requires-clause-early : goal.change_at_once-requires-clause-early
+change_at_once-requires-clause-early c = early_accepted _ _ c.requires.accepted
+
+pub returns-in-Some : goal.returns-in-Some
+returns-in-Some c =
+    let prepared : prepared_by c.args.image.now.tokens c.args.cmd.now ≡ Some c.in-Some.row = cc c.in_ok-row.ensures.row in
+    rw (prepared_begun c.args.image.now c.args.cmd.now c.in-Some.row prepared) at c.begin.ensures

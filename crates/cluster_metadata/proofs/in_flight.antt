@@ -1,0 +1,8 @@
+-- Movements in flight: what accepted commands say of them, and how changes leave them.
+pub mod AcceptedSteps
+pub mod CancelLemmas
+pub mod MovementPlaces
+pub mod PlanLemmas
+pub mod PrepareLemmas
+pub mod ResumeLemmas
+pub mod RunningLemmas

@@ -1,5 +1,0 @@
-use Rattle.sequence_plans.proofs.BasisLemmas.{valid_rows}
-use Rattle.cluster_metadata.proofs.parts.directory_for.Goals as goal
-
-pub from_valid-requires : goal.from_valid-requires
-from_valid-requires c = rw c.as_slice.ensures (valid_rows _ c.requires)

@@ -1,0 +1,228 @@
+//! Makes a change in an image, in its directory, in the values of its movements in flight and in the table of their
+//! locks. Nothing here allocates memory.
+
+ghost use Rattle.std.specs.Prelude.{◌≡◌, ◌+◌, ◌<◌, ◌≤◌, ◌^◌, ◌-◌, List, length, map, vec_capacity, vec_len};
+ghost use Rattle.std.specs.List.{insert, remove};
+ghost use Rattle.std.specs.List.Sorted.{IsStrictlySortedBy};
+ghost use Rattle.transformations.specs.Orders.{by_node};
+ghost use Rattle.transformations.specs.declared.sequence.Phase.{Phase};
+ghost use Rattle.transformations.specs.declared.sequence.Phase.TheVariants as phase;
+ghost use Rattle.transformations.specs.declared.sequence.SeqRow.{SeqRow as MovementRow};
+ghost use Rattle.cluster_metadata.specs.code.Change.{BringsNothing, FitsNodes, Follows, StandsAt, changed, grown_to, kept_plan, phased, plans_after};
+ghost use Rattle.cluster_metadata.specs.Metadata.{directory_of};
+ghost use Rattle.cluster_metadata.specs.code.Locking.{IsFree, MayLock, locks_after};
+ghost use Rattle.cluster_metadata.specs.code.Change.{plan_lock};
+ghost use Rattle.cluster_metadata.specs.code.MapChanges.{ArePlacementMaps, maps_after};
+ghost use Rattle.cluster_metadata.specs.code.Running.{IsRunning, movement_row, phase_after, plan_of};
+
+use crate::changes::change::Change;
+use crate::changes::next_image::change_image;
+use crate::changes::node_changes::register;
+use crate::maps::map_book::MapBook;
+use crate::maps::map_change::MapChange;
+use crate::movements::running::Running;
+use cluster_terms::{Room, TokenList};
+use locked_ranges::LockTable;
+use node_directory::Directory;
+use placement_deltas::Plan;
+use std::alloc::Global;
+use std::mem::{replace, swap};
+use token_ring::{LockRow, RangeBook};
+use transformations::{Image, SeqRow};
+
+/// Inserts the value of a movement. The vector has room for it.
+fn put(running: &mut Vec<Running>, at: usize, movement: Running)
+    requires place { at ≤ vec_len running.old }
+    requires room { vec_len running.old < vec_capacity running.old }
+    ensures { running.new.items ≡ insert running.old.items at movement }
+{
+    match running.insert(at, movement) {
+        Ok(()) => {}
+        Err(_) => unreachable!(),
+    }
+}
+
+/// Moves the values into `room`, which is empty and has room for one more, and swaps the two vectors.
+fn move_over(running: &mut Vec<Running>, room: &mut Vec<Running>)
+    requires empty { vec_len room.old ≡ 0 }
+    requires room { vec_len running.old + 1 ≤ vec_capacity room.old }
+    ensures items { running.new.items ≡ running.old.items }
+    ensures room { vec_len running.new < vec_capacity running.new }
+    ensures empty { vec_len room.new ≡ 0 }
+{
+    match room.append(running) {
+        Ok(()) => {}
+        Err(_) => unreachable!(),
+    }
+    swap(running, room);
+}
+
+/// The ranges of a plan, for the lock, and the plan without them. Its cuts are dropped too, since nothing needs them
+/// once its movement has begun.
+fn parted(alloc: Global, plan: Plan) -> (RangeBook, Plan)
+    ensures ranges { result.0 ≡ plan.ranges }
+    ensures plan { result.1 ≡ kept_plan plan }
+{
+    let mut plan = plan;
+    plan.cuts = TokenList::empty(alloc);
+    let ranges = replace(&mut plan.ranges, RangeBook::empty(alloc));
+    (ranges, plan)
+}
+
+/// Locks the ranges of a movement that begins, and inserts its value. The lock takes the same place in the table.
+#[tactic(auto, using(crate::proofs::in_flight::RunningLemmas::map_insert))]
+fn begin(
+    sequences: &[SeqRow],
+    running: &mut Vec<Running>,
+    locks: &mut LockTable,
+    room: &mut Vec<Running>,
+    at: usize,
+    plan: Plan,
+    lock: Room<LockRow>,
+)
+    requires running { IsRunning sequences.now running.old.items }
+    requires names { map (λ row. row.node) locks.old ≡ map (λ s. s.node) sequences.now }
+    requires place { at ≤ length sequences.now }
+    requires phase { plan.row.phase ≡ phase.Prepared }
+    requires empty { vec_len room.old ≡ 0 }
+    requires room { length sequences.now + 1 ≤ vec_capacity room.old }
+    requires spare { length sequences.now < lock }
+    requires free { IsFree plan locks.old }
+    ensures running { IsRunning (insert sequences.now at plan.row) running.new.items }
+    ensures plans { map plan_of running.new.items ≡ insert (map plan_of running.old.items) at (kept_plan plan) }
+    ensures locks { locks.new ≡ insert locks.old at (plan_lock plan) }
+    ensures empty { vec_len room.new ≡ 0 }
+{
+    let (ranges, plan) = parted(*running.allocator(), plan);
+    let row = &plan.row;
+    let key = locks.lock_in(at, row.node, ranges, lock);
+    move_over(running, room);
+    put(running, at, Running::begin(plan, key));
+}
+
+/// Takes the value of a movement to the phase after its own.
+fn next_phase_at(running: &mut Vec<Running>, at: usize)
+    requires { at < length running.old.items }
+    ensures running { (rows : List MovementRow) (p : Phase) → IsRunning rows running.old.items → StandsAt rows at p
+        → IsRunning (phased rows at (phase_after p)) running.new.items }
+    ensures plans { map plan_of running.new.items ≡ map plan_of running.old.items }
+{
+    let movement = running.remove(at);
+    put(running, at, movement.next_phase());
+}
+
+/// Removes the value of a movement, and unlocks its ranges.
+fn close_at(running: &mut Vec<Running>, locks: &mut LockTable, at: usize)
+    requires movements { IsStrictlySortedBy by_node (map movement_row running.old.items) }
+    requires names { map (λ row. row.node) locks.old ≡ map (λ s. s.node) (map movement_row running.old.items) }
+    requires place { at < length running.old.items }
+    ensures running { running.new.items ≡ remove running.old.items at }
+    ensures locks { locks.new ≡ remove locks.old at }
+{
+    let key = running.remove(at).close();
+    locks.unlock(key);
+}
+
+/// Changes the placement maps.
+pub fn exchange(maps: &mut MapBook, change: MapChange)
+    requires { ArePlacementMaps (maps_after change maps.old) }
+    ensures { maps.new ≡ maps_after change maps.old }
+{
+    match change {
+        MapChange::Keep => {}
+        MapChange::Anew(next) => *maps = next,
+        MapChange::Arranged(arrangement) => maps.arrange(arrangement),
+        MapChange::Sets(changes) => maps.exchange(changes),
+        MapChange::Rows(edits) => maps.edit(edits),
+    }
+}
+
+/// Makes a change in the directory of an image, in the values of its movements and in the table of their locks. The
+/// change brings neither a node nor a movement.
+#[tactic(auto, using(crate::proofs::in_flight::RunningLemmas::map_remove))]
+fn change_parts(
+    image: &Image,
+    directory: &mut Directory,
+    running: &mut Vec<Running>,
+    locks: &mut LockTable,
+    change: &Change,
+)
+    requires directory { directory.old ≡ directory_of image.now }
+    requires nodes { FitsNodes image.now change.now }
+    requires running { IsRunning image.now.sequences running.old.items }
+    requires follows { Follows image.now.sequences change.now }
+    requires movements { IsStrictlySortedBy by_node image.now.sequences }
+    requires names { map (λ row. row.node) locks.old ≡ map (λ s. s.node) image.now.sequences }
+    requires brings { BringsNothing change.now }
+    ensures directory { directory.new ≡ directory_of (changed image.now change.now) }
+    ensures running { IsRunning (changed image.now change.now).sequences running.new.items }
+    ensures plans { map plan_of running.new.items ≡ plans_after (map plan_of running.old.items) change.now }
+    ensures locks { locks.new ≡ locks_after locks.old change.now }
+{
+    match change {
+        Change::Unregistered { node } => directory.unregister(*node),
+        Change::Started { at } => next_phase_at(running, *at),
+        Change::Mid { at } => next_phase_at(running, *at),
+        Change::BroughtBack { at } => next_phase_at(running, *at),
+        Change::Finished { at, left, .. } => {
+            close_at(running, locks, *at);
+            if let Some(left) = left {
+                directory.mark_left(left.get().row.id);
+            }
+        }
+        Change::Ended { at } => close_at(running, locks, *at),
+        Change::Unchanged | Change::Tokens(_) | Change::Keyspaces(_) => {}
+        Change::Registered(_) | Change::Begun { .. } => unreachable!(),
+    }
+}
+
+/// Makes a change in an image, in its directory, in the values of its movements and in the table of their locks. If a
+/// movement begins, `room` is memory for the values, and `lock` is memory for the table of locks.
+pub fn make(
+    image: &mut Image,
+    directory: &mut Directory,
+    running: &mut Vec<Running>,
+    locks: &mut LockTable,
+    change: Change,
+    mut room: Vec<Running>,
+    lock: Room<LockRow>,
+)
+    requires epochs { image.old.epoch < 2 ^ 64 - 1 }
+    requires directory { directory.old ≡ directory_of image.old }
+    requires nodes { FitsNodes image.old change }
+    requires running { IsRunning image.old.sequences running.old.items }
+    requires follows { Follows image.old.sequences change }
+    requires empty { vec_len room ≡ 0 }
+    requires room { grown_to change ≤ vec_capacity room }
+    requires movements { IsStrictlySortedBy by_node image.old.sequences }
+    requires names { map (λ row. row.node) locks.old ≡ map (λ s. s.node) image.old.sequences }
+    requires lock { grown_to change ≤ lock }
+    requires free { MayLock locks.old change }
+    ensures made { image.new ≡ changed image.old change }
+    ensures directory { directory.new ≡ directory_of image.new }
+    ensures running { IsRunning image.new.sequences running.new.items }
+    ensures plans { map plan_of running.new.items ≡ plans_after (map plan_of running.old.items) change }
+    ensures locks { locks.new ≡ locks_after locks.old change }
+{
+    match change {
+        Change::Registered(node) => {
+            register(image, directory, node);
+            image.epoch += 1;
+        }
+        Change::Begun {
+            at,
+            plan,
+            sequences,
+        } => {
+            let before = image.sequences.as_slice();
+            begin(before, running, locks, &mut room, at, plan.take(), lock);
+            image.sequences = sequences;
+            image.epoch += 1;
+        }
+        change => {
+            change_parts(image, directory, running, locks, &change);
+            change_image(*running.allocator(), image, change);
+        }
+    }
+    room.destroy_empty();
+}

@@ -1,0 +1,305 @@
+ghost use Rattle.std.specs.Prelude.{◌≡◌, ◌++◌, ◌∷◌, ◌<◌, [], true, false, List, None, IfOk, MatchResult, OnOk};
+ghost use Rattle.std.specs.List.{Contains};
+ghost use Rattle.locked_ranges.specs.Table.{has_row, other_locks};
+ghost use Rattle.transformations.specs.Refusals.{with_movement};
+ghost use Rattle.transformations.specs.Rings.{cuts};
+ghost use Rattle.transformations.specs.Valid.{IsSound};
+ghost use Rattle.transformations.specs.declared.sequence.Phase.TheVariants as phase;
+ghost use Rattle.transformations.specs.declared.sequence.SeqRow.{SeqRow as MovementRow};
+ghost use Rattle.sequence_plans.specs.PlanDeltas.{HasDeltas};
+ghost use Rattle.sequence_plans.specs.Plan.{AreLocks, IsLockRow, IsPlan};
+ghost use Rattle.cluster_metadata.specs.ImageFaults.{IsCause};
+ghost use Rattle.cluster_metadata.specs.code.Overlaps.{FindsOverlap, overlap_of, overlapping_at};
+ghost use Rattle.sequence_plans.specs.Locks.{AreLocksOf};
+ghost use Rattle.cluster_metadata.specs.code.Locking.{AddsMovement, AreCutAt, AreLocked, lock_of};
+ghost use Rattle.cluster_metadata.specs.code.Running.{HaveDeltas, IsRunning, phase_after, phase_of, plan_of, movement_row, moving_node};
+ghost use Rattle.cluster_metadata.specs.code.Turns.{undoing};
+ghost use Rattle.cluster_metadata.specs.declared.image_fault.ImageFault.TheVariants as fault;
+
+use crate::image_fault::ImageFault;
+use crate::maps::turn::Turn;
+use crate::movements::stepping::at_phase;
+use cluster_terms::{Memory, NodeId, Steps, TryCopy};
+use locked_ranges::{LockKey, LockTable};
+use node_directory::Directory;
+use placement_deltas::Plan;
+use sequence_core::{Mid, Prepared, Seq, Started};
+use sequence_plans::plan_in;
+use std::alloc::Global;
+use std::marker::Brand;
+use std::sync::ledger::{Blank, Ledger};
+use transformations::{BadImage, Image, Phase, SeqRow};
+
+/// A movement in flight, as a value of its phase. It holds the plan with which the movement was prepared, and the key
+/// to the lock of its ranges.
+pub enum Running {
+    Prepared(Seq<Prepared>),
+    Started(Seq<Started>),
+    Mid(Seq<Mid>),
+}
+
+impl Running {
+    /// The value of a movement from its plan, whose row is at `Prepared`, and the key to the lock of its node.
+    pub fn begin(plan: Plan, key: LockKey) -> Running
+        requires phase { plan.row.phase ≡ phase.Prepared }
+        requires key { key ≡ plan.row.node }
+        ensures plan { plan_of result ≡ plan }
+        ensures phase { phase_of result ≡ phase.Prepared }
+    {
+        Running::Prepared(Seq::begin(plan, key))
+    }
+
+    /// The plan with which the movement was prepared.
+    pub fn plan(&self) -> &Plan
+        ensures { result.now ≡ plan_of self.now }
+    {
+        match self {
+            Running::Prepared(seq) => seq.plan(),
+            Running::Started(seq) => seq.plan(),
+            Running::Mid(seq) => seq.plan(),
+        }
+    }
+
+    /// The turn that undoes the last step of the movement.
+    pub fn undoing(&self) -> Turn
+        ensures { result ≡ undoing (phase_of self.now) }
+    {
+        match self {
+            Running::Prepared(_) => Turn::Keep,
+            Running::Started(_) => Turn::WritesBack,
+            Running::Mid(_) => Turn::ReadsBack,
+        }
+    }
+
+    /// The value of a movement at any phase, from its plan and the key to its lock.
+    pub fn resume(plan: Plan, key: LockKey, at: Phase) -> Running
+        requires phase { plan.row.phase ≡ phase.Prepared }
+        requires key { key ≡ plan.row.node }
+        ensures plan { plan_of result ≡ plan }
+        ensures phase { phase_of result ≡ at }
+    {
+        let begun = Running::begin(plan, key);
+        match at {
+            Phase::Prepared => begun,
+            Phase::Started => begun.next_phase(),
+            Phase::Mid => begun.next_phase().next_phase(),
+        }
+    }
+
+    /// Takes a movement from `Prepared` to `Started`, from `Started` to `Mid`, or from `Mid` back to `Started`.
+    pub fn next_phase(self) -> Running
+        ensures plan { plan_of result ≡ plan_of self }
+        ensures phase { phase_of result ≡ phase_after (phase_of self) }
+    {
+        match self {
+            Running::Prepared(seq) => Running::Started(seq.start()),
+            Running::Started(seq) => Running::Mid(seq.mid()),
+            Running::Mid(seq) => Running::Started(seq.cancel()),
+        }
+    }
+
+    /// Consumes the value of a movement at any phase, and gives back the key to its lock. The image doesn't change.
+    pub fn close(self) -> LockKey
+        ensures { result ≡ moving_node self }
+    {
+        match self {
+            Running::Prepared(seq) => seq.cancel(),
+            Running::Started(seq) => seq.cancel(),
+            Running::Mid(seq) => seq.finish(),
+        }
+    }
+}
+
+/// The plan of a movement. Fails only if memory runs out.
+fn planned<L: Ledger>(
+    alloc: Global,
+    image: &Image,
+    directory: &Directory,
+    row: SeqRow,
+    walks: &mut Steps<L>,
+) -> Result<Plan, Memory>
+    requires prepared { row.phase ≡ phase.Prepared }
+    requires sound { IsSound (with_movement image.now row) }
+    requires nodes { directory.now.rows ≡ image.now.nodes }
+    ensures { IfOk result (IsPlan (with_movement image.now row) row) }
+{
+    match plan_in(alloc, image, directory, row, walks) {
+        Ok(plan) => Ok(plan),
+        Err((_row, memory)) => Err(memory),
+    }
+}
+
+/// The fault of an image whose movement of this node overlaps the movement of a lesser node.
+fn overlapping(node: NodeId) -> ImageFault
+    ensures { result ≡ fault.Bad (overlapping_at node) }
+{
+    ImageFault::Bad(BadImage {
+        rule: 18,
+        value: i128::from(node.0),
+    })
+}
+
+/// Locks the ranges of a movement of an image, and returns its value, with the plan that it has there. The table has
+/// the locks of the movements of lesser nodes. Fails with `Bad` if the ranges share a token with a row of the table,
+/// and with `Memory` if memory runs out. After an error the table is unchanged.
+fn resumed<L: Ledger>(
+    alloc: Global,
+    image: &Image,
+    directory: &Directory,
+    row: &SeqRow,
+    locks: &mut LockTable,
+    walks: &mut Steps<L>,
+) -> Result<Running, ImageFault>
+    requires sound { IsSound image.now }
+    requires nodes { directory.now.rows ≡ image.now.nodes }
+    requires movement { Contains image.now.sequences row.now }
+    requires new { has_row locks.old row.now.node ≡ false }
+    requires cut { AreCutAt (cuts image.now) locks.old }
+    ensures row { IfOk result (λ movement. movement_row movement ≡ row.now) }
+    ensures deltas { IfOk result (λ movement. HasDeltas image.now (plan_of movement)) }
+    ensures locks { MatchResult result (λ movement. locks.new ≡ locks.old ++ lock_of movement ∷ [])
+        (λ _. locks.new ≡ locks.old) }
+    ensures lock { IfOk result (λ movement. IsLockRow image.now row.now (lock_of movement)) }
+    ensures overlap { (earlier : List MovementRow) → AreLocks image.now earlier locks.old
+        → FindsOverlap image.now row.now earlier result }
+{
+    let plan = planned(
+        alloc,
+        image,
+        directory,
+        at_phase(row, Phase::Prepared)?,
+        walks,
+    )?;
+    if !locks.is_free(&plan.ranges, plan.cuts.as_slice()) {
+        return Err(overlapping(row.node));
+    }
+    let ranges = plan.ranges.copy()?;
+    match locks.lock(row.node, ranges) {
+        Ok(key) => Ok(Running::resume(plan, key, row.phase)),
+        Err((_ranges, _memory)) => Err(ImageFault::Memory),
+    }
+}
+
+/// Adds the value of a movement that has a lock. If memory runs out, the values are unchanged, and the lock is removed.
+fn push(running: &mut Vec<Running>, locks: &mut LockTable, movement: Running) -> Result<(), Memory>
+    requires { has_row locks.old (moving_node movement) ≡ true }
+    ensures running { MatchResult result (λ _. running.new.items ≡ running.old.items ++ movement ∷ [])
+        (λ _. running.new.items ≡ running.old.items) }
+    ensures locks { MatchResult result (λ _. locks.new ≡ locks.old)
+        (λ _. locks.new ≡ other_locks locks.old (moving_node movement)) }
+{
+    match running.push(movement) {
+        Ok(()) => Ok(()),
+        Err(failed) => {
+            locks.unlock(failed.value.close());
+            Err(Memory)
+        }
+    }
+}
+
+/// Adds the value of a movement of an image, and its lock. Fails as `resumed` does. After an error both lists are
+/// unchanged.
+fn add<L: Ledger>(
+    alloc: Global,
+    image: &Image,
+    directory: &Directory,
+    row: &SeqRow,
+    running: &mut Vec<Running>,
+    locks: &mut LockTable,
+    walks: &mut Steps<L>,
+) -> Result<(), ImageFault>
+    requires sound { IsSound image.now }
+    requires nodes { directory.now.rows ≡ image.now.nodes }
+    requires movement { Contains image.now.sequences row.now }
+    requires new { has_row locks.old row.now.node ≡ false }
+    requires cut { AreCutAt (cuts image.now) locks.old }
+    ensures added { MatchResult result
+        (λ _. AddsMovement image.now row.now running.old.items running.new.items locks.old locks.new)
+        (λ _. (running.new.items ≡ running.old.items) × (locks.new ≡ locks.old)) }
+    ensures overlap { (earlier : List MovementRow) → AreLocks image.now earlier locks.old
+        → FindsOverlap image.now row.now earlier result }
+{
+    let movement = resumed(alloc, image, directory, row, locks, walks)?;
+    push(running, locks, movement)?;
+    Ok(())
+}
+
+/// Adds the values of the movements of an image, in their order, and their locks. Fails with `Bad` for the first
+/// movement that overlaps the movement of a lesser node, and with `Memory` if memory runs out. After an error some of
+/// the values and locks may be added.
+fn push_all<L: Ledger>(
+    alloc: Global,
+    image: &Image,
+    directory: &Directory,
+    running: &mut Vec<Running>,
+    locks: &mut LockTable,
+    blank: Blank,
+) -> Result<(), ImageFault>
+    requires name { blank.name ≡ L.name }
+    requires parts { blank.parts ≡ L.parts }
+    requires some { 0 < blank.parts }
+    requires sound { IsSound image.now }
+    requires nodes { directory.now.rows ≡ image.now.nodes }
+    requires empty { running.old.items ≡ [] }
+    requires unlocked { locks.old ≡ [] }
+    ensures running { OnOk result (IsRunning image.now.sequences running.new.items) }
+    ensures deltas { OnOk result (HaveDeltas image.now running.new.items) }
+    ensures locks { OnOk result (AreLocksOf image.now image.now.sequences locks.new) }
+    ensures locked { AreLocked locks.new running.new.items }
+    ensures overlap { MatchResult result (λ _. overlap_of image.now ≡ None)
+        (λ e. IsCause (overlap_of image.now) e) }
+{
+    let mut walks = Steps::<L>::begin(blank);
+    for row in image.sequences.as_slice() {
+        add(alloc, image, directory, row, running, locks, &mut walks)?;
+    }
+    Ok(())
+}
+
+/// The values of the movements of an image, in their order, and the table of their locks. The directory has the nodes
+/// of the image. Fails with `Bad` for the first movement that overlaps the movement of a lesser node, and with `Memory`
+/// if memory runs out.
+///
+/// Cost: a plan for each movement, as `sequence_plans::plan_in` makes it, and a comparison of its ranges with the locks
+/// before it. The walks are counted on a counter of their own.
+pub fn resume_all(
+    alloc: Global,
+    image: &Image,
+    directory: &Directory,
+) -> Result<(Vec<Running>, LockTable), ImageFault>
+    requires sound { IsSound image.now }
+    requires nodes { directory.now.rows ≡ image.now.nodes }
+    ensures running { IfOk result (λ held. IsRunning image.now.sequences held.0.items) }
+    ensures deltas { IfOk result (λ held. HaveDeltas image.now held.0.items) }
+    ensures locks { IfOk result (λ held. AreLocksOf image.now image.now.sequences held.1) }
+    ensures locked { IfOk result (λ held. AreLocked held.1 held.0.items) }
+    ensures overlap { MatchResult result (λ _. overlap_of image.now ≡ None)
+        (λ e. IsCause (overlap_of image.now) e) }
+{
+    let mut running = Vec::new(alloc);
+    let mut locks = LockTable::empty(alloc);
+    match push_all::<Brand>(
+        alloc,
+        image,
+        directory,
+        &mut running,
+        &mut locks,
+        Blank::new(1),
+    ) {
+        Ok(()) => Ok((running, locks)),
+        Err(fault) => {
+            close_all(running, locks);
+            Err(fault)
+        }
+    }
+}
+
+/// Consumes the values of all these movements, and spends their keys.
+pub fn close_all(mut running: Vec<Running>, mut locks: LockTable)
+    requires { AreLocked locks running.items }
+{
+    while let Some(movement) = running.pop() {
+        locks.unlock(movement.close());
+    }
+    running.destroy_empty();
+}

@@ -1,0 +1,3 @@
+-- The needs of quorums.
+pub mod QuorumLemmas
+pub mod QuorumRows

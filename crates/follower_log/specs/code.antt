@@ -1,0 +1,2 @@
+-- Of the code: private contracts cite these definitions, and no promise rests on them.
+pub mod WaitingEntries

@@ -1,0 +1,3 @@
+-- The generated script, and what `gen` prints.
+pub mod GeneratedLemmas
+pub mod GeneratedTexts

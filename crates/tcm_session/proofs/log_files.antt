@@ -1,0 +1,10 @@
+-- Files of lines: logs that are taken over, and replays.
+pub mod CutFiles
+pub mod FileLogs
+pub mod GainLemmas
+pub mod LoadLemmas
+pub mod LogLines
+pub mod ReplayLemmas
+pub mod ReplayPrefixes
+pub mod ReplayReports
+pub mod ReplayRuns

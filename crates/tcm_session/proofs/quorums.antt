@@ -1,0 +1,5 @@
+-- The quorums that answers show.
+pub mod AnswerLines
+pub mod PrintedLemmas
+pub mod ShownAnswers
+pub mod ShownLemmas

@@ -1,0 +1,6 @@
+-- Runs: what they print, read and leave, and where faults stop them.
+pub mod LeftLemmas
+pub mod RunCauses
+pub mod RunLemmas
+pub mod RunOutcomes
+pub mod StopLemmas

@@ -1,0 +1,46 @@
+-- The words of `commit` and `replay`, the text that is written after a script was read, and the statuses.
+use Rattle.std.specs.Prelude.{◌≡◌, ℕ, true, false, List, [], Option, None, Some, Result, Ok, Err}
+use Rattle.tcm_session.specs.Lines.{if_any}
+use Rattle.tcm_session.specs.session.Machine.{SessionState, answers}
+use Rattle.tcm_session.specs.Outcome.{is_commit, is_replay, log_file, replayed_files, too_large_text}
+use Rattle.tcm_session.specs.declared.program.Status.{Status}
+use Rattle.tcm_session.specs.declared.scripts.pieces.ReadEnd.{ReadEnd}
+use Rattle.tcm_session.specs.declared.scripts.pieces.ReadEnd.TheVariants as end
+use Rattle.tcm_session.specs.declared.fault.RunFault.{RunFault}
+use Rattle.tcm_session.specs.declared.fault.RunFault.TheVariants as fault
+
+-- at the end of the input a line that has begun is answered; past the limit the text for an input that is too large is
+-- written
+abbrev pub ending_lines : ReadEnd → List ℕ → List (List ℕ)
+ending_lines end.AtEnd begun = if_any begun
+ending_lines end.PastLimit begun = []
+
+abbrev pub ending_text : ReadEnd → SessionState → List ℕ → List ℕ
+ending_text end.AtEnd session begun = answers session (if_any begun)
+ending_text end.PastLimit session begun = too_large_text
+
+abbrev pub ending_status : ReadEnd → ℕ
+ending_status end.AtEnd = 0
+ending_status end.PastLimit = 8
+
+-- the status of a run that a fault ends
+abbrev pub fault_status : RunFault → ℕ
+fault_status fault.Memory = 1
+fault_status fault.Source = 4
+fault_status fault.Sink = 5
+fault_status fault.Store = 6
+
+-- the status of a run that ended with this result
+abbrev pub status_by : Result Status RunFault → ℕ
+status_by (Ok status) = status.0
+status_by (Err fault) = fault_status fault
+
+-- words that are `commit`, alone or with the log file that they name; or other words
+abbrev pub IsCommitOf : List (List ℕ) → Option (Option (List ℕ)) → Type 0
+IsCommitOf words None = is_commit words ≡ false
+IsCommitOf words (Some file) = (is_commit words ≡ true) × (log_file words ≡ file)
+
+-- words that are `replay` with the files that they name; or other words
+abbrev pub IsReplayOf : List (List ℕ) → Option (List (List ℕ)) → Type 0
+IsReplayOf words None = is_replay words ≡ false
+IsReplayOf words (Some names) = (is_replay words ≡ true) × (replayed_files words ≡ names)

@@ -1,0 +1,5 @@
+//! A script is read in pieces, cut into lines, and answered.
+
+pub mod answering;
+pub mod lines;
+pub mod pieces;

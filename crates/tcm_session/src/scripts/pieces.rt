@@ -1,0 +1,124 @@
+//! Reads a script piece by piece.
+
+ghost use Rattle.std.specs.Prelude.{◌≡◌, ◌<◌, length, vec_len, IfOk, IfErr, OnErr};
+ghost use Rattle.std.specs.Io.KnownBytes.{Keeps};
+ghost use Rattle.std.specs.Option.{option_copied};
+ghost use Rattle.tcm_session.specs.Counts.{counts};
+ghost use Rattle.tcm_session.specs.code.RunFaults.{counts_by};
+ghost use Rattle.tcm_session.specs.Outcome.{input_limit};
+ghost use Rattle.tcm_session.specs.code.Runs.{IsBegun, LeavesStore, ReadsOnce, ReadsPast, ReadsTo, StopsAt, standing};
+ghost use Rattle.tcm_session.specs.declared.fault.RunFault.TheVariants as fault;
+
+use crate::fault::RunFault;
+use crate::scripts::answering::feed;
+use crate::session::Session;
+use std::alloc::Global;
+use tcm_edges::{Sink, Source, Store};
+
+/// The most bytes of an input. One more byte is read, to see whether the input is larger.
+const INPUT_LIMIT: usize = 536_870_912;
+
+/// The most bytes of one read.
+const PIECE: usize = 65_536;
+
+/// How the reading of a script ends.
+#[derive(Clone, Copy, Debug, PartialEq, Eq)]
+pub enum ReadEnd {
+    /// The input was read to its end.
+    AtEnd,
+    /// A byte past the limit was read.
+    PastLimit,
+}
+
+/// Reads a piece, answers the lines that end in it, and returns its length: 0 only at the end of the input.
+fn read_piece<S: Source, K: Sink, D: Store>(
+    alloc: Global,
+    session: &mut Session,
+    begun: &mut Vec<u8>,
+    buffer: &mut [u8],
+    log: Option<&str>,
+    input: &mut S,
+    out: &mut K,
+    store: &mut D,
+) -> Result<usize, RunFault>
+    requires buffer { 0 < length buffer.old }
+    requires begun { IsBegun begun.old.items }
+    ensures ok { IfOk result (λ n. ReadsOnce (option_copied log.entry) n (length buffer.old)
+        (S.left input.old) (S.left input.new)
+        (standing session.old begun.old.items (K.written out.old) (D.files store.old))
+        (standing session.new begun.new.items (K.written out.new) (D.files store.new))) }
+    ensures err { IfErr result (λ e. StopsAt (option_copied log.entry) e (length buffer.old)
+        (S.left input.old) (S.left input.new)
+        (standing session.old begun.old.items (K.written out.old) (D.files store.old))
+        (K.written out.new) (D.files store.new)) }
+    ensures cause { counts (S.faults input.new) (K.faults out.new) (D.faults store.new)
+        ≡ counts_by result (counts (S.faults input.old) (K.faults out.old) (D.faults store.old)) }
+    ensures unnamed { LeavesStore (option_copied log.entry) store.old store.new result }
+{
+    let count = input.read(buffer)?;
+    feed(alloc, session, begun, &buffer[..count], log, store, out)?;
+    Ok(count)
+}
+
+/// A buffer of `len` zero bytes.
+fn zeros(alloc: Global, len: usize) -> Result<Vec<u8>, RunFault>
+    ensures len { IfOk result (λ bytes. vec_len bytes ≡ len) }
+    ensures memory { IfErr result (λ e. e ≡ fault.Memory) }
+{
+    let bytes = vec![in alloc; 0u8; len]?;
+    Ok(bytes)
+}
+
+/// Reads one more byte, to see whether the input is larger than the limit.
+fn read_past<S: Source>(input: &mut S) -> Result<ReadEnd, RunFault>
+    ensures ok { IfOk result (λ ending. ReadsPast ending (S.left input.old) (S.left input.new)) }
+    ensures err { OnErr result (Keeps (S.left input.old) (S.left input.new)) }
+    ensures cause { counts (S.faults input.new) 0 0
+        ≡ counts_by result (counts (S.faults input.old) 0 0) }
+{
+    let mut byte = [0u8; 1];
+    match input.read(&mut byte)? {
+        0 => Ok(ReadEnd::AtEnd),
+        _ => Ok(ReadEnd::PastLimit),
+    }
+}
+
+/// Reads a script to its end or up to the limit. Answers each line that a line feed ends before it reads on, and keeps
+/// the rest in `begun`. At a fault, some of the lines that end among the bytes read are done; at a fault of the source,
+/// all of them.
+pub fn read_script<S: Source, K: Sink, D: Store>(
+    alloc: Global,
+    session: &mut Session,
+    begun: &mut Vec<u8>,
+    log: Option<&str>,
+    input: &mut S,
+    out: &mut K,
+    store: &mut D,
+) -> Result<ReadEnd, RunFault>
+    requires begun { IsBegun begun.old.items }
+    ensures ok { IfOk result (λ ending. ReadsTo (option_copied log.entry) ending
+        (S.left input.old) (S.left input.new)
+        (standing session.old begun.old.items (K.written out.old) (D.files store.old))
+        (standing session.new begun.new.items (K.written out.new) (D.files store.new))) }
+    ensures err { IfErr result (λ e. StopsAt (option_copied log.entry) e input_limit
+        (S.left input.old) (S.left input.new)
+        (standing session.old begun.old.items (K.written out.old) (D.files store.old))
+        (K.written out.new) (D.files store.new)) }
+    ensures cause { counts (S.faults input.new) (K.faults out.new) (D.faults store.new)
+        ≡ counts_by result (counts (S.faults input.old) (K.faults out.old) (D.faults store.old)) }
+    ensures unnamed { LeavesStore (option_copied log.entry) store.old store.new result }
+{
+    let mut buffer = zeros(alloc, PIECE)?;
+    let mut taken = 0;
+    while taken < INPUT_LIMIT {
+        let room = PIECE.min(INPUT_LIMIT - taken);
+        let piece = &mut buffer[..room];
+        let count = read_piece(alloc, session, begun, piece, log, input, out, store)?;
+        if count == 0 {
+            return Ok(ReadEnd::AtEnd);
+        }
+        taken += count;
+    }
+    let ending = read_past(input)?;
+    Ok(ending)
+}

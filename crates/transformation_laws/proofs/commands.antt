@@ -1,0 +1,2 @@
+-- Commands that are accepted, and the refusals of others.
+pub mod EarlyRefusals

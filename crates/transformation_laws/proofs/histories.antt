@@ -1,0 +1,2 @@
+-- Histories, and the images that they lead to.
+pub mod HistoryMeetings

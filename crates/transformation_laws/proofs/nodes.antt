@@ -1,0 +1,2 @@
+-- The nodes of a cluster.
+pub mod RegisteredLemmas

@@ -1,0 +1,2 @@
+-- The ranges of movements: which tokens they have, what keeps them, and what is placed by them.
+pub mod LockedLemmas

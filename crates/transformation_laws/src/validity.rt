@@ -1,0 +1,170 @@
+//! Facts about the images that commands lead to.
+
+ghost use Rattle.std.specs.Prelude.{◌≡◌, ◌↔◌, ◌+◌, ◌++◌, ◌<◌, ◌≤◌, ℕ, ℤ, true, false, [], List, Some, None, Ok, IsTrue, length, nat_eq};
+ghost use Rattle.std.specs.List.{All, AllByRecursion, Any, Contains, list_any};
+ghost use Rattle.std.specs.List.Sorted.{IsStrictlySortedBy};
+ghost use Rattle.std.specs.Ordering.{int_cmp, int_eq};
+ghost use Rattle.std.specs.Set.{is_member};
+ghost use Rattle.cluster_terms.specs.Arc.{IsToken};
+ghost use Rattle.cluster_terms.specs.Quorum.{AreSome, Meet, Sets, read_need, write_need};
+ghost use Rattle.cluster_terms.specs.Replication.{total_of};
+ghost use Rattle.cluster_terms.specs.Row.{last_token};
+ghost use Rattle.cluster_terms.specs.declared.replication.Replication.{Replication};
+ghost use Rattle.cluster_terms.specs.declared.token.RightEnd.{RightEnd};
+ghost use Rattle.transformations.specs.CutSteps.{CutsFollow, SameAcross};
+ghost use Rattle.transformations.specs.DeltaSteps.{ChangesByDeltas};
+ghost use Rattle.transformations.specs.MovementDeltas.{KeepsDeltas, LivesOn, RowsStandForDeltas, gained_at, lives_through, lost_at};
+ghost use Rattle.transformations.specs.History.{IsHistory, are_accepted, empty_image, image_after, is_command, most_epochs, next_image};
+ghost use Rattle.transformations.specs.ImageRules.{bad_of, broken_rule};
+ghost use Rattle.transformations.specs.Log.{IsLog, commit_of};
+ghost use Rattle.transformations.specs.Meeting.{HaveReplications, QuorumsExistTogether, QuorumsMeet, ReadsAreWritten, makes_movement_epoch};
+ghost use Rattle.transformations.specs.Ranges.{AreApart, AreOutcomes, ArePlacedByOutcomes, IsLockedBy, KeepsRanges, PlacedByRanges, RowsStandInRanges, first_shared, in_both, in_ranges};
+ghost use Rattle.transformations.specs.Refusals.{IsLockedOf, locked, refusal_of};
+ghost use Rattle.transformations.specs.Rings.{RowsStandForTokens, cuts, reads_at};
+ghost use Rattle.transformations.specs.Movements.{others};
+ghost use Rattle.transformations.specs.Valid.{IsSound, IsValid};
+ghost use Rattle.transformations.specs.declared.command.Command.{Command};
+ghost use Rattle.transformations.specs.declared.entry.Entry.{Entry};
+ghost use Rattle.transformations.specs.declared.image.Image.{Image};
+ghost use Rattle.transformations.specs.declared.refusal.Refusal.TheVariants.{Locked};
+ghost use Rattle.transformations.specs.declared.sequence.SeqRow.{SeqRow};
+
+/// If an image is valid and has an epoch left, a command that it accepts leads to a valid image. So each history leads
+/// to a valid image.
+#[tactic(auto, using(transformations::proofs::histories::ValidLemmas::valid_next, transformations::proofs::histories::HistoryLemmas::valid_after))]
+pub fn histories_are_valid()
+    ensures kept { (image : Image) (c : Command) → IsValid image → IsTrue (is_command c)
+        → refusal_of image c ≡ None → image.epoch < most_epochs → IsValid (next_image image c) }
+    ensures reached { (h : List Command) → IsHistory h → IsValid (image_after empty_image h) }
+{}
+
+/// Each commit leads from a log to a log: its epochs are 1, 2 and so on, no id stands in it twice, and its commands are
+/// a history. An id acts once: a commit with the id of an entry of the log adds nothing, whatever its command is. With
+/// the command of this entry, it is answered with the entry's epoch.
+pub fn ids_act_once()
+    ensures kept { (log : List Entry) (id : ℕ) (c : Command) → IsLog log → IsTrue (is_command c)
+        → IsLog (log ++ (commit_of log id c).added) }
+    ensures once { (log : List Entry) (entry : Entry) (c : Command) → IsLog log → Contains log entry
+        → (commit_of log entry.id c).added ≡ [] }
+    ensures again { (log : List Entry) (entry : Entry) → IsLog log → Contains log entry
+        → (commit_of log entry.id entry.cmd).answer ≡ Ok entry.epoch }
+{}
+
+/// The ranges of movements in each valid image. Under each keyspace, a token is in the ranges of at most one movement.
+/// Whichever movements are done or given up, the placement at a token depends only on the movements that have it in
+/// their ranges. The rings of reads and writes are rings after such outcomes, so the nodes that are read and written
+/// are placements after them. A command that is accepted keeps the ranges of each movement that goes on.
+pub fn movements_are_apart()
+    ensures apart { (image : Image) → IsValid image → AreApart image }
+    ensures placed { (image : Image) → IsValid image → PlacedByRanges image }
+    ensures outcomes { (image : Image) → IsValid image → AreOutcomes image }
+    ensures placements { (image : Image) → IsValid image → ArePlacedByOutcomes image }
+    ensures kept { (image : Image) (c : Command) → IsValid image → IsTrue (is_command c)
+        → refusal_of image c ≡ None → KeepsRanges image (next_image image c) }
+{}
+
+/// The cuts of an image ascend. Under every replication, the same nodes are read at all tokens of a row between cuts,
+/// and the same nodes are written. In a sound image, each movement has all tokens of a row in its ranges, or none.
+pub fn rows_stand_for_tokens()
+    ensures ascend { (image : Image) → IsStrictlySortedBy int_cmp (cuts image) }
+    ensures rows { (image : Image) → RowsStandForTokens image }
+    ensures ranges { (image : Image) → IsSound image → RowsStandInRanges image }
+{}
+
+/// The nodes that a movement gains and loses at a token don't change once it is prepared. If a command is accepted in a
+/// valid image, each movement that goes on keeps its deltas, at each token and under each keyspace. The same holds of a
+/// list of accepted commands, if the movement lives through them and there are epochs left for them.
+///
+/// In a sound image, a movement gains and loses nothing at tokens outside its ranges. In every image, the placement
+/// without a movement and the placement with it are the same at all tokens of a row between cuts.
+pub fn deltas_persist()
+    ensures step { (image : Image) (c : Command) → IsValid image → IsTrue (is_command c)
+        → refusal_of image c ≡ None → KeepsDeltas image (next_image image c) }
+    ensures kept { (image : Image) (s : SeqRow) (commands : List Command) → IsValid image
+        → Contains image.sequences s → IsTrue (are_accepted image commands)
+        → image.epoch + length commands ≤ most_epochs → IsTrue (lives_through image s.node commands)
+        → LivesOn image (image_after image commands) s }
+    ensures outside { (image : Image) (r : Replication) (s : SeqRow) (x : ℤ) → IsSound image
+        → Contains image.sequences s → in_ranges image r s x ≡ false
+        → (gained_at image r s x ≡ []) × (lost_at image r s x ≡ []) }
+    ensures rows { (image : Image) → RowsStandForDeltas image }
+{}
+
+/// The deltas of movements act. If a command makes a movement epoch and is accepted in a valid image, it changes the
+/// nodes that are read and the nodes that are written by the deltas of its movement, at each token and under each
+/// keyspace. A start adds the nodes gained to the writes. The step half way adds them to the reads, and removes the
+/// nodes lost from the reads. A finish removes the nodes lost from the writes. A cancel undoes the last step, if one
+/// was taken. No other such command changes what is read or written.
+pub fn deltas_act()
+    ensures acts { (image : Image) (c : Command) → IsValid image → IsTrue (is_command c)
+        → refusal_of image c ≡ None → makes_movement_epoch c ≡ true → ChangesByDeltas image c }
+{}
+
+/// How the cuts change if a command makes a movement epoch and is accepted in a sound image. A prepare adds the tokens
+/// that its movement puts in. A finish adds no cut, and removes only cuts at tokens of its movement. A cancel at
+/// PREPARED or STARTED does the same. No other such command changes the cuts.
+///
+/// In every image, the reads and the writes at a token that is no cut are those at the token after it.
+pub fn cuts_follow_movements()
+    ensures follow { (image : Image) (c : Command) → IsSound image → IsTrue (is_command c)
+        → refusal_of image c ≡ None → makes_movement_epoch c ≡ true → CutsFollow image c }
+    ensures across { (image : Image) (r : Replication) (t : ℤ) → is_member int_eq (cuts image) t ≡ false
+        → SameAcross image r t }
+{}
+
+/// The quorums of QUORUM, and of LOCAL_QUORUM in each datacenter, in each valid image, at each token and under each
+/// keyspace. Each node that is read is written, no more nodes are read than replicas are asked for, and a write quorum
+/// exists if and only if a read quorum does.
+///
+/// The quorums of one image meet: each write quorum shares a replica with each read quorum. If a command makes a
+/// movement epoch and there is an epoch left, the quorums of the images before and after it meet too, both ways. For
+/// both, the keyspaces must have replications. In each image that `Metadata` holds, they do.
+pub fn adjacent_epochs_meet()
+    ensures within { (image : Image) → IsValid image → ReadsAreWritten image }
+    ensures few { (image : Image) → IsValid image → (x : ℤ) → IsToken x
+        → AllByRecursion
+        (λ k. length (reads_at image k.replication x) ≤ total_of k.replication) image.keyspaces }
+    ensures needs { (image : Image) → IsValid image → QuorumsExistTogether image }
+    ensures itself { (image : Image) → IsValid image → HaveReplications image → QuorumsMeet image image }
+    ensures adjacent { (image : Image) (c : Command) → IsValid image → HaveReplications image
+        → IsTrue (is_command c) → refusal_of image c ≡ None → makes_movement_epoch c ≡ true
+        → image.epoch < most_epochs → QuorumsMeet image (next_image image c) }
+    ensures common { (one other : Sets) (written read : List ℕ) → Meet one other
+        → AreSome (write_need one) one.writes written → AreSome (read_need other) other.reads read
+        → IsTrue (list_any (is_member nat_eq written) read) }
+{}
+
+/// The meaning of locked ranges. If `first_shared` finds no row between cuts for two movements, they share no token. If
+/// it finds a row, the last token of the row is in the ranges of both.
+///
+/// So a movement that isn't locked overlaps no other movement. A movement that is locked overlaps the movement whose
+/// node is shown, at the last token of the row whose right end is shown. No movement of a lesser node overlaps it, and
+/// no earlier row between cuts is in the ranges of both. If a command is refused as LOCKED, this holds for the movement
+/// that it prepares.
+pub fn locked_ranges_overlap()
+    ensures none_shared { (image : Image) (s q : SeqRow) → IsSound image → Contains image.sequences s
+        → Contains image.sequences q → first_shared image s q ≡ None → (x : ℤ) → IsToken x
+        → in_both image s q x ≡ false }
+    ensures shared { (image : Image) (s q : SeqRow) (right : RightEnd) → first_shared image s q ≡ Some right
+        → in_both image s q (last_token right) ≡ true }
+    ensures free { (image : Image) (s : SeqRow) → IsSound image → Contains image.sequences s
+        → locked image s ≡ None → (x : ℤ) → IsToken x
+        → All (λ q. in_both image s q x ≡ false) (others image.sequences s.node) }
+    ensures taken { (image : Image) (s : SeqRow) (n : ℕ) (right : RightEnd)
+        → locked image s ≡ Some (Locked n right)
+        → Any (λ q. (q.node ≡ n) × (in_both image s q (last_token right) ≡ true))
+        (others image.sequences s.node) }
+    ensures least { (image : Image) (s : SeqRow) (n : ℕ) (right : RightEnd) → IsSound image
+        → Contains image.sequences s
+        → locked image s ≡ Some (Locked n right) → IsLockedBy image s n right }
+    ensures refused { (image : Image) (c : Command) (n : ℕ) (right : RightEnd) → IsSound image
+        → IsTrue (is_command c)
+        → refusal_of image c ≡ Some (Locked n right) → IsLockedOf image c n right }
+{}
+
+/// An image is sound if and only if it breaks none of the rules but the last one, and valid if and only if it breaks
+/// none of the rules.
+pub fn valid_images_break_no_rule()
+    ensures sound { (image : Image) → IsSound image ↔ broken_rule image ≡ None }
+    ensures valid { (image : Image) → IsValid image ↔ bad_of image ≡ None }
+{}

@@ -1,0 +1,7 @@
+-- Lines of entries: read and written.
+pub mod EntriesReadBack
+pub mod EntryCommands
+pub mod EntryEpochs
+pub mod EntryFloats
+pub mod EntryParts
+pub mod EntryTokens

@@ -1,6 +1,0 @@
-use Rattle.std.proofs.Common.{◌≡◌, ◌-◌, drop}
-use Rattle.transformations.specs.History.{ascend}
-use Rattle.wire_json.proofs.tokens.ascend.Given as goal
-
-abbrev pub invariant-loop-at : goal.invariant-loop-at
-invariant-loop-at l = ascend l.tokens ≡ ascend (drop (l.at - 1) l.tokens)

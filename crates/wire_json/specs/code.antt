@@ -1,0 +1,4 @@
+-- Of the code: private contracts cite these definitions, and no promise rests on them.
+pub mod NodeCommands
+pub mod ObjectMembers
+pub mod ReadResults

@@ -1,0 +1,9 @@
+-- Commands with a node alone.
+use Rattle.std.specs.Prelude.{ℕ, List, find, Option, option_map}
+use Rattle.std.specs.Str.{bytes_eq}
+use Rattle.transformations.specs.declared.command.Command.{Command}
+use Rattle.wire_json.specs.Kinds.{node_commands}
+
+-- the command with this word and this node, if its only argument is a node
+abbrev pub command_on : List ℕ → ℕ → Option Command
+command_on word node = option_map (λ row. row.1 node) (find (λ row. bytes_eq word row.0) node_commands)
