@@ -294,6 +294,29 @@ const STATES: [Replayed; 15] = [
     ),
 ];
 
+/// Replays of one file: the name of the run, that of the file, what it holds, the status, and what is printed.
+const ALONE: [(&str, &str, File, u8, &str); 3] = [
+    (
+        "replay-cut-line",
+        "x",
+        Some("12|c"),
+        0,
+        "REPLAY 2 at 2 waiting 0 full 0\n\
+            NODES 2 1 0\n\
+            1 a dc1 r1 JOINED 0\n",
+    ),
+    (
+        "fork-and-gap",
+        "x",
+        Some("13r"),
+        3,
+        "REFUSED 1 3 FORK 3\n\
+            {\"command\":{\"kind\":\"keyspace\",\"name\":\"ks\",\"replication\":\"simple 1\"},\"entry\":3,\"epoch\":3}\n\
+            {\"command\":{\"kind\":\"keyspace\",\"name\":\"ks\",\"replication\":\"simple 2\"},\"entry\":3,\"epoch\":3}\n",
+    ),
+    ("unknown-things", "nofile", None, 7, "NO FILE nofile\n"),
+];
+
 /// The words of a run over the files `x` and `y`.
 const WORDS: [&str; 3] = ["replay", "x", "y"];
 
@@ -318,6 +341,18 @@ fn replays<A: Abort>(rt: &A, alloc: Global, rows: &[Replayed]) -> Result<(), Fai
         is_shown(rt, alloc, name, &WORDS, &mut store, (status, text.as_str()))?;
         assert!(rt; holds(alloc, &store, first)?, "{name}");
         assert!(rt; holds_second(alloc, &store, second)?, "{name}");
+    }
+    Ok(())
+}
+
+/// Replays each file alone. It is unchanged.
+fn replays_alone<A: Abort>(rt: &A, alloc: Global) -> Result<(), Fail> {
+    for row in &ALONE {
+        let (name, named, file, status, text) = *row;
+        let mut store = sure_store_of(alloc, file)?;
+        let words = ["replay", named];
+        is_shown(rt, alloc, name, &words, &mut store, (status, text))?;
+        assert!(rt; holds(alloc, &store, file)?, "{name}");
     }
     Ok(())
 }
@@ -388,6 +423,11 @@ fn files_are_replayed(rt: HostRuntime) -> Result<(), Fail> {
     replays(&rt, rt.alloc(), &STATES)?;
     fills(&rt, rt.alloc())?;
     limits_files(&rt, rt.alloc())
+}
+
+#[test]
+fn single_files_are_replayed(rt: HostRuntime) -> Result<(), Fail> {
+    replays_alone(&rt, rt.alloc())
 }
 
 /// A store that fails at its second load ends a replay of two files, and nothing is printed.

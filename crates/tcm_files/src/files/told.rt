@@ -78,6 +78,12 @@ const STATE_65536: &str =
 const NO_STATE: &str =
     r#"{"snapshot":{"epoch":1,"keyspaces":[],"next":3,"nodes":[],"sequences":[],"tokens":[]}}"#;
 
+/// The first twenty bytes of the third entry, and another entry of its epoch.
+const CUT_3: &str = r#"{"command":{"kind":""#;
+
+const OTHER_3: &str =
+    r#"{"command":{"kind":"keyspace","name":"ks","replication":"simple 2"},"entry":3,"epoch":3}"#;
+
 /// The first bytes of a line.
 const FRONT: &str = "{\"comman";
 
@@ -102,6 +108,8 @@ fn line_of(letter: u8) -> &'static [u8] {
         b's' => SPELT_1.as_bytes(),
         b'p' => SPELT_2.as_bytes(),
         b'f' => FRONT.as_bytes(),
+        b'c' => CUT_3.as_bytes(),
+        b'r' => OTHER_3.as_bytes(),
         b'O' => STATE_0.as_bytes(),
         b'A' => STATE_2.as_bytes(),
         b'K' => STATE_3.as_bytes(),
