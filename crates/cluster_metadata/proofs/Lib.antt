@@ -4,4 +4,4 @@ pub mod RuleLemmas
 pub mod accepted
 pub mod in_flight
 pub mod locks
-pub mod placement_maps
+pub mod map_changes

@@ -18,8 +18,8 @@ use Rattle.transformations.specs.declared.sequence.SeqRow.{SeqRow}
 use Rattle.transformations.specs.declared.keyspace.KeyspaceRow.{KeyspaceRow}
 use Rattle.cluster_metadata.specs.Metadata.{directory_of}
 use Rattle.cluster_metadata.specs.code.MetadataParts.{DiffersInNumbers, IsMetadata}
-use Rattle.cluster_metadata.specs.Maps.{placement_rows}
-use Rattle.cluster_metadata.specs.code.ShownMaps.{IsMapOf}
+use Rattle.placement_maps.specs.Maps.{placement_rows}
+use Rattle.placement_maps.specs.code.ShownMaps.{IsMapOf}
 use Rattle.cluster_metadata.specs.code.Running.{HaveDeltas, IsRunning}
 use Rattle.cluster_metadata.specs.declared.movements.running.Running.{Running}
 

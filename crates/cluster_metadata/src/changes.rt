@@ -5,6 +5,7 @@ pub mod command_change;
 pub mod enact;
 pub mod keyspaces;
 pub mod left_row;
+pub mod maps_after;
 pub mod new_node;
 pub mod next_image;
 pub mod node_changes;

@@ -6,7 +6,6 @@ mod applying;
 mod changes;
 mod image_fault;
 mod image_numbers;
-mod maps;
 mod metadata;
 mod metadata_parts;
 mod movements;

@@ -17,19 +17,17 @@ ghost use Rattle.cluster_metadata.specs.CutDeltas.{ActsByDelta, CutsMove, Deltas
 ghost use Rattle.cluster_metadata.specs.code.MetadataParts.{DiffersInNumbers};
 ghost use Rattle.cluster_metadata.specs.ImageFaults.{IsCause};
 ghost use Rattle.sequence_plans.specs.Locks.{AreLocksOf};
-ghost use Rattle.cluster_metadata.specs.Maps.{placement_rows};
-ghost use Rattle.cluster_metadata.specs.Served as spec;
+ghost use Rattle.placement_maps.specs.Maps.{placement_rows};
+ghost use Rattle.placement_maps.specs.Served as spec;
 
 use crate::admit_fault::AdmitFault;
 use crate::changes::command_change::change_of;
 use crate::changes::enact::{exchange, make};
 use crate::changes::keyspaces::keyspace_of;
+use crate::changes::maps_after::maps_for;
 use crate::changes::next_image::empty_image;
 use crate::image_fault::ImageFault;
 use crate::image_numbers::differs_in_numbers;
-use crate::maps::image_map::find_map;
-use crate::maps::map_book::MapBook;
-use crate::maps::maps_after::maps_for;
 use crate::metadata_parts::parts_of;
 use crate::movements::running::{Running, close_all};
 use crate::permit::{Permit, first_refusal, grown_to, room_for};
@@ -37,6 +35,7 @@ use cluster_terms::{Memory, Name, Replication, Room, Steps, Token, TryCopy};
 use locked_ranges::LockTable;
 use node_directory::Directory;
 use node_sets::NodeSet;
+use placement_maps::{MapBook, find_map};
 use range_placements::PlacementMap;
 use std::alloc::Global;
 use std::marker::Model;
@@ -48,8 +47,8 @@ use transformations::{Command, Image, KeyspaceRow};
 /// The metadata of a cluster: a valid image, and the movements in flight, each as a value of its phase. Contracts see
 /// it as the image.
 ///
-/// Each movement in flight keeps the plan with which it was prepared. The deltas of the plan are exact in the image as
-/// it is: at each token, under each keyspace, they are the nodes that the movement gains and loses.
+/// Each movement in flight keeps the row and the deltas of the plan with which it was prepared. The deltas are exact in
+/// the image as it is: at each token, under each keyspace, they are the nodes that the movement gains and loses.
 ///
 /// Under each keyspace, a token is in the ranges of at most one movement. The ranges are CEP-21's locked ranges, by a
 /// rule of this project: the tokens whose replicas the movement may change, whatever happens to the other movements.

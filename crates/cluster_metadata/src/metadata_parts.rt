@@ -8,15 +8,14 @@ ghost use Rattle.transformations.specs.Valid.{IsSound, IsValid};
 ghost use Rattle.cluster_metadata.specs.Metadata.{directory_of};
 ghost use Rattle.cluster_metadata.specs.code.MetadataParts.{IsMetadata};
 ghost use Rattle.cluster_metadata.specs.ImageFaults.{IsCause};
-ghost use Rattle.cluster_metadata.specs.code.ShownMaps.{AreMaps};
+ghost use Rattle.placement_maps.specs.code.ShownMaps.{AreMaps};
 
 use crate::image_fault::ImageFault;
-use crate::maps::keyspace_maps::maps_of;
-use crate::maps::map_book::MapBook;
 use crate::movements::running::{Running, close_all, resume_all};
 use cluster_terms::Memory;
 use locked_ranges::LockTable;
 use node_directory::Directory;
+use placement_maps::{MapBook, maps_of};
 use std::alloc::Global;
 use transformations::{Image, KeyspaceRow, bad_image};
 

@@ -4,10 +4,10 @@ ghost use Rattle.transformations.specs.Valid.{IsSound};
 ghost use Rattle.cluster_metadata.specs.code.Change.{grown_to};
 
 use crate::changes::change::Change;
-use crate::maps::map_change::MapChange;
 use crate::movements::running::Running;
 use cluster_terms::{Memory, Room};
 use node_directory::Directory;
+use placement_maps::MapChange;
 use std::alloc::Global;
 use std::marker::Model;
 use std::snapshot::Snapshot;
@@ -66,7 +66,7 @@ pub struct Permit {
 impl Model for Permit {
     ghost use Rattle.std.specs.Prelude.{◌≡◌, ◌≤◌, vec_capacity, vec_len};
     ghost use Rattle.cluster_metadata.specs.code.Change.{grown_to};
-    ghost use Rattle.cluster_metadata.specs.code.MapChanges.{BringsMaps};
+    ghost use Rattle.cluster_metadata.specs.code.MapSteps.{BringsMaps};
     ghost use Rattle.cluster_metadata.specs.Permission.{Permission};
     ghost use Rattle.cluster_metadata.specs.code.PermitParts.{IsPermitted};
 

@@ -1,5 +1,4 @@
 -- Tallies of the nodes and the racks met so far, up to the numbers asked for.
--- Of the code: the contracts of `Tally` and `has_rack` cite some of these, and no other promise rests on them.
 use Rattle.std.specs.Prelude.{ℕ, Bool, not, ◌&&◌, ◌||◌, if◌then◌else◌, List, [], ◌∷◌, ◌++◌, length, map, nat_eq, nat_lt, Option, Some, None}
 use Rattle.std.specs.Borrow.{Bor}
 use Rattle.std.specs.Set.{is_member}

@@ -1,7 +1,8 @@
 pub mod ChangesLemmas
-mod DeltaExamples
 pub mod DeltaLemmas
 pub mod JoinedDeltas
+pub mod ReplicationsLemmas
 pub mod ShownChanges
-mod SideDeltas
 pub mod SoFar
+mod DeltaExamples
+mod SideDeltas

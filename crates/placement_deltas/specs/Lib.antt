@@ -1,2 +1,4 @@
 pub mod Deltas
+pub mod ExactDeltas
+pub mod Replications
 pub mod code

@@ -8,6 +8,7 @@ pub mod delta_book;
 pub mod delta_row;
 mod joined_rows;
 pub mod plan;
+mod replications;
 pub mod side;
 pub mod unchanged;
 
@@ -16,5 +17,6 @@ pub use delta::Delta;
 pub use delta_book::{DeltaBook, DeltaBookRow};
 pub use delta_row::{DeltaRow, DeltaRows};
 pub use plan::Plan;
+pub use replications::{Replications, replications_of};
 pub use side::Side;
 pub use unchanged::Unchanged;

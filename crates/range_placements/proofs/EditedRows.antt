@@ -3,7 +3,8 @@ use Rattle.std.proofs.Common.{◌≡◌, ℕ, zero, suc, ◌+◌, ◌-◌, ◌�
 use Rattle.std.specs.Prelude.{Option, Some, None}
 use Rattle.std.proofs.Math.Seq.{take-add}
 use Rattle.std.proofs.lemmas.List.{append-nil, drop-drop}
-use Rattle.range_placements.specs.Editing.{edited_rows, row_count, rows_added, rows_made, rows_passed, with_first}
+use Rattle.range_placements.specs.Editing.{edited_rows, rows_passed, with_first}
+use Rattle.range_placements.specs.code.EditCounts.{row_count, rows_added, rows_made}
 use Rattle.range_placements.specs.declared.placement_row.PlacementRow.{PlacementRow}
 use Rattle.range_placements.specs.declared.row_edits.RowEdit.{RowEdit}
 

@@ -4,7 +4,8 @@ use Rattle.std.proofs.Common.{◌≡◌, ℕ, ◌+◌, ◌-◌, ◌≤◌, List,
 use Rattle.std.proofs.Math.ListN.{drop_of_length-le}
 use Rattle.std.proofs.lemmas.List.{append-nil, drop-drop, drop-take, length-drop, length-take, take-take, take_all}
 use Rattle.range_placements.proofs.EditedRows.{first_append, one_adds, one_edited, one_passes}
-use Rattle.range_placements.specs.Editing.{edited_rows, row_count, rows_added, rows_passed, with_first}
+use Rattle.range_placements.specs.Editing.{edited_rows, rows_passed, with_first}
+use Rattle.range_placements.specs.code.EditCounts.{row_count, rows_added}
 use Rattle.range_placements.specs.code.InPlace.{LeadsTo}
 use Rattle.range_placements.specs.declared.placement_row.PlacementRow.{PlacementRow}
 use Rattle.range_placements.specs.declared.row_edits.RowEdit.{RowEdit}

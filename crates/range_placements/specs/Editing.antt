@@ -1,7 +1,5 @@
 -- The rows of a map after rows are put in and removed.
--- The contracts of `RowEdits` and `PlacementMap::edit` cite `edited` and `all_passed`. Of the code: no promise rests on
--- `rows_made` and `rows_added`.
-use Rattle.std.specs.Prelude.{ℕ, ◌+◌, ◌-◌, List, [], ◌∷◌, ◌++◌, take, drop, Option, Some, None}
+use Rattle.std.specs.Prelude.{ℕ, ◌+◌, List, [], ◌∷◌, ◌++◌, take, drop, Option, Some, None}
 use Rattle.range_placements.specs.declared.placement_row.PlacementRow.{PlacementRow}
 use Rattle.range_placements.specs.declared.row_edits.RowEdit.{RowEdit}
 
@@ -23,23 +21,10 @@ edited_rows (edit ∷ edits) last rows = take edit.keep rows ++ with_first edit.
 abbrev pub edited : Edits → List PlacementRow → List PlacementRow
 edited edits rows = edited_rows edits.edits edits.keep rows
 
--- how many rows edits have kept or removed, and how many there are at most after them
+-- how many rows edits have kept or removed
 abbrev pub rows_passed : List RowEdit → ℕ → ℕ
 rows_passed [] last = last
 rows_passed (edit ∷ edits) last = edit.keep + (edit.skip + rows_passed edits last)
 
 abbrev pub all_passed : Edits → ℕ
 all_passed edits = rows_passed edits.edits edits.keep
-
-abbrev pub row_count : Option PlacementRow → ℕ
-row_count None = 0
-row_count (Some row) = 1
-
-abbrev pub rows_made : List RowEdit → ℕ → ℕ
-rows_made [] last = last
-rows_made (edit ∷ edits) last = edit.keep + (row_count edit.row + rows_made edits last)
-
--- how many rows edits put in where they remove none
-abbrev pub rows_added : List RowEdit → ℕ
-rows_added [] = 0
-rows_added (edit ∷ edits) = (row_count edit.row - edit.skip) + rows_added edits

@@ -1,7 +1,8 @@
 //! Edits of the rows of a placement map within the memory of the rows. They are made from the last to the first.
 
 ghost use Rattle.std.specs.Prelude.{◌≡◌, ◌+◌, ◌-◌, ◌≤◌, ◌++◌, length, take, drop, vec_capacity, vec_len};
-ghost use Rattle.range_placements.specs.Editing.{edited_rows, row_count, rows_added, rows_passed, with_first};
+ghost use Rattle.range_placements.specs.Editing.{edited_rows, rows_passed, with_first};
+ghost use Rattle.range_placements.specs.code.EditCounts.{row_count, rows_added};
 
 use crate::placement_row::{PlacementRow, PlacementRows, put_row};
 use crate::row_edits::RowEdit;

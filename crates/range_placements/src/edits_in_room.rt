@@ -3,6 +3,7 @@
 ghost use Rattle.std.specs.Prelude.{◌≡◌, ◌+◌, ◌<◌, ◌≤◌, ◌∷◌, ◌++◌, [], take, drop, MatchOption, List, ℕ, vec_capacity, vec_len};
 ghost use Rattle.std.specs.Vec.Iter.{into_iter_items};
 ghost use Rattle.range_placements.specs.Editing as spec;
+ghost use Rattle.range_placements.specs.code.EditCounts as code;
 
 use crate::placement_row::{PlacementRow, PlacementRows, put_row};
 use crate::row_edits::RowEdit;
@@ -43,11 +44,11 @@ fn skip_rows(left: &mut IntoIter<PlacementRow>, count: usize)
 
 /// Makes an edit in the rows that are left. There is room for the rows that it keeps and puts in.
 fn make_edit(left: &mut IntoIter<PlacementRow>, rows: &mut PlacementRows, edit: RowEdit)
-    requires { vec_len rows.old + spec.rows_made (edit ∷ []) 0 ≤ vec_capacity rows.old }
+    requires { vec_len rows.old + code.rows_made (edit ∷ []) 0 ≤ vec_capacity rows.old }
     ensures rows { (edits : List RowEdit) (last : ℕ)
         → rows.new.items ++ spec.edited_rows edits last (into_iter_items left.new)
         ≡ rows.old.items ++ spec.edited_rows (edit ∷ edits) last (into_iter_items left.old) }
-    ensures count { vec_len rows.new ≤ vec_len rows.old + spec.rows_made (edit ∷ []) 0 }
+    ensures count { vec_len rows.new ≤ vec_len rows.old + code.rows_made (edit ∷ []) 0 }
     ensures room { vec_capacity rows.old ≤ vec_capacity rows.new }
 {
     let RowEdit { keep, skip, row } = edit;
@@ -67,7 +68,7 @@ pub fn edit_into(
     keep: usize,
 )
     requires empty { vec_len room ≡ 0 }
-    requires room { spec.rows_made edits.items keep ≤ vec_capacity room }
+    requires room { code.rows_made edits.items keep ≤ vec_capacity room }
     ensures { rows.new.items ≡ spec.edited_rows edits.items keep rows.old.items }
 {
     swap(rows, &mut room);

@@ -35,7 +35,8 @@ pub struct RowEdits {
 
 impl Model for RowEdits {
     ghost use Rattle.std.specs.Prelude.{◌≡◌, ◌≤◌, vec_capacity, vec_len};
-    ghost use Rattle.range_placements.specs.Editing.{Edits, rows_added, rows_made, rows_passed};
+    ghost use Rattle.range_placements.specs.Editing.{Edits, rows_passed};
+    ghost use Rattle.range_placements.specs.code.EditCounts.{rows_added, rows_made};
 
     ghost Value = { Edits };
 

@@ -18,8 +18,9 @@ use Rattle.transformations.specs.declared.keyspace.KeyspaceRow.{KeyspaceRow}
 use Rattle.transformations.specs.declared.sequence.SeqRow.{SeqRow}
 use Rattle.sequence_plans.proofs.BookLemmas.{own_put}
 use Rattle.sequence_plans.specs.code.DeltaParts.{AreExact}
-use Rattle.sequence_plans.specs.PlanDeltas.{AreDeltas, AreStepDeltas, IsExact, gained_by, lost_by, no_nodes}
-use Rattle.sequence_plans.specs.Replications.{replications_of}
+use Rattle.placement_deltas.specs.ExactDeltas.{AreDeltas, IsExact, gained_by, lost_by, no_nodes}
+use Rattle.sequence_plans.specs.PlanDeltas.{AreStepDeltas}
+use Rattle.placement_deltas.specs.Replications.{replications_of}
 use Rattle.sequence_plans.specs.declared.plan_deltas.Deltas.{Deltas}
 
 -- a movement is among those that it is put among

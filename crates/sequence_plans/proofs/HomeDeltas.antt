@@ -20,7 +20,7 @@ use Rattle.transformations.specs.Ranges.{moved_by}
 use Rattle.transformations.specs.Rings.{low_ring, replaced}
 use Rattle.transformations.specs.declared.image.Image.{Image}
 use Rattle.transformations.specs.declared.sequence.SeqRow.{SeqRow}
-use Rattle.sequence_plans.specs.Placers.{at_homes}
+use Rattle.replica_placer.specs.Placers.{at_homes}
 
 -- ---- pairs outside a group come and go
 

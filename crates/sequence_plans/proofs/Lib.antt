@@ -6,6 +6,5 @@ pub mod NearCutSearch
 pub mod NearRows
 pub mod PersistLemmas
 pub mod PlacerLemmas
-pub mod ReplicationsLemmas
 pub mod RowChangeLemmas
 pub mod RowDeltas

@@ -16,7 +16,7 @@ use Rattle.transformations.specs.declared.keyspace.KeyspaceRow.{KeyspaceRow}
 use Rattle.transformations.specs.declared.sequence.SeqRow.{SeqRow}
 use Rattle.sequence_plans.proofs.DeltaBookLemmas.{at_each_token, own_contained, steps_like}
 use Rattle.sequence_plans.specs.PlanDeltas.{AreStepDeltas, HasDeltas, StaysExact}
-use Rattle.sequence_plans.specs.Replications.{replications_of}
+use Rattle.placement_deltas.specs.Replications.{replications_of}
 
 -- what a later movement with the same pairs gains and loses is what these pairs do
 same_own : (before after : Image) (r : Replication) (x : ℤ) (s q : SeqRow) → MovesSame s q → SameDeltas before after r x s q → SameDeltas before after r x s s

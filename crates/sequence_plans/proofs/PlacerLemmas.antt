@@ -11,8 +11,8 @@ use Rattle.transformations.specs.MovementDeltas.{placed_before, placed_with}
 use Rattle.transformations.specs.Rings.{low_ring, replaced}
 use Rattle.transformations.specs.declared.image.Image.{Image}
 use Rattle.transformations.specs.declared.sequence.SeqRow.{SeqRow}
-use Rattle.sequence_plans.specs.Placers.{PlacesOn, placed_by}
-use Rattle.sequence_plans.specs.declared.placer.Placer.{Placer}
+use Rattle.replica_placer.specs.Placers.{PlacesOn, placed_by}
+use Rattle.replica_placer.specs.declared.placer.Placer.{Placer}
 
 module _ (image : Image) (nodes : List NodeRow) (r : Replication) (placer : Placer) (made : List Pair) (is : nodes ≡ image.nodes) (on : PlacesOn made nodes r placer) where
   on_ring : (ring : List Pair) → IsPermutation ring made → (x : ℤ) → placed_by placer x ≡ place (groups_of image.nodes r) x ring

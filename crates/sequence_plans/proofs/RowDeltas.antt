@@ -31,10 +31,10 @@ use Rattle.transformations.specs.declared.sequence.SeqRow.{SeqRow}
 use Rattle.sequence_plans.proofs.HomeDeltas.{gained_at_homes, lost_at_homes}
 use Rattle.sequence_plans.proofs.NearCutSearch.{near_ascend}
 use Rattle.sequence_plans.proofs.NearRows.{IsNearRow, near_rows}
-use Rattle.sequence_plans.specs.PlanDeltas.{IsExact, gained_by, lost_by}
+use Rattle.placement_deltas.specs.ExactDeltas.{IsExact, gained_by, lost_by}
 use Rattle.sequence_plans.specs.code.MovementRings.{PlacesMovement}
 use Rattle.sequence_plans.specs.code.NearCuts.{near_cuts}
-use Rattle.sequence_plans.specs.Placers.{at_homes, placed_by}
+use Rattle.replica_placer.specs.Placers.{at_homes, placed_by}
 use Rattle.sequence_plans.specs.code.RowChanges.{change_at}
 use Rattle.sequence_plans.specs.declared.movement_rings.MovementPlacers.{MovementPlacers}
 

@@ -12,7 +12,7 @@ use Rattle.transformations.specs.declared.image.Image.{Image}
 use Rattle.transformations.specs.declared.sequence.SeqRow.{SeqRow}
 use Rattle.placement_deltas.specs.declared.plan.Plan.{Plan}
 use Rattle.sequence_plans.specs.PlanDeltas.{HasDeltas}
-use Rattle.sequence_plans.specs.Replications.{replications_of}
+use Rattle.placement_deltas.specs.Replications.{replications_of}
 
 -- the ranges of a movement under each replication of the keyspaces; the tokens at which they begin and end are cuts
 pub record IsBook (image : Image) (s : SeqRow) (book : List RangeRow) : Type 0 where

@@ -8,14 +8,14 @@ ghost use Rattle.transformations.specs.Valid.{IsSound};
 ghost use Rattle.sequence_plans.specs.code.Basis.{IsBasis, MovesWithin};
 ghost use Rattle.sequence_plans.specs.PlanDeltas.{AreStepDeltas};
 ghost use Rattle.sequence_plans.specs.Plan.{AreLocks, IsBook};
-ghost use Rattle.sequence_plans.specs.Replications.{replications_of};
+ghost use Rattle.placement_deltas.specs.Replications.{replications_of};
 
 use crate::movement_rings::MovementRings;
 use crate::plan_deltas::DeltaBooks;
-use crate::replications::{Replications, replications_of};
 use crate::wide_image::WideImage;
 use cluster_terms::{Memory, NodeId, Pair, PairList, Replication, Steps, Token, TryCopy};
 use node_directory::Directory;
+use placement_deltas::{Replications, replications_of};
 use ring_reach::reached;
 use std::alloc::Global;
 use std::sync::ledger::Ledger;

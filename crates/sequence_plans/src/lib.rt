@@ -4,12 +4,9 @@
 mod basis;
 mod movement_rings;
 mod near_cuts;
-pub mod placer;
 mod plan_deltas;
 mod planning;
-mod replications;
 mod row_changes;
 mod wide_image;
 
-pub use placer::Placer;
 pub use planning::{plan, plan_in};

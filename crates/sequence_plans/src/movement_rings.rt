@@ -2,14 +2,14 @@ ghost use Rattle.std.specs.Prelude.{◌≡◌, IfOk};
 ghost use Rattle.std.specs.List.{Contains};
 ghost use Rattle.transformations.specs.Ranges as spec;
 ghost use Rattle.transformations.specs.Valid.{IsSound};
-ghost use Rattle.sequence_plans.specs.Placers.{at_homes};
+ghost use Rattle.replica_placer.specs.Placers.{at_homes};
 ghost use Rattle.sequence_plans.specs.code.MovementRings.{AreMovementRings, PlacesMovement};
 
 use crate::basis::moved_by;
-use crate::placer::Placer;
 use crate::wide_image::WideImage;
 use cluster_terms::{Memory, PairList, Replication};
 use node_directory::Directory;
+use replica_placer::Placer;
 use std::alloc::Global;
 use token_ring::Ring;
 use transformations::SeqRow;

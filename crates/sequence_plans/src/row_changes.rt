@@ -5,7 +5,7 @@ ghost use Rattle.std.specs.List.{AllByRecursion};
 ghost use Rattle.cluster_terms.specs.Arc.{IsToken};
 ghost use Rattle.cluster_terms.specs.Row.{rows_between};
 ghost use Rattle.placement_deltas.specs.code.Changes.{AreJoined, AreWithRow};
-ghost use Rattle.sequence_plans.specs.Placers.{placed_by};
+ghost use Rattle.replica_placer.specs.Placers.{placed_by};
 ghost use Rattle.sequence_plans.specs.code.RowChanges.{change_at};
 
 use crate::movement_rings::MovementPlacers;

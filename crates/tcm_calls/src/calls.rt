@@ -4,6 +4,7 @@ mod directory;
 mod edges;
 mod follower;
 mod log;
+mod members;
 mod reach;
 mod terms;
 mod wire;

@@ -1,6 +1,5 @@
 -- Scripts that are read in pieces, and scripts that are sent again.
 pub mod BegunLines
-pub mod LinesLemmas
 pub mod PieceLoop
 pub mod ReadLemmas
 pub mod SentFiles

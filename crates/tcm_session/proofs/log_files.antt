@@ -1,7 +1,5 @@
 -- Files of lines: logs that are taken over, and replays.
 pub mod CutFiles
-pub mod FileLogs
-pub mod GainLemmas
 pub mod LoadLemmas
 pub mod LogLines
 pub mod ReplayLemmas

@@ -2,8 +2,8 @@
 use Rattle.std.specs.Prelude.{◌≡◌, ◌≢◌, ◌⊎◌, ℕ, true, List, [], ◌∷◌, ◌++◌, Option, Some, None, option_map}
 use Rattle.std.specs.Io.{StartsWith}
 use Rattle.tcm_edges.specs.Files.{ChangesFile, Files, OthersKept, content}
-use Rattle.tcm_session.specs.files.LogFiles.{entry_lines, lines_part}
-use Rattle.tcm_session.specs.session.Machine.{SessionState, answers, entries_added, reply, session_after, session_over}
+use Rattle.script_session.specs.LogFiles.{entry_lines, lines_part}
+use Rattle.script_session.specs.Machine.{SessionState, answers, entries_added, reply, session_after, session_over}
 use Rattle.tcm_session.specs.Outcome.{Outcome}
 
 -- ---- within the lines of a script

@@ -1,12 +1,8 @@
 pub mod Counts
-pub mod Faults
-pub mod Generated
-pub mod GeneratedLines
 pub mod Left
 pub mod Limits
-pub mod Lines
 pub mod Outcome
 pub mod Run
+pub mod SentAgain
 pub mod code
 pub mod files
-pub mod session

@@ -7,16 +7,16 @@ use Rattle.tcm_edges.specs.declared.store.Loaded.{Loaded}
 use Rattle.tcm_edges.specs.declared.store.Loaded.TheVariants as loaded
 use Rattle.transformations.specs.declared.entry.Entry.{Entry}
 use Rattle.script_lang.specs.AnswerTexts.{line}
-use Rattle.tcm_session.specs.Lines.{whole_lines, script_lines}
-use Rattle.tcm_session.specs.Generated.{gen_numbers, summary}
+use Rattle.script_session.specs.Lines.{whole_lines, script_lines}
+use Rattle.generated_scripts.specs.Generated.{gen_numbers, summary}
 pub use Rattle.tcm_session.specs.Limits.{input_limit, too_large_text}
 use Rattle.tcm_session.specs.files.FileEnds.{refused_end, too_large_end}
-use Rattle.tcm_session.specs.files.LogFiles.{cut_to_lines, entry_lines, log_of, with_added}
-use Rattle.tcm_session.specs.session.Machine.{answers, entries_added, session_over}
+use Rattle.script_session.specs.LogFiles.{cut_to_lines, entry_lines, log_of, with_added}
+use Rattle.script_session.specs.Machine.{answers, entries_added, session_over}
 use Rattle.tcm_session.specs.files.Replay.{replay_ending}
 use Rattle.tcm_session.specs.files.StateLine.{snapshot_ending, snapshot_words}
 use Rattle.tcm_session.specs.declared.ending.Ending.{Ending}
-use Rattle.tcm_session.specs.declared.files.refused_line.RefusedLine.{RefusedLine}
+use Rattle.script_session.specs.declared.refused_line.RefusedLine.{RefusedLine}
 
 -- the log from which lines are answered, these lines, the text that is printed after their answers, and the status
 pub record Outcome : Type 0 where

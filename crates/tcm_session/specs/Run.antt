@@ -8,12 +8,12 @@ use Rattle.transformations.specs.Log.{IsLog}
 use Rattle.transformations.specs.declared.entry.Entry.{Entry}
 use Rattle.tcm_session.specs.Counts.{Counts}
 use Rattle.tcm_session.specs.Left.{LeavesFiles}
-use Rattle.tcm_session.specs.Lines.{whole_lines}
-use Rattle.tcm_session.specs.session.Machine.{answers, session_over}
+use Rattle.script_session.specs.Lines.{whole_lines}
+use Rattle.script_session.specs.Machine.{answers, session_over}
 use Rattle.tcm_session.specs.Outcome.{Outcome, input_limit, is_replay, named_log, outcome, printed_by, replayed_files}
 use Rattle.tcm_session.specs.files.ReplayPrefix.{AreFilesOf, ReportsPrefix, taken_of_files}
-use Rattle.tcm_session.specs.session.Shown.{PrintsMeeting}
-use Rattle.tcm_session.specs.session.Taken.{FollowersShow}
+use Rattle.session_laws.specs.Shown.{PrintsMeeting}
+use Rattle.script_session.specs.Taken.{FollowersShow}
 
 -- the statuses, 0 to 8: the end of the input, of a replay, of a state or of a summary, out of memory, the usage line, a
 -- line of a file that is refused, a fault of the source, of the sink or of the store, a file or an epoch that is absent,

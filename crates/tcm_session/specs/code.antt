@@ -1,9 +1,7 @@
 -- Of the code: private contracts cite these definitions, and no promise rests on them.
 pub mod Endings
-pub mod KeptImages
 pub mod Loading
 pub mod Replays
 pub mod RunFaults
 pub mod Runs
-pub mod StepParts
 pub mod Stops

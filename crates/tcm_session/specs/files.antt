@@ -1,6 +1,5 @@
 -- What the lines of files say.
 pub mod FileEnds
-pub mod LogFiles
 pub mod Replay
 pub mod ReplayPrefix
 pub mod StateLine

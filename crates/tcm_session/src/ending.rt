@@ -5,10 +5,10 @@ ghost use Rattle.script_lang.specs.AnswerTexts.{no_text};
 ghost use Rattle.tcm_session.specs.Outcome.{usage_text};
 ghost use Rattle.tcm_session.specs.files.FileEnds as spec;
 
-use crate::files::refused_line::{RefusedLine, refused_line_text};
 use crate::limits::TOO_LARGE;
 use cluster_terms::{ByteText, Memory};
 use script_lang::no_epoch_text;
+use script_session::{RefusedLine, refused_line_text};
 use std::alloc::Global;
 
 /// The text that is printed for words that name no command.

@@ -1,7 +1,6 @@
 //! Files of lines: a log that is taken over, lines that are handed to a follower, and a state that is printed.
 
 pub mod log_file;
-pub mod refused_line;
 pub mod replay;
 pub mod report;
 pub mod state_line;

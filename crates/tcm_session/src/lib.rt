@@ -1,20 +1,16 @@
-//! A session: reads script lines, keeps the log of accepted commands, and answers each line.
+//! A run of the program: it reads a script, answers its lines, and keeps a log file; it replays files, prints a state, and
+//! counts the answers to a generated script.
 #![tactic(auto)]
 
 mod ending;
-mod fault;
 mod files;
-mod generated;
 mod limits;
 mod program;
+mod run_fault;
 mod scripts;
-mod session;
 mod validity;
 
-pub use fault::StepFault;
 pub use program::{Status, run, run_surely};
-pub use session::Session;
-pub use validity::{
-    followers_show_prefixes, lines_make_the_input, replays_show_the_longest_prefix,
-    scripts_are_sent_again, shown_quorums_meet,
-};
+pub use script_session::{Session, StepFault};
+pub use session_laws::{followers_show_prefixes, lines_make_the_input, shown_quorums_meet};
+pub use validity::{replays_show_the_longest_prefix, scripts_are_sent_again};

@@ -7,10 +7,10 @@ ghost use Rattle.std.specs.Str.{bytes_eq};
 ghost use Rattle.tcm_session.specs.Counts.{counts};
 ghost use Rattle.tcm_session.specs.code.Endings as spec;
 ghost use Rattle.tcm_session.specs.code.RunFaults.{counts_by};
-ghost use Rattle.tcm_session.specs.Generated as generated;
-ghost use Rattle.tcm_session.specs.files.LogFiles.{Gains, entry_lines, log_of};
-ghost use Rattle.tcm_session.specs.files.LogFiles as log_file;
-ghost use Rattle.tcm_session.specs.session.Machine.{entries_added, session_over};
+ghost use Rattle.generated_scripts.specs.Generated as generated;
+ghost use Rattle.script_session.specs.LogFiles.{Gains, entry_lines, log_of};
+ghost use Rattle.script_session.specs.LogFiles as log_file;
+ghost use Rattle.script_session.specs.Machine.{entries_added, session_over};
 ghost use Rattle.tcm_session.specs.Outcome.{commit_outcome, is_commit, is_replay, named_log, names_file, outcome, outcome_from, script_outcome};
 ghost use Rattle.tcm_session.specs.Outcome as outcomes;
 ghost use Rattle.tcm_session.specs.code.Replays.{EndsSo, WritesSeen};
@@ -20,20 +20,19 @@ ghost use Rattle.tcm_session.specs.code.Runs.{IsEnd, LeavesStore, RunsOn, RunsOn
 ghost use Rattle.tcm_session.specs.Left.{LeavesFiles, StopsNext};
 ghost use Rattle.tcm_session.specs.code.Loading.{IsCut, IsLinesPart};
 ghost use Rattle.tcm_session.specs.code.Stops.{IsKeptOrCut, LeavesLoaded, LeavesScript, Stopped};
-ghost use Rattle.tcm_session.specs.declared.fault.RunFault.TheVariants as fault;
+ghost use Rattle.tcm_session.specs.declared.run_fault.RunFault.TheVariants as fault;
 
 use crate::ending::Ending;
-use crate::fault::RunFault;
 use crate::files::log_file::{LogFault, open_log};
-use crate::files::refused_line::RefusedLine;
 use crate::files::report::replay_files;
 use crate::files::state_line::{show_state, snapshot_words};
-use crate::generated::{gen_numbers, generate};
 use crate::limits::{FILE_LIMIT, TOO_LARGE};
+use crate::run_fault::RunFault;
 use crate::scripts::answering::answer_line;
 use crate::scripts::pieces::{ReadEnd, read_script};
-use crate::session::Session;
 use cluster_terms::{ByteText, Memory};
+use generated_scripts::{gen_numbers, generate};
+use script_session::{RefusedLine, Session};
 use std::alloc::Global;
 use tcm_edges::{
     Loaded, Sink, Source, Store, SureSink, SureSource, SureStore, WriteFault, write_all,

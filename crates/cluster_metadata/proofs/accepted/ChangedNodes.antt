@@ -21,7 +21,8 @@ use Rattle.transformations.specs.declared.command.Command.{Command}
 use Rattle.transformations.specs.declared.command.Command.TheVariants.{Register, Unregister}
 use Rattle.transformations.specs.declared.image.Image.{Image}
 use Rattle.transformations.specs.declared.refusal.Refusal.TheVariants.{NameTaken, NoNode}
-use Rattle.cluster_metadata.proofs.in_flight.MovementPlaces.{at_index, found_at, found_within, some_place}
+use Rattle.cluster_metadata.proofs.in_flight.MovementPlaces.{at_index, found_at, some_place}
+use Rattle.placement_maps.proofs.ArrangedMaps.{found_within}
 use Rattle.cluster_metadata.proofs.in_flight.AcceptedSteps.{negated}
 use Rattle.cluster_metadata.specs.code.Change.{IsChange}
 use Rattle.cluster_metadata.specs.code.Nodes.{IsLeftRow, IsNew, new_row, nodes_left}

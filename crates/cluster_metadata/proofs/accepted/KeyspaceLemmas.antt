@@ -21,12 +21,12 @@ use Rattle.transformations.specs.declared.command.Command.TheVariants.{Keyspace}
 use Rattle.transformations.specs.declared.image.Image.{Image}
 use Rattle.transformations.specs.declared.keyspace.KeyspaceRow.{KeyspaceRow}
 use Rattle.cluster_metadata.specs.code.Change.{IsChange, changed}
-use Rattle.cluster_metadata.specs.code.MapChanges.{BringsMaps}
-use Rattle.cluster_metadata.specs.code.ShownMaps.{AreMaps, IsMapOf}
-use Rattle.cluster_metadata.specs.Served.{keyspace_of}
+use Rattle.cluster_metadata.specs.code.MapSteps.{BringsMaps}
+use Rattle.placement_maps.specs.code.ShownMaps.{AreMaps, IsMapOf}
+use Rattle.placement_maps.specs.Served.{keyspace_of}
 use Rattle.cluster_metadata.specs.declared.changes.change.Change.{Change}
 use Rattle.cluster_metadata.specs.declared.changes.change.Change.TheVariants.{Unchanged}
-use Rattle.cluster_metadata.specs.declared.maps.map_change.MapChange.TheVariants.{Keep}
+use Rattle.placement_maps.specs.declared.map_change.MapChange.TheVariants.{Keep}
 use Rattle.range_placements.specs.declared.map_row.MapRow.{MapRow}
 
 by_name_total : IsTotalOrder by_name

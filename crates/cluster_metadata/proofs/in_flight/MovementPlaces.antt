@@ -110,13 +110,6 @@ found_at p rows at h = by (nat_lt (position_or_len p rows) (length rows)) h
     by true h = (let same : position_or_len p rows ≡ at = cc h in rw (← same) (sym (find_at p rows)))
     by false h = absurd (none-some at h)
 
-pub found_within : {X : Type 0} (p : X → Bool) (rows : List X) (at : ℕ) → position p rows ≡ Some at → at < length rows
-found_within p rows at h = by (nat_lt (position_or_len p rows) (length rows)) refl h
-  where
-    by : (b : Bool) → nat_lt (position_or_len p rows) (length rows) ≡ b → cond b (Some (position_or_len p rows)) None ≡ Some at → at < length rows
-    by true e h = (let same : position_or_len p rows ≡ at = cc h in grind (arith, nat_tests))
-    by false e h = absurd (none-some at h)
-
 pub some_place : {X : Type 0} (p : X → Bool) (rows : List X) → IsSome (find p rows) → position p rows ≢ None
 some_place {X} p rows some none = by (nat_lt (position_or_len p rows) (length rows)) refl none
   where

@@ -8,7 +8,7 @@ use Rattle.cluster_terms.specs.declared.replication.Replication.{Replication}
 use Rattle.placement_deltas.specs.declared.plan.Plan.{Plan}
 use Rattle.sequence_plans.proofs.DeltaBookLemmas.{at_each_token, steps_like}
 use Rattle.sequence_plans.specs.PlanDeltas.{AreStepDeltas, HasDeltas}
-use Rattle.sequence_plans.specs.Replications.{replications_of}
+use Rattle.placement_deltas.specs.Replications.{replications_of}
 use Rattle.transformations.proofs.deltas.DeltasAfter.{keyspaces_kept}
 use Rattle.transformations.proofs.deltas.StepDeltas.{deltas_kept}
 use Rattle.transformations.proofs.lists.ListLemmas.{all_both, all_from_map, all_map, all_weaker}

@@ -25,12 +25,6 @@ map_insert f xs zero x = refl
 map_insert f [] (suc i) x = refl
 map_insert f (y ∷ ys) (suc i) x = ap (λ l. f y ∷ l) (map_insert f ys i x)
 
-pub map_remove : {X Y : Type 0} (f : X → Y) (xs : List X) (i : ℕ) → map f (remove xs i) ≡ remove (map f xs) i
-map_remove f [] zero = refl
-map_remove f (y ∷ ys) zero = refl
-map_remove f [] (suc i) = refl
-map_remove f (y ∷ ys) (suc i) = ap (λ l. f y ∷ l) (map_remove f ys i)
-
 -- ---- values
 
 -- the value at a place is that of the row there

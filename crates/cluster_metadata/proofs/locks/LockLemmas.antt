@@ -1,14 +1,12 @@
 -- The conflict of a plan is the refusal of its movement, and its bounds are cuts.
-use Rattle.std.proofs.Common.{◌≡◌, ℕ, Bool, true, false, not, cond, ◌&&◌, ◌||◌, ℤ, List, [], ◌∷◌, map, filter, find, filter_map, slice_get, Option, Some, None, option_map, refl, sym, ap, ◌∙◌, subst, arith}
+use Rattle.std.proofs.Common.{◌≡◌, ℕ, Bool, true, cond, ◌&&◌, ◌||◌, ℤ, List, [], ◌∷◌, map, find, filter_map, slice_get, Option, Some, None, option_map, refl, sym, ap, ◌∙◌, subst}
 use Rattle.std.proofs.lemmas.Cmp.{int_cmp_total}
 use Rattle.std.specs.List.{AllByRecursion, cons_option, list_any, zip}
 use Rattle.std.specs.List.Sorted.{IsStrictlySortedBy}
 use Rattle.std.specs.Ordering.{int_cmp}
 use Rattle.cluster_terms.proofs.lists.AscendingLemmas.{ascending_sorted}
-use Rattle.cluster_terms.proofs.texts.ReplicationLemmas.{same_replication-exact}
 use Rattle.cluster_terms.proofs.rows.RowLemmas.{rows_have_last}
 use Rattle.cluster_terms.specs.Arc.{IsToken}
-use Rattle.cluster_terms.specs.Replication.{same_replication}
 use Rattle.cluster_terms.specs.Row.{is_within, last_token, rows_between}
 use Rattle.cluster_terms.specs.declared.replication.Replication.{Replication}
 use Rattle.cluster_terms.specs.declared.row.TokenRange.{TokenRange}
@@ -25,39 +23,15 @@ use Rattle.transformations.specs.Refusals.{first_of, locked, locked_by}
 use Rattle.transformations.specs.Rings.{cuts, widest}
 use Rattle.transformations.specs.Movements.{others}
 use Rattle.transformations.specs.declared.image.Image.{Image}
-use Rattle.transformations.specs.declared.keyspace.KeyspaceRow.{KeyspaceRow}
 use Rattle.transformations.specs.declared.refusal.Refusal.{Refusal}
 use Rattle.transformations.specs.declared.refusal.Refusal.TheVariants.{Locked}
 use Rattle.transformations.specs.declared.sequence.SeqRow.{SeqRow}
 use Rattle.placement_deltas.specs.declared.plan.Plan.{Plan}
 use Rattle.sequence_plans.specs.Plan.{AreLocks, IsBook, IsPlan}
-use Rattle.sequence_plans.specs.Replications.{replications_of}
+use Rattle.placement_deltas.specs.Replications.{replications_of}
+use Rattle.placement_deltas.proofs.ReplicationsLemmas.{any_replications}
 
 -- ---- replications that keyspaces have, and keyspaces
-
--- what differs from a replication in a list is left in it, and the test finds as much with the replication in front
-any_without : (f : Replication → Bool) (r : Replication) (rs : List Replication) → (f r || list_any f (filter (λ q. not (same_replication r q)) rs)) ≡ (f r || list_any f rs)
-any_without f r [] = refl
-any_without f r (q ∷ rs) = by (same_replication r q) refl (any_without f r rs)
-  where
-    same : same_replication r q ≡ true → f r ≡ f q
-    same e = ap f (same_replication-exact r q e)
-
-    twice : (a b : Bool) → (a || b) ≡ (a || (a || b))
-    twice a b = grind arith
-
-    later : (a b c d : Bool) → (a || c) ≡ (a || d) → (a || (b || c)) ≡ (a || (b || d))
-    later a b c d h = grind arith
-
-    by : (b : Bool) → same_replication r q ≡ b → (f r || list_any f (filter (λ p. not (same_replication r p)) rs)) ≡ (f r || list_any f rs)
-        → (f r || list_any f (cond (not b) (q ∷ filter (λ p. not (same_replication r p)) rs) (filter (λ p. not (same_replication r p)) rs))) ≡ (f r || (f q || list_any f rs))
-    by true e rest = rest ∙ twice (f r) (list_any f rs) ∙ ap (λ b. f r || (b || list_any f rs)) (same e)
-    by false e rest = later (f r) (f q) (list_any f (filter (λ p. not (same_replication r p)) rs)) (list_any f rs) rest
-
--- a test of replications finds one exactly where a keyspace has one
-pub any_replications : (f : Replication → Bool) (ks : List KeyspaceRow) → list_any f (replications_of ks) ≡ list_any (λ k. f k.replication) ks
-any_replications f [] = refl
-any_replications f (k ∷ ks) = any_without f k.replication (replications_of ks) ∙ ap (λ b. f k.replication || b) (any_replications f ks)
 
 -- ---- ranges of both
 

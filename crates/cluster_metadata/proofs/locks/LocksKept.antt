@@ -12,7 +12,7 @@ use Rattle.token_ring.specs.declared.range_book.LockRow.{LockRow}
 use Rattle.token_ring.specs.declared.range_book.RangeRow.{RangeRow}
 use Rattle.placement_deltas.specs.declared.plan.Plan.{Plan}
 use Rattle.sequence_plans.proofs.DeltaBookLemmas.{at_each_token}
-use Rattle.sequence_plans.specs.Replications.{replications_of}
+use Rattle.placement_deltas.specs.Replications.{replications_of}
 use Rattle.transformations.proofs.deltas.DeltasAfter.{keyspaces_kept}
 use Rattle.transformations.proofs.lists.ListLemmas.{all_both, all_from_map, all_weaker, found_passes, part_all_of, part_filter}
 use Rattle.transformations.proofs.movements.SoleLemmas.{each_found}

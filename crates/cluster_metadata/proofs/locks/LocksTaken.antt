@@ -17,7 +17,7 @@ use Rattle.token_ring.specs.declared.range_book.RangeRow.{RangeRow}
 use Rattle.placement_deltas.specs.declared.plan.Plan.{Plan}
 use Rattle.sequence_plans.proofs.DeltaBookLemmas.{at_each_token}
 use Rattle.sequence_plans.specs.Plan.{AreLocks, IsBook, IsPlan}
-use Rattle.sequence_plans.specs.Replications.{replications_of}
+use Rattle.placement_deltas.specs.Replications.{replications_of}
 use Rattle.transformations.proofs.lists.ListLemmas.{all_weaker}
 use Rattle.transformations.proofs.movements.MovementLemmas.{flat_put, others_put}
 use Rattle.transformations.proofs.movements.SoleLemmas.{each_found}

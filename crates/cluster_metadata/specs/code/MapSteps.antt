@@ -1,43 +1,18 @@
--- How changes move the placements.
-use Rattle.std.specs.Prelude.{◌≡◌, ℕ, ℤ, List, Some}
-use Rattle.std.specs.List.{AllByRecursion, slice_get}
-use Rattle.cluster_terms.specs.Arc.{IsToken}
-use Rattle.cluster_terms.specs.declared.replication.Replication.{Replication}
-use Rattle.sequence_plans.specs.Replications.{replications_of}
-use Rattle.transformations.specs.DeltaSteps.{AreChanged, PlacementDelta, cancel_delta, no_changes, step_delta}
-use Rattle.transformations.specs.MovementDeltas.{gained_at, lost_at}
+-- How changes move the placements, and the maps that they bring.
+use Rattle.std.specs.Prelude.{List}
+use Rattle.transformations.specs.DeltaSteps.{cancel_delta, step_delta}
 use Rattle.transformations.specs.Rings.{cuts}
 use Rattle.transformations.specs.declared.image.Image.{Image}
 use Rattle.transformations.specs.declared.sequence.Goal.TheVariants as goal
 use Rattle.transformations.specs.declared.sequence.Phase.TheVariants as phase
-use Rattle.transformations.specs.declared.sequence.SeqRow.{SeqRow}
 use Rattle.cluster_metadata.specs.code.Change.{changed}
 use Rattle.cluster_metadata.specs.declared.changes.change.Change.{Change}
 use Rattle.cluster_metadata.specs.declared.changes.change.Change.TheVariants.{Registered, Unregistered, Begun, Started, Mid, Finished, Ended, BroughtBack}
-
--- the keyspaces stay, and under each of their replications the reads and writes of each token change by its delta
-pub record MovesBy (before after : Image) (delta : Replication → ℤ → PlacementDelta) : Type 0 where
-  pub keyspaces : after.keyspaces ≡ before.keyspaces
-  pub changes : AllByRecursion (λ r. (x : ℤ) → IsToken x → AreChanged before after r x (delta r x)) (replications_of before.keyspaces)
-
--- no delta, and the deltas of a movement
-abbrev pub no_deltas : Replication → ℤ → PlacementDelta
-no_deltas r x = no_changes
-
-abbrev pub deltas_of : (List ℕ → List ℕ → PlacementDelta) → Image → SeqRow → Replication → ℤ → PlacementDelta
-deltas_of delta image s r x = delta (gained_at image r s x) (lost_at image r s x)
-
--- reads and writes change by such deltas of the movement at this position; and the cuts stay as well
-abbrev pub MovesOf : Image → Image → ℕ → (SeqRow → List ℕ → List ℕ → PlacementDelta) → Type 0
-MovesOf before after at delta = (s : SeqRow) → slice_get before.sequences at ≡ Some s → MovesBy before after (deltas_of (delta s) before s)
-
-pub record MovesAt (before after : Image) (at : ℕ) (delta : List ℕ → List ℕ → PlacementDelta) : Type 0 where
-  pub moves : MovesOf before after at (λ s. delta)
-  pub cuts : cuts after ≡ cuts before
-
--- the reads, the writes and the cuts stay
-abbrev pub Stays : Image → Image → Type 0
-Stays before after = MovesBy before after no_deltas × (cuts after ≡ cuts before)
+use Rattle.placement_maps.specs.code.ShownMaps.{AreMaps}
+use Rattle.placement_maps.specs.declared.map_change.MapChange.{MapChange}
+use Rattle.range_placements.specs.declared.map_row.MapRow.{MapRow}
+use Rattle.placement_maps.specs.code.Moves.{MovesAt, MovesBy, MovesOf, Stays, no_deltas}
+use Rattle.placement_maps.specs.code.MapChanges.{maps_after}
 
 -- how a change moves the placements; a change of nodes, a start, a step half way and a cancel half way keep the cuts
 abbrev pub MapSteps : Image → Change → Type 0
@@ -50,3 +25,7 @@ MapSteps image (BroughtBack at) = MovesAt image (changed image (BroughtBack at))
 MapSteps image (Finished at left tokens) = MovesOf image (changed image (Finished at left tokens)) at (λ s. step_delta goal.Finish)
 MapSteps image (Ended at) = MovesOf image (changed image (Ended at)) at (λ s. cancel_delta s.phase)
 MapSteps image _ = Unit {0}
+
+-- the maps of the image before a change become those of the image after it
+abbrev pub BringsMaps : Image → Change → MapChange → Type 0
+BringsMaps image change maps = (book : List MapRow) → AreMaps image book → AreMaps (changed image change) (maps_after maps book)

@@ -6,7 +6,7 @@ use Rattle.transformations.specs.Meeting.{HaveReplications}
 use Rattle.transformations.specs.Valid.{IsValid}
 use Rattle.transformations.specs.declared.image.Image.{Image}
 use Rattle.sequence_plans.specs.Locks.{AreLocksOf}
-use Rattle.cluster_metadata.specs.code.ShownMaps.{AreMaps}
+use Rattle.placement_maps.specs.code.ShownMaps.{AreMaps}
 use Rattle.cluster_metadata.specs.code.Running.{HaveDeltas, IsRunning}
 use Rattle.range_placements.specs.declared.map_row.MapRow.{MapRow}
 use Rattle.cluster_metadata.specs.declared.movements.running.Running.{Running}

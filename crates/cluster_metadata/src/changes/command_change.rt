@@ -10,7 +10,7 @@ ghost use Rattle.transformations.specs.Valid.{IsSound};
 ghost use Rattle.transformations.specs.declared.command.Command.TheVariants as command;
 ghost use Rattle.cluster_metadata.specs.code.Change.{IsChange};
 ghost use Rattle.sequence_plans.specs.Locks.{AreLocksOf};
-ghost use Rattle.cluster_metadata.specs.Served.{keyspace_of};
+ghost use Rattle.placement_maps.specs.Served.{keyspace_of};
 ghost use Rattle.cluster_metadata.specs.Permission.{AdmitsUnless};
 
 use crate::admit_fault::AdmitFault;

@@ -12,19 +12,18 @@ ghost use Rattle.cluster_metadata.specs.code.Change.{BringsNothing, FitsNodes, F
 ghost use Rattle.cluster_metadata.specs.Metadata.{directory_of};
 ghost use Rattle.cluster_metadata.specs.code.Locking.{IsFree, MayLock, locks_after};
 ghost use Rattle.cluster_metadata.specs.code.Change.{plan_lock};
-ghost use Rattle.cluster_metadata.specs.code.MapChanges.{ArePlacementMaps, maps_after};
+ghost use Rattle.placement_maps.specs.code.MapChanges.{ArePlacementMaps, maps_after};
 ghost use Rattle.cluster_metadata.specs.code.Running.{IsRunning, movement_row, phase_after, plan_of};
 
 use crate::changes::change::Change;
 use crate::changes::next_image::change_image;
 use crate::changes::node_changes::register;
-use crate::maps::map_book::MapBook;
-use crate::maps::map_change::MapChange;
 use crate::movements::running::Running;
 use cluster_terms::{Room, TokenList};
 use locked_ranges::LockTable;
 use node_directory::Directory;
 use placement_deltas::Plan;
+use placement_maps::{MapBook, MapChange};
 use std::alloc::Global;
 use std::mem::{replace, swap};
 use token_ring::{LockRow, RangeBook};
@@ -139,7 +138,7 @@ pub fn exchange(maps: &mut MapBook, change: MapChange)
 
 /// Makes a change in the directory of an image, in the values of its movements and in the table of their locks. The
 /// change brings neither a node nor a movement.
-#[tactic(auto, using(crate::proofs::in_flight::RunningLemmas::map_remove))]
+#[tactic(auto, using(placement_maps::proofs::ArrangedMaps::map_remove))]
 fn change_parts(
     image: &Image,
     directory: &mut Directory,

@@ -2,7 +2,7 @@
 
 ghost use Rattle.std.specs.Prelude.{◌≡◌};
 ghost use Rattle.std.specs.Option.{option_copied};
-ghost use Rattle.cluster_metadata.specs.Served as spec;
+ghost use Rattle.placement_maps.specs.Served as spec;
 
 use cluster_terms::Name;
 use transformations::{Image, KeyspaceRow};

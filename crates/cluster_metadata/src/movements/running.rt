@@ -13,16 +13,16 @@ ghost use Rattle.cluster_metadata.specs.code.Overlaps.{FindsOverlap, overlap_of,
 ghost use Rattle.sequence_plans.specs.Locks.{AreLocksOf};
 ghost use Rattle.cluster_metadata.specs.code.Locking.{AddsMovement, AreCutAt, AreLocked, lock_of};
 ghost use Rattle.cluster_metadata.specs.code.Running.{HaveDeltas, IsRunning, phase_after, phase_of, plan_of, movement_row, moving_node};
-ghost use Rattle.cluster_metadata.specs.code.Turns.{undoing};
+ghost use Rattle.placement_maps.specs.code.Turns.{undoing};
 ghost use Rattle.cluster_metadata.specs.declared.image_fault.ImageFault.TheVariants as fault;
 
 use crate::image_fault::ImageFault;
-use crate::maps::turn::Turn;
 use crate::movements::stepping::at_phase;
 use cluster_terms::{Memory, NodeId, Steps, TryCopy};
 use locked_ranges::{LockKey, LockTable};
 use node_directory::Directory;
 use placement_deltas::Plan;
+use placement_maps::Turn;
 use sequence_core::{Mid, Prepared, Seq, Started};
 use sequence_plans::plan_in;
 use std::alloc::Global;

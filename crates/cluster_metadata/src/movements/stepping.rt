@@ -43,7 +43,7 @@ fn found_at(sequences: &[SeqRow], node: NodeId) -> Option<usize>
 }
 
 /// The position of the movement of a node that has one.
-#[tactic(auto, using(crate::proofs::in_flight::MovementPlaces::found_at, crate::proofs::in_flight::MovementPlaces::found_within, crate::proofs::in_flight::MovementPlaces::some_place))]
+#[tactic(auto, using(crate::proofs::in_flight::MovementPlaces::found_at, placement_maps::proofs::ArrangedMaps::found_within, crate::proofs::in_flight::MovementPlaces::some_place))]
 pub fn position_of(sequences: &[SeqRow], node: NodeId) -> usize
     requires { IsSome (find (λ s. s.node == node) sequences.now) }
     ensures bound { result < length sequences.now }

@@ -1,6 +1,7 @@
 -- Rows in the middle of edits that are made in place, from the last to the first.
 use Rattle.std.specs.Prelude.{◌≡◌, ℕ, ◌+◌, ◌≤◌, List, ◌++◌, length, take, drop}
-use Rattle.range_placements.specs.Editing.{edited_rows, rows_added, rows_passed}
+use Rattle.range_placements.specs.Editing.{edited_rows, rows_passed}
+use Rattle.range_placements.specs.code.EditCounts.{rows_added}
 use Rattle.range_placements.specs.declared.placement_row.PlacementRow.{PlacementRow}
 use Rattle.range_placements.specs.declared.row_edits.RowEdit.{RowEdit}
 

@@ -7,7 +7,7 @@ use Rattle.transformations.specs.Ranges.{moved_by}
 use Rattle.transformations.specs.Rings.{fixed_ring, widest}
 use Rattle.transformations.specs.declared.image.Image.{Image}
 use Rattle.transformations.specs.declared.sequence.SeqRow.{SeqRow}
-use Rattle.sequence_plans.specs.Replications.{replications_of}
+use Rattle.placement_deltas.specs.Replications.{replications_of}
 use Rattle.sequence_plans.specs.declared.basis.Basis.{Basis}
 
 -- the basis has the image's fixed ring, by token, its widest set of pairs, its nodes, and the replications of its

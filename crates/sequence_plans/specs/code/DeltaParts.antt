@@ -4,7 +4,8 @@ use Rattle.cluster_terms.specs.declared.replication.Replication.{Replication}
 use Rattle.token_ring.specs.declared.range_book.RangeRow.{RangeRow}
 use Rattle.transformations.specs.declared.image.Image.{Image}
 use Rattle.transformations.specs.declared.sequence.SeqRow.{SeqRow}
-use Rattle.sequence_plans.specs.PlanDeltas.{AreStepDeltas, IsExact, gained_by, lost_by, no_nodes}
+use Rattle.sequence_plans.specs.PlanDeltas.{AreStepDeltas}
+use Rattle.placement_deltas.specs.ExactDeltas.{IsExact, gained_by, lost_by, no_nodes}
 use Rattle.sequence_plans.specs.declared.plan_deltas.DeltaBooks.{DeltaBooks}
 use Rattle.sequence_plans.specs.declared.plan_deltas.Deltas.{Deltas}
 

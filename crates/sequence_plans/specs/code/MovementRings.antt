@@ -9,7 +9,7 @@ use Rattle.transformations.specs.Rings.{low_ring, replaced}
 use Rattle.transformations.specs.Valid.{IsSound}
 use Rattle.transformations.specs.declared.image.Image.{Image}
 use Rattle.transformations.specs.declared.sequence.SeqRow.{SeqRow}
-use Rattle.sequence_plans.specs.Placers.{placed_by}
+use Rattle.replica_placer.specs.Placers.{placed_by}
 use Rattle.sequence_plans.specs.declared.movement_rings.MovementPlacers.{MovementPlacers}
 use Rattle.sequence_plans.specs.declared.movement_rings.MovementRings.{MovementRings}
 

@@ -66,24 +66,27 @@ fn summarizes<A: Abort>(rt: &A, alloc: Global) -> Result<(), Fail> {
     Ok(())
 }
 
-/// Scripts of 12 rounds: their START, and how many of their joins are locked.
-const LOCKED: [(&str, u64); 5] = [
-    ("0", 4),
-    ("2", 8),
-    ("2147483650", 8),
-    ("2147483647", 3),
-    ("5", 1),
+/// The START and the N of scripts, and how many of their joins are locked.
+const LOCKED: [(&str, u16, u64); 6] = [
+    ("0", 12, 4),
+    ("2", 12, 8),
+    ("2147483650", 12, 8),
+    ("2147483647", 12, 3),
+    ("5", 12, 1),
+    ("7", 3_000, 773),
 ];
 
-/// The summary of a script of 12 rounds. Once a join is locked, its three steps and those of its leave find no
-/// movement, and the leave itself finds a node that hasn't joined. Each other commit is an epoch, and the follower has
-/// them all. The lines are those of the opening, the commits of the rounds, and a delivery for each of their epochs.
-fn summary_by(alloc: Global, start: &str, locked: u64) -> Result<String, Fail> {
+/// The summary of a script in which some joins are locked. Once a join is locked, its three steps and those of its leave
+/// find no movement, and the leave itself finds a node that hasn't joined. Each other commit is an epoch, and the
+/// follower has them all. The lines are those of the opening, the commits of the rounds, and a delivery for each of
+/// their epochs.
+fn summary_by(alloc: Global, start: &str, rounds: u16, locked: u64) -> Result<String, Fail> {
+    let commits = 50 + 20 * u64::from(rounds);
     let lost = locked.saturating_mul(6);
-    let epoch = 290_u64.saturating_sub(locked.saturating_mul(8));
-    let lines = epoch.saturating_add(291);
+    let epoch = commits.saturating_sub(locked.saturating_mul(8));
+    let lines = epoch + commits + 1;
     let text = format!(in alloc;
-        "GEN {start} 12\n\
+        "GEN {start} {rounds}\n\
             LINES {lines}\n\
             OK {epoch}\n\
             REFUSED 4 {locked}\n\
@@ -95,20 +98,28 @@ fn summary_by(alloc: Global, start: &str, locked: u64) -> Result<String, Fail> {
     Ok(text)
 }
 
-/// Summaries add up. Those of more rounds do, too, but take too long here.
+/// Compares what a run prints with a summary.
+fn is_summary<A: Abort>(
+    rt: &A,
+    alloc: Global,
+    start: &str,
+    rounds: u16,
+    summary: &str,
+) -> Result<(), Fail> {
+    let rounds = format!(in alloc; "{rounds}")?;
+    let words = ["gen", start, rounds.as_str()];
+    let mut store = sure_store_of(alloc, None)?;
+    is_shown(rt, alloc, "locked joins", &words, &mut store, (0, summary))
+}
+
+/// Summaries add up, and a second run prints the same bytes.
 fn adds_up<A: Abort>(rt: &A, alloc: Global) -> Result<(), Fail> {
     for row in &LOCKED {
-        let (start, locked) = *row;
-        let text = summary_by(alloc, start, locked)?;
-        let mut store = sure_store_of(alloc, None)?;
-        is_shown(
-            rt,
-            alloc,
-            "12 rounds",
-            &["gen", start, "12"],
-            &mut store,
-            (0, text.as_str()),
-        )?;
+        let (start, rounds, locked) = *row;
+        let summary = summary_by(alloc, start, rounds, locked)?;
+        for _run in 0..2 {
+            is_summary(rt, alloc, start, rounds, summary.as_str())?;
+        }
     }
     Ok(())
 }

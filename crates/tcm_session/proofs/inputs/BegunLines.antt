@@ -7,11 +7,11 @@ use Rattle.std.proofs.lemmas.List.{take-append-le, take_all, take_at, length-tak
 use Rattle.cluster_terms.specs.ReplicationText.{words_of}
 use Rattle.script_lang.specs.Grammar.{line_of, line_of_words}
 use Rattle.script_lang.specs.declared.script_line.ScriptLine.{ScriptLine}
-use Rattle.tcm_session.specs.Lines.{HasNoFeed, if_any, open_line, whole_lines}
-use Rattle.tcm_session.specs.session.Machine.{SessionState, answers, entries_added, reply, reply_to, session_after}
+use Rattle.script_session.specs.Lines.{HasNoFeed, if_any, open_line, whole_lines}
+use Rattle.script_session.specs.Machine.{SessionState, answers, entries_added, reply, reply_to, session_after}
 use Rattle.tcm_session.specs.code.Runs.{IsBegun, kept_of, most_kept}
-use Rattle.tcm_session.proofs.machine.AnswersLemmas.{answers-same, entries_added-same, session_after-same}
-use Rattle.tcm_session.proofs.inputs.LinesLemmas.{HasNoFeed-append, open_line-line, open_line-none, whole_lines-line, whole_lines-none}
+use Rattle.script_session.proofs.AnswersLemmas.{answers-same, entries_added-same, session_after-same}
+use Rattle.session_laws.proofs.LinesLemmas.{HasNoFeed-append, open_line-line, open_line-none, whole_lines-line, whole_lines-none}
 
 -- ---- what is kept
 

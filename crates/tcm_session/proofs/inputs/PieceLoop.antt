@@ -4,15 +4,15 @@ use Rattle.std.specs.Io.KnownBytes.{Appends}
 use Rattle.std.proofs.KnownBytes.{Appends-nil, Appends-trans}
 use Rattle.tcm_edges.specs.Files.{Files}
 use Rattle.tcm_session.specs.Left.{StopsIn, StopsNext}
-use Rattle.tcm_session.specs.Lines.{HasNoFeed, whole_lines, open_line}
-use Rattle.tcm_session.specs.files.LogFiles.{Gains, entry_lines}
-use Rattle.tcm_session.specs.session.Machine.{Reply, answers, entries_added, replied, reply, session_after}
+use Rattle.script_session.specs.Lines.{HasNoFeed, whole_lines, open_line}
+use Rattle.script_session.specs.LogFiles.{Gains, entry_lines}
+use Rattle.script_session.specs.Machine.{Reply, answers, entries_added, replied, reply, session_after}
 use Rattle.tcm_session.specs.code.Runs.{IsBegun, Standing, Takes, kept_of, lines_ended}
 use Rattle.tcm_session.specs.code.Stops.{Stopped}
-use Rattle.tcm_session.proofs.machine.AnswersLemmas.{answers-append, entries_added-append, session_after-append}
-use Rattle.tcm_session.proofs.log_files.GainLemmas.{Gains-append, Gains-nil}
+use Rattle.script_session.proofs.AnswersLemmas.{answers-append, entries_added-append, session_after-append}
+use Rattle.script_session.proofs.GainLemmas.{Gains-append, Gains-nil}
 use Rattle.tcm_session.proofs.inputs.BegunLines.{IsBegun-nil, one_begun, one_line, reply-kept}
-use Rattle.tcm_session.proofs.inputs.LinesLemmas.{HasNoFeed-append, open_line-none, whole_lines-none}
+use Rattle.session_laws.proofs.LinesLemmas.{HasNoFeed-append, open_line-none, whole_lines-none}
 use Rattle.tcm_session.proofs.runs.StopLemmas.{Adds-of_gains, Stopped-after, Stopped-none, StopsIn-lines, StopsIn-next, StopsIn-none, StopsIn-then, entry_lines-append}
 
 -- the lines of the piece that are done, and what is left of it

@@ -5,22 +5,22 @@ use Rattle.std.proofs.KnownBytes.{Consumes-trans, Consumes-nil, Consumes-kept, A
 use Rattle.tcm_edges.specs.Files.{Files}
 use Rattle.tcm_session.specs.code.RunFaults.{counts_after}
 use Rattle.tcm_session.specs.Left.{StopsIn}
-use Rattle.tcm_session.specs.Lines.{HasNoFeed, whole_lines, open_line}
-use Rattle.tcm_session.specs.files.LogFiles.{Gains, entry_lines}
-use Rattle.tcm_session.specs.session.Machine.{answers, entries_added, session_after}
+use Rattle.script_session.specs.Lines.{HasNoFeed, whole_lines, open_line}
+use Rattle.script_session.specs.LogFiles.{Gains, entry_lines}
+use Rattle.script_session.specs.Machine.{answers, entries_added, session_after}
 use Rattle.tcm_session.specs.Outcome.{input_limit}
 use Rattle.tcm_session.specs.Counts.{Counts}
 use Rattle.tcm_session.specs.code.Runs.{IsBegun, ReadsOnce, ReadsTo, Standing, StopsAt, Takes, kept_of, lines_ended}
 use Rattle.tcm_session.specs.code.Stops.{Stopped, StopsThere}
-use Rattle.tcm_session.specs.declared.fault.RunFault.{RunFault}
-use Rattle.tcm_session.specs.declared.fault.RunFault.TheVariants as fault
+use Rattle.tcm_session.specs.declared.run_fault.RunFault.{RunFault}
+use Rattle.tcm_session.specs.declared.run_fault.RunFault.TheVariants as fault
 use Rattle.tcm_session.specs.declared.scripts.pieces.ReadEnd.TheVariants as end
-use Rattle.tcm_session.proofs.machine.AnswersLemmas.{answers-append, entries_added-append, session_after-append}
-use Rattle.tcm_session.proofs.log_files.GainLemmas.{Gains-append, Gains-nil}
+use Rattle.script_session.proofs.AnswersLemmas.{answers-append, entries_added-append, session_after-append}
+use Rattle.script_session.proofs.GainLemmas.{Gains-append, Gains-nil}
 use Rattle.tcm_session.proofs.inputs.BegunLines.{IsBegun-kept, answers-kept, lines-carried, entries_added-kept, kept_of-short, session_after-kept, open_line-kept}
 use Rattle.tcm_session.proofs.runs.RunCauses.{not_source}
 use Rattle.tcm_session.proofs.runs.StopLemmas.{Adds-of_gains, Stopped-after, Stopped-map, Stopped-none, StopsIn-none, StopsThere-lines, StopsThere-same, StopsThere-session, StopsThere-then, entry_lines-append}
-use Rattle.tcm_session.proofs.inputs.LinesLemmas.{HasNoFeed-open, whole_lines-append, open_line-append, whole_lines-none, open_line-none}
+use Rattle.session_laws.proofs.LinesLemmas.{HasNoFeed-open, whole_lines-append, open_line-append, whole_lines-none, open_line-none}
 
 -- the lines of two pieces after an open line
 lines_of_two : (o a b : List ℕ) → whole_lines (o ++ (a ++ b)) ≡ whole_lines (o ++ a) ++ whole_lines (open_line (o ++ a) ++ b)
@@ -180,8 +180,3 @@ module _ (file : Option (List ℕ)) (taken : ℕ) (l l₁ : Option (List ℕ)) (
         ends = (once.at_end none, omega (arith, more.count), refl);
         takes = more.takes;
       }
-
--- what holds at the fault that a `?` passes on
-pub at_fault : {T E : Type 0} (Q : E → Type 0) (r : Result T E) (e : E) → IsErrAnd r (λ y. y ≡ e) → Q e → IfErr r Q
-at_fault Q (Ok x) e h q = tt
-at_fault Q (Err y) e h q = subst Q (sym h) q

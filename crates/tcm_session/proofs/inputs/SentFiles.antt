@@ -9,15 +9,15 @@ use Rattle.transformations.specs.declared.entry.Entry.{Entry}
 use Rattle.wire_json.specs.EntryTexts.{entry_line, entry_text}
 use Rattle.script_lang.specs.AnswerTexts.{line}
 use Rattle.tcm_session.specs.Left.{GainsThese, LeavesLog, StopsIn, next_added}
-use Rattle.tcm_session.specs.Lines.{HasNoFeed, open_line, whole_lines}
-use Rattle.tcm_session.specs.files.LogFiles.{entry_lines, lines_part, log_from, log_of}
-use Rattle.tcm_session.specs.session.Machine.{SessionState, entries_added, reply, session_after, session_over}
+use Rattle.script_session.specs.Lines.{HasNoFeed, open_line, whole_lines}
+use Rattle.script_session.specs.LogFiles.{entry_lines, lines_part, log_from, log_of}
+use Rattle.script_session.specs.Machine.{SessionState, entries_added, reply, session_after, session_over}
 use Rattle.tcm_session.specs.Outcome.{Outcome}
-use Rattle.tcm_session.specs.session.SentAgain.{AreAccepted, GoesOn, file_after, log_at}
-use Rattle.tcm_session.proofs.machine.AnswersLemmas.{entries_added-append}
-use Rattle.tcm_session.proofs.log_files.FileLogs.{session_file}
+use Rattle.tcm_session.specs.SentAgain.{AreAccepted, GoesOn, file_after, log_at}
+use Rattle.script_session.proofs.AnswersLemmas.{entries_added-append}
+use Rattle.session_laws.proofs.FileLogs.{session_file}
 use Rattle.tcm_session.proofs.inputs.BegunLines.{HasNoFeed-take}
-use Rattle.tcm_session.proofs.inputs.LinesLemmas.{HasNoFeed-lines, HasNoFeed-open, lines_whole, whole_lines-none}
+use Rattle.session_laws.proofs.LinesLemmas.{HasNoFeed-lines, HasNoFeed-open, lines_whole, whole_lines-none}
 use Rattle.tcm_session.proofs.log_files.LogLines.{FitAdded, entries_plain, entry_lines-texts, entry_plain, fit_reply, lines_of_lines, log_from-append, log_reads}
 use Rattle.tcm_session.proofs.inputs.SentLemmas.{comes_to_same, log_after}
 use Rattle.tcm_session.proofs.runs.StopLemmas.{entry_lines-append, front_of_nothing}

@@ -17,10 +17,10 @@ use Rattle.follower_log.specs.Follower.{FollowerState}
 use Rattle.script_lang.specs.Grammar.{line_of}
 use Rattle.script_lang.specs.declared.script_line.ScriptLine.{ScriptLine}
 use Rattle.script_lang.specs.declared.script_line.ScriptLine.TheVariants.{Commit, Follower, Deliver, Snapshot, Place, Nodes, Quorum, Local}
-use Rattle.tcm_session.specs.session.Machine.{Reply, SessionState, commit_text, deliver_to, entries_added, follower_named, image_at, reply, reply_of, reply_to, session_after, session_next, session_over, snapshot_to}
-use Rattle.tcm_session.specs.session.SentAgain.{AreAccepted, ComesToSame, IsAccepted, answer_of_commit, commit_answers, log_at}
-use Rattle.tcm_session.specs.declared.session.followers.NamedFollower.{NamedFollower}
-use Rattle.tcm_session.proofs.machine.TakenLemmas.{follower_cases}
+use Rattle.script_session.specs.Machine.{Reply, SessionState, commit_text, deliver_to, entries_added, follower_named, image_at, reply, reply_of, reply_to, session_after, session_next, session_over, snapshot_to}
+use Rattle.tcm_session.specs.SentAgain.{AreAccepted, ComesToSame, IsAccepted, answer_of_commit, commit_answers, log_at}
+use Rattle.script_session.specs.declared.session.followers.NamedFollower.{NamedFollower}
+use Rattle.script_session.proofs.TakenLemmas.{follower_cases}
 
 -- ---- an entry that is in the log
 

@@ -7,11 +7,11 @@ use Rattle.tcm_edges.specs.Files.{ChangesFile, Files, IsLoad, IsReplaced, Others
 use Rattle.tcm_edges.specs.Writes.{TellsAlike}
 use Rattle.tcm_edges.specs.declared.store.Loaded.{Loaded}
 use Rattle.tcm_edges.proofs.FileLemmas.{file_of-put}
-use Rattle.tcm_session.specs.Lines.{open_line}
-use Rattle.tcm_session.specs.files.LogFiles.{cut_to_lines, lines_part, without_open}
+use Rattle.script_session.specs.Lines.{open_line}
+use Rattle.script_session.specs.LogFiles.{cut_to_lines, lines_part, without_open}
 use Rattle.tcm_session.specs.code.Loading.{IsCut, IsLinesPart}
 use Rattle.tcm_session.specs.code.Runs.{MayHold}
-use Rattle.tcm_session.proofs.log_files.GainLemmas.{replaced_is}
+use Rattle.script_session.proofs.GainLemmas.{replaced_is}
 
 -- ---- a cut
 

@@ -3,14 +3,14 @@ use Rattle.std.proofs.Common.{◌≡◌, ℕ, ◌+◌, ◌-◌, List, [], ◌∷
 use Rattle.std.proofs.lemmas.List.{take_at}
 use Rattle.std.proofs.Math.Seq.{drop-append_seam}
 use Rattle.transformations.specs.declared.entry.Entry.{Entry}
-use Rattle.tcm_session.specs.Lines.{HasNoFeed, open_line, whole_lines}
-use Rattle.tcm_session.specs.files.LogFiles.{goes_on, lines_part, log_from, log_of, next_entry}
+use Rattle.script_session.specs.Lines.{HasNoFeed, open_line, whole_lines}
+use Rattle.script_session.specs.LogFiles.{goes_on, lines_part, log_from, log_of, next_entry}
 use Rattle.tcm_session.specs.code.Loading.{IsOpened}
-use Rattle.tcm_session.specs.session.Machine.{SessionState, session_over}
-use Rattle.tcm_session.specs.code.StepParts.{TakesLine, with_next}
-use Rattle.tcm_session.specs.declared.files.refused_line.Cause.{Cause}
-use Rattle.tcm_session.specs.declared.files.refused_line.RefusedLine.{RefusedLine}
-use Rattle.tcm_session.proofs.inputs.LinesLemmas.{lines_whole, open_line-line, open_line-none, whole_lines-line, whole_lines-none}
+use Rattle.script_session.specs.Machine.{SessionState, session_over}
+use Rattle.script_session.specs.code.StepParts.{TakesLine, with_next}
+use Rattle.script_session.specs.declared.refused_line.Cause.{Cause}
+use Rattle.script_session.specs.declared.refused_line.RefusedLine.{RefusedLine}
+use Rattle.session_laws.proofs.LinesLemmas.{lines_whole, open_line-line, open_line-none, whole_lines-line, whole_lines-none}
 
 -- the lines so far made the log of this session, and the rest of the file is to come
 pub record Loads (file : List ℕ) (session : SessionState) (rest : List ℕ) : Type 0 where

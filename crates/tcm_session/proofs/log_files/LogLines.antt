@@ -21,19 +21,19 @@ use Rattle.script_lang.specs.Grammar.{HasTokens, line_of}
 use Rattle.script_lang.specs.AnswerTexts.{line}
 use Rattle.script_lang.specs.declared.script_line.ScriptLine.{ScriptLine}
 use Rattle.script_lang.specs.declared.script_line.ScriptLine.TheVariants.{Commit, Follower, Deliver, Snapshot, Place, Nodes, Quorum, Local}
-use Rattle.tcm_session.specs.Lines.{HasNoFeed, whole_lines}
-use Rattle.tcm_session.specs.files.LogFiles.{command_refused, entry_cause, entry_lines, entry_read, first_cause, goes_on, id_again, log_from, next_entry, unless_refused, wrong_epoch}
-use Rattle.tcm_session.specs.session.Machine.{SessionState, entries_added, reply, reply_to, session_after, session_next}
-use Rattle.tcm_session.specs.code.StepParts.{IsNextEntry}
-use Rattle.tcm_session.specs.declared.files.refused_line.Cause.{Cause}
-use Rattle.tcm_session.specs.declared.files.refused_line.Cause.TheVariants as cause
-use Rattle.tcm_session.specs.declared.files.refused_line.RefusedLine.{RefusedLine}
-use Rattle.tcm_session.proofs.inputs.LinesLemmas.{whole_lines-line}
-use Rattle.tcm_session.proofs.texts.PlainEntries.{plain_data}
-use Rattle.tcm_session.proofs.texts.PlainTexts.{HasNoFeed-plain}
-use Rattle.tcm_session.proofs.texts.SaidValues.{FitsEntry, fits_by}
+use Rattle.script_session.specs.Lines.{HasNoFeed, whole_lines}
+use Rattle.script_session.specs.LogFiles.{command_refused, entry_cause, entry_lines, entry_read, first_cause, goes_on, id_again, log_from, next_entry, unless_refused, wrong_epoch}
+use Rattle.script_session.specs.Machine.{SessionState, entries_added, reply, reply_to, session_after, session_next}
+use Rattle.script_session.specs.code.StepParts.{IsNextEntry}
+use Rattle.script_session.specs.declared.refused_line.Cause.{Cause}
+use Rattle.script_session.specs.declared.refused_line.Cause.TheVariants as cause
+use Rattle.script_session.specs.declared.refused_line.RefusedLine.{RefusedLine}
+use Rattle.session_laws.proofs.LinesLemmas.{whole_lines-line}
+use Rattle.session_laws.proofs.texts.PlainEntries.{plain_data}
+use Rattle.session_laws.proofs.texts.PlainTexts.{HasNoFeed-plain}
+use Rattle.session_laws.proofs.texts.SaidValues.{FitsEntry, fits_by}
 use Rattle.tcm_session.proofs.inputs.SentLemmas.{none_added}
-use Rattle.tcm_session.proofs.machine.SessionLemmas.{IsSession, after_reply}
+use Rattle.script_session.proofs.SessionLemmas.{IsSession, after_reply}
 
 -- ---- the next entry of a log
 

@@ -3,8 +3,8 @@ use Rattle.std.proofs.Common.{◌≡◌, ◌≢◌, ℕ, zero, suc, ◌+◌, Boo
 use Rattle.std.specs.Str.{bytes_eq}
 use Rattle.tcm_edges.specs.Files.{Files, file_of, loaded_of}
 use Rattle.tcm_session.specs.Limits.{input_limit}
-use Rattle.tcm_session.specs.Lines.{HasNoFeed, whole_lines}
-use Rattle.tcm_session.specs.files.LogFiles.{goes_on}
+use Rattle.script_session.specs.Lines.{HasNoFeed, whole_lines}
+use Rattle.script_session.specs.LogFiles.{goes_on}
 use Rattle.tcm_session.specs.files.Replay.{answered, ending_of, full_count, files_replayed, line_replayed, lines_replayed, loaded_replayed, nothing_replayed, read_replayed, replay_ending, then_replayed}
 use Rattle.tcm_session.specs.code.Replays.{EndsSo, FoundMemory, HandsFile, HandsFiles, LeadsTo}
 use Rattle.cluster_terms.specs.declared.memory.Memory.{Memory}
@@ -15,16 +15,16 @@ use Rattle.follower_log.specs.declared.took.Took.{Took}
 use Rattle.tcm_session.specs.Run.{AreSeen}
 use Rattle.tcm_session.specs.code.Runs.{MayHold}
 use Rattle.tcm_session.specs.declared.ending.Ending.{Ending}
-use Rattle.tcm_session.specs.declared.files.refused_line.Cause.{Cause}
-use Rattle.tcm_session.specs.declared.files.refused_line.Cause.TheVariants as cause
+use Rattle.script_session.specs.declared.refused_line.Cause.{Cause}
+use Rattle.script_session.specs.declared.refused_line.Cause.TheVariants as cause
 use Rattle.tcm_session.specs.declared.files.replay.Replay.{Replay}
 use Rattle.tcm_session.proofs.log_files.CutFiles.{behind_held, behind_loaded, files_behind}
 use Rattle.wire_json.specs.Reading.{reading}
 use Rattle.wire_json.specs.declared.line.Line.{Line}
 use Rattle.wire_json.specs.declared.line.ReadLineFault.{ReadLineFault}
 use Rattle.wire_json.specs.declared.line.ReadLineFault.TheVariants as read
-use Rattle.tcm_session.proofs.inputs.LinesLemmas.{whole_lines-line, whole_lines-none}
-use Rattle.tcm_session.proofs.machine.StepEndLemmas.{read_bad, read_there, unread}
+use Rattle.session_laws.proofs.LinesLemmas.{whole_lines-line, whole_lines-none}
+use Rattle.script_session.proofs.StepEndLemmas.{read_bad, read_there, unread}
 
 -- ---- a line
 

@@ -15,16 +15,16 @@ use Rattle.wire_json.specs.declared.line.Line.{Line}
 use Rattle.wire_json.specs.declared.line.Line.TheVariants as line
 use Rattle.wire_json.specs.declared.line.ReadLineFault.{ReadLineFault}
 use Rattle.tcm_session.specs.Limits.{input_limit}
-use Rattle.tcm_session.specs.Lines.{whole_lines}
-use Rattle.tcm_session.specs.files.LogFiles.{goes_on}
+use Rattle.script_session.specs.Lines.{whole_lines}
+use Rattle.script_session.specs.LogFiles.{goes_on}
 use Rattle.tcm_session.specs.files.Replay.{answered, files_replayed, line_replayed, lines_replayed, loaded_replayed, nothing_replayed, read_replayed, then_replayed, unless_ended}
 use Rattle.tcm_session.specs.files.ReplayPrefix.{AreFilesOf, AreLinesOf, ComesToPrefix, ReadsAsPart, Taking, entry_taken, files_taken, image_taken, lines_taken, loaded_lines, nothing_yet, read_taken, taken_of_files}
-use Rattle.tcm_session.specs.session.Taken.{ShowsPrefix}
+use Rattle.script_session.specs.Taken.{ShowsPrefix}
 use Rattle.tcm_session.specs.declared.ending.Ending.{Ending}
-use Rattle.tcm_session.specs.declared.files.refused_line.Cause.{Cause}
-use Rattle.tcm_session.specs.declared.files.refused_line.RefusedLine.{RefusedLine}
+use Rattle.script_session.specs.declared.refused_line.Cause.{Cause}
+use Rattle.script_session.specs.declared.refused_line.RefusedLine.{RefusedLine}
 use Rattle.tcm_session.specs.declared.files.replay.Replay.{Replay}
-use Rattle.tcm_session.proofs.machine.TakenLemmas.{entry_ok, entry_shown, image_ok, image_shown}
+use Rattle.script_session.proofs.TakenLemmas.{entry_ok, entry_shown, image_ok, image_shown}
 
 module _ (log : List Entry) (is : IsLog log) where
   -- ---- lines

@@ -7,28 +7,28 @@ use Rattle.tcm_edges.specs.declared.store.Loaded.TheVariants as loaded
 use Rattle.tcm_session.specs.Counts.{Counts}
 use Rattle.tcm_session.specs.code.Endings.{IsReplayOf, status_by}
 use Rattle.tcm_session.specs.code.RunFaults.{counts_after, counts_by}
-use Rattle.tcm_session.specs.Generated.{gen_numbers}
+use Rattle.generated_scripts.specs.Generated.{gen_numbers}
 use Rattle.tcm_session.specs.Outcome.{Outcome, ended_outcome, gen_end, is_commit, is_replay, last_end, log_file, named_log, other_end, outcome, replayed_files}
 use Rattle.transformations.specs.History.{state_after}
 use Rattle.transformations.specs.Log.{commands_of}
 use Rattle.transformations.specs.declared.entry.Entry.{Entry}
 use Rattle.wire_json.specs.SnapshotTexts.{snapshot_line}
 use Rattle.script_lang.specs.AnswerTexts.{no_text}
-use Rattle.tcm_session.specs.files.LogFiles.{log_of}
-use Rattle.tcm_session.specs.session.Machine.{no_epoch}
+use Rattle.script_session.specs.LogFiles.{log_of}
+use Rattle.script_session.specs.Machine.{no_epoch}
 use Rattle.tcm_session.specs.Left.{LeavesFiles}
 use Rattle.tcm_session.specs.Limits.{input_limit}
-use Rattle.tcm_session.specs.Lines.{whole_lines}
+use Rattle.script_session.specs.Lines.{whole_lines}
 use Rattle.tcm_session.specs.files.Replay.{ending_of, files_replayed, lines_replayed, loaded_replayed, nothing_replayed, replay_ending, then_replayed, unless_ended}
 use Rattle.tcm_session.specs.code.Replays.{EndsSo, WritesLast, WritesSeen}
 use Rattle.tcm_session.specs.files.StateLine.{file_ending, log_ending, snapshot_ending, snapshot_words, state_ending}
 use Rattle.tcm_session.specs.Run.{AreSeen, IsFinal}
 use Rattle.tcm_session.specs.code.Runs.{IsEnd, MayHold, RunsFor, RunsSeen, Writes}
 use Rattle.tcm_session.specs.declared.ending.Ending.{Ending}
-use Rattle.tcm_session.specs.declared.fault.RunFault.{RunFault}
-use Rattle.tcm_session.specs.declared.fault.RunFault.TheVariants as fault
+use Rattle.tcm_session.specs.declared.run_fault.RunFault.{RunFault}
+use Rattle.tcm_session.specs.declared.run_fault.RunFault.TheVariants as fault
 use Rattle.tcm_session.specs.declared.program.Status.{Status}
-use Rattle.tcm_session.specs.declared.files.refused_line.RefusedLine.{RefusedLine}
+use Rattle.script_session.specs.declared.refused_line.RefusedLine.{RefusedLine}
 use Rattle.tcm_session.specs.declared.files.replay.Replay.{Replay}
 use Rattle.tcm_session.proofs.log_files.CutFiles.{behind_held, behind_loaded, files_behind}
 use Rattle.tcm_session.proofs.runs.LeftLemmas.{named_files}

@@ -4,14 +4,14 @@ use Rattle.tcm_edges.specs.Files.{Files, IsLoad, file_of, loaded_of}
 use Rattle.tcm_edges.specs.declared.store.Loaded.TheVariants as loaded
 use Rattle.tcm_edges.proofs.FileLemmas.{file_of-put, file_of-put_other}
 use Rattle.tcm_session.specs.Left.{GainsThese, LeavesFiles, LeavesLog}
-use Rattle.tcm_session.specs.Lines.{open_line}
+use Rattle.script_session.specs.Lines.{open_line}
 use Rattle.tcm_session.specs.code.Loading.{IsCut}
-use Rattle.tcm_session.specs.files.LogFiles.{cut_to_lines, lines_part, log_of, without_open}
-use Rattle.tcm_session.specs.session.Machine.{session_over}
+use Rattle.script_session.specs.LogFiles.{cut_to_lines, lines_part, log_of, without_open}
+use Rattle.script_session.specs.Machine.{session_over}
 use Rattle.tcm_session.specs.Outcome.{Outcome, named_log, outcome_from}
 use Rattle.tcm_session.specs.code.Stops.{Adds, IsKeptOrCut, LeavesLoaded, LeavesScript}
 use Rattle.transformations.specs.declared.entry.Entry.{Entry}
-use Rattle.tcm_session.proofs.inputs.LinesLemmas.{lines_whole}
+use Rattle.session_laws.proofs.LinesLemmas.{lines_whole}
 use Rattle.tcm_session.proofs.runs.RunOutcomes.{script_reads}
 use Rattle.tcm_session.proofs.runs.StopLemmas.{StopsIn-none}
 

@@ -2,8 +2,8 @@
 use Rattle.std.proofs.Common.{◌≡◌, Result, Ok, Err, IsErrAnd, sym, ap, ◌∙◌, arith}
 use Rattle.tcm_session.specs.Counts.{Counts}
 use Rattle.tcm_session.specs.code.RunFaults.{counts_after, counts_by}
-use Rattle.tcm_session.specs.declared.fault.RunFault.{RunFault}
-use Rattle.tcm_session.specs.declared.fault.RunFault.TheVariants as run
+use Rattle.tcm_session.specs.declared.run_fault.RunFault.{RunFault}
+use Rattle.tcm_session.specs.declared.run_fault.RunFault.TheVariants as run
 
 -- no fault of the source without a source
 pub not_source : (e : RunFault) (before after : Counts) → before.source ≡ 0 → after.source ≡ 0 → after ≡ counts_after e before → e ≡ run.Source → ⊥

@@ -15,17 +15,17 @@ use Rattle.tcm_edges.specs.declared.fault.LoadFault.{LoadFault}
 use Rattle.tcm_edges.specs.declared.fault.LoadFault.TheVariants as load
 use Rattle.tcm_session.specs.code.RunFaults.{counts_after, counts_by, of_load}
 use Rattle.tcm_session.specs.Left.{StopsNext}
-use Rattle.tcm_session.specs.Lines.{whole_lines}
-use Rattle.tcm_session.specs.files.LogFiles.{Gains, cut_to_lines, entry_lines, log_of, refused_line_text}
-use Rattle.tcm_session.specs.session.Machine.{answers, entries_added, session_over}
+use Rattle.script_session.specs.Lines.{whole_lines}
+use Rattle.script_session.specs.LogFiles.{Gains, cut_to_lines, entry_lines, log_of, refused_line_text}
+use Rattle.script_session.specs.Machine.{answers, entries_added, session_over}
 use Rattle.tcm_session.specs.Outcome.{Outcome, Start, commit_outcome, input_limit, is_commit, log_file, named_log, outcome, outcome_from, outcome_loaded, printed_by, script_outcome, unread_outcome}
 use Rattle.tcm_session.specs.Run.{ComesSurely, ComesTo, HasStatus, IsFinal, IsRun, IsStatus, ReadsFor, more_if}
 use Rattle.tcm_session.specs.code.Runs.{IsEnd, MayHold, ReadsTo, RunsFor, RunsOn, RunsSeen, Standing, StopsAt, Writes}
 use Rattle.tcm_session.specs.code.Stops.{LeavesScript, Stopped}
-use Rattle.tcm_session.specs.declared.fault.RunFault.{RunFault}
-use Rattle.tcm_session.specs.declared.fault.RunFault.TheVariants as fault
+use Rattle.tcm_session.specs.declared.run_fault.RunFault.{RunFault}
+use Rattle.tcm_session.specs.declared.run_fault.RunFault.TheVariants as fault
 use Rattle.tcm_session.specs.declared.program.Status.{Status}
-use Rattle.tcm_session.specs.declared.files.refused_line.RefusedLine.{RefusedLine}
+use Rattle.script_session.specs.declared.refused_line.RefusedLine.{RefusedLine}
 use Rattle.tcm_session.specs.declared.scripts.pieces.ReadEnd.{ReadEnd}
 use Rattle.tcm_session.specs.declared.scripts.pieces.ReadEnd.TheVariants as end
 use Rattle.tcm_session.proofs.log_files.CutFiles.{behind_held, behind_loaded, files_behind}

@@ -7,22 +7,22 @@ use Rattle.std.specs.Io.KnownBytes.{Appends, Consumes, IsAtEnd}
 use Rattle.tcm_edges.specs.Files.{Files}
 use Rattle.tcm_session.specs.code.Endings.{ending_lines, ending_status, ending_text}
 use Rattle.tcm_session.specs.Left.{StopsIn, StopsNext, next_added, next_text}
-use Rattle.tcm_session.specs.Lines.{whole_lines, open_line, if_any, script_lines}
-use Rattle.tcm_session.specs.files.LogFiles.{Gains, entry_lines, with_added}
-use Rattle.tcm_session.specs.session.Machine.{SessionState, answers, entries_added, reply, session_after, session_over}
+use Rattle.script_session.specs.Lines.{whole_lines, open_line, if_any, script_lines}
+use Rattle.script_session.specs.LogFiles.{Gains, entry_lines, with_added}
+use Rattle.script_session.specs.Machine.{SessionState, answers, entries_added, reply, session_after, session_over}
 use Rattle.tcm_session.specs.files.Replay.{replay_ending}
 use Rattle.tcm_session.specs.Outcome.{Outcome, Start, commit_outcome, ended_outcome, files_with, input_limit, is_commit, is_replay, large_outcome, last_end, log_file, other_end, outcome, printed_by, replayed_files, script_outcome, too_large_text, whole_outcome}
 use Rattle.tcm_session.specs.files.StateLine.{snapshot_words}
 use Rattle.tcm_session.specs.code.Runs.{MayHold, ReadsTo, Standing, StopsAt, standing}
 use Rattle.tcm_session.specs.code.Stops.{Stopped, StopsThere}
-use Rattle.tcm_session.specs.declared.fault.RunFault.{RunFault}
-use Rattle.tcm_session.specs.declared.fault.RunFault.TheVariants as fault
+use Rattle.tcm_session.specs.declared.run_fault.RunFault.{RunFault}
+use Rattle.tcm_session.specs.declared.run_fault.RunFault.TheVariants as fault
 use Rattle.tcm_session.specs.declared.scripts.pieces.ReadEnd.{ReadEnd}
 use Rattle.tcm_session.specs.declared.scripts.pieces.ReadEnd.TheVariants as end
-use Rattle.tcm_session.proofs.machine.AnswersLemmas.{answers-append, entries_added-append}
-use Rattle.tcm_session.proofs.log_files.GainLemmas.{with_added-append, with_added-nil}
+use Rattle.script_session.proofs.AnswersLemmas.{answers-append, entries_added-append}
+use Rattle.script_session.proofs.GainLemmas.{with_added-append, with_added-nil}
 use Rattle.tcm_session.proofs.inputs.BegunLines.{answers-any_kept, entries_added-any_kept}
-use Rattle.tcm_session.proofs.inputs.LinesLemmas.{whole_lines-append}
+use Rattle.session_laws.proofs.LinesLemmas.{whole_lines-append}
 use Rattle.tcm_session.proofs.runs.StopLemmas.{Adds-of_gains, Stopped-after, Stopped-map, StopsIn-lines, StopsIn-more, StopsIn-next, StopsIn-session, StopsIn-then, all_done, entry_lines-append}
 
 -- ---- the outcome by the length of the input

@@ -1,13 +1,13 @@
 -- The words of `commit` and `replay`, the text that is written after a script was read, and the statuses.
 use Rattle.std.specs.Prelude.{◌≡◌, ℕ, true, false, List, [], Option, None, Some, Result, Ok, Err}
-use Rattle.tcm_session.specs.Lines.{if_any}
-use Rattle.tcm_session.specs.session.Machine.{SessionState, answers}
+use Rattle.script_session.specs.Lines.{if_any}
+use Rattle.script_session.specs.Machine.{SessionState, answers}
 use Rattle.tcm_session.specs.Outcome.{is_commit, is_replay, log_file, replayed_files, too_large_text}
 use Rattle.tcm_session.specs.declared.program.Status.{Status}
 use Rattle.tcm_session.specs.declared.scripts.pieces.ReadEnd.{ReadEnd}
 use Rattle.tcm_session.specs.declared.scripts.pieces.ReadEnd.TheVariants as end
-use Rattle.tcm_session.specs.declared.fault.RunFault.{RunFault}
-use Rattle.tcm_session.specs.declared.fault.RunFault.TheVariants as fault
+use Rattle.tcm_session.specs.declared.run_fault.RunFault.{RunFault}
+use Rattle.tcm_session.specs.declared.run_fault.RunFault.TheVariants as fault
 
 -- at the end of the input a line that has begun is answered; past the limit the text for an input that is too large is
 -- written

@@ -1,9 +1,9 @@
 -- Opening a log file.
 use Rattle.std.specs.Prelude.{◌≡◌, ℕ, ◌≤◌, List, length, take, drop, Ok, Err, Option, option_map}
 use Rattle.tcm_edges.specs.Files.{Files}
-use Rattle.tcm_session.specs.Lines.{open_line}
-use Rattle.tcm_session.specs.files.LogFiles.{cut_to_lines, lines_part, log_of}
-use Rattle.tcm_session.specs.session.Machine.{SessionState, session_over}
+use Rattle.script_session.specs.Lines.{open_line}
+use Rattle.script_session.specs.LogFiles.{cut_to_lines, lines_part, log_of}
+use Rattle.script_session.specs.Machine.{SessionState, session_over}
 use Rattle.tcm_session.specs.declared.files.log_file.LogFault.{LogFault}
 use Rattle.tcm_session.specs.declared.files.log_file.LogFault.TheVariants.{Refused, Memory}
 

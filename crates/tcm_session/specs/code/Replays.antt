@@ -13,7 +13,7 @@ use Rattle.tcm_session.specs.Outcome.{Outcome}
 use Rattle.tcm_session.specs.files.Replay.{files_replayed, loaded_replayed, nothing_replayed}
 use Rattle.tcm_session.specs.Run.{AreSeen}
 use Rattle.tcm_session.specs.declared.ending.Ending.{Ending}
-use Rattle.tcm_session.specs.declared.fault.RunFault.{RunFault}
+use Rattle.tcm_session.specs.declared.run_fault.RunFault.{RunFault}
 use Rattle.tcm_session.specs.declared.program.Status.{Status}
 use Rattle.tcm_session.specs.declared.files.replay.Replay.{Replay}
 

@@ -6,21 +6,17 @@ use Rattle.tcm_edges.specs.declared.fault.LoadFault.TheVariants as load
 use Rattle.tcm_edges.specs.declared.fault.WriteFault.{WriteFault}
 use Rattle.tcm_edges.specs.declared.fault.WriteFault.TheVariants as write
 use Rattle.tcm_session.specs.Counts.{Counts}
-use Rattle.tcm_session.specs.declared.fault.RunFault.{RunFault}
-use Rattle.tcm_session.specs.declared.fault.RunFault.TheVariants as run
-use Rattle.tcm_session.specs.declared.fault.StepFault.{StepFault}
-use Rattle.tcm_session.specs.declared.fault.StepFault.TheVariants as step
+use Rattle.tcm_session.specs.declared.run_fault.RunFault.{RunFault}
+use Rattle.tcm_session.specs.declared.run_fault.RunFault.TheVariants as run
+use Rattle.script_session.specs.declared.fault.StepFault.{StepFault}
+use Rattle.script_session.specs.declared.fault.StepFault.TheVariants as step
 
 -- the fault of a run that failed to write to its sink
 abbrev pub of_write : WriteFault → RunFault
 of_write write.Failed = run.Sink
 of_write write.Memory = run.Memory
 
--- the fault of a step, and of a run, that failed to change a file
-abbrev pub of_append : WriteFault → StepFault
-of_append write.Failed = step.Store
-of_append write.Memory = step.Memory
-
+-- the fault of a run in which a step failed
 abbrev pub of_step : StepFault → RunFault
 of_step step.Memory = run.Memory
 of_step step.Store = run.Store

@@ -5,14 +5,14 @@ use Rattle.tcm_edges.specs.Files.{Files}
 use Rattle.tcm_edges.specs.Owed.{WritesPrefix}
 use Rattle.tcm_session.specs.Counts.{Counts}
 use Rattle.tcm_session.specs.code.RunFaults.{counts_by}
-use Rattle.tcm_session.specs.Lines.{HasNoFeed, whole_lines, open_line}
-use Rattle.tcm_session.specs.files.LogFiles.{Gains, entry_lines}
-use Rattle.tcm_session.specs.session.Machine.{SessionState, answers, entries_added, session_after}
+use Rattle.script_session.specs.Lines.{HasNoFeed, whole_lines, open_line}
+use Rattle.script_session.specs.LogFiles.{Gains, entry_lines}
+use Rattle.script_session.specs.Machine.{SessionState, answers, entries_added, session_after}
 use Rattle.tcm_session.specs.Outcome.{Outcome, input_limit}
 use Rattle.tcm_session.specs.Run.{AreSeen, ComesTo, IsFinal, ReadsFor}
 use Rattle.tcm_session.specs.code.Stops.{Stopped, StopsThere}
-use Rattle.tcm_session.specs.declared.fault.RunFault.{RunFault}
-use Rattle.tcm_session.specs.declared.fault.RunFault.TheVariants as fault
+use Rattle.tcm_session.specs.declared.run_fault.RunFault.{RunFault}
+use Rattle.tcm_session.specs.declared.run_fault.RunFault.TheVariants as fault
 use Rattle.tcm_session.specs.declared.scripts.pieces.ReadEnd.{ReadEnd}
 use Rattle.tcm_session.specs.declared.scripts.pieces.ReadEnd.TheVariants as end
 

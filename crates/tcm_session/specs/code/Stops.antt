@@ -3,8 +3,8 @@ use Rattle.std.specs.Prelude.{◌≡◌, ◌⊎◌, ℕ, true, List, [], Option,
 use Rattle.std.specs.Io.KnownBytes.{Appends}
 use Rattle.tcm_edges.specs.Files.{ChangesFile, Files, OthersKept, file_of}
 use Rattle.tcm_session.specs.Left.{GainsThese, LeavesFiles, StopsIn}
-use Rattle.tcm_session.specs.files.LogFiles.{lines_part}
-use Rattle.tcm_session.specs.session.Machine.{SessionState, session_over}
+use Rattle.script_session.specs.LogFiles.{lines_part}
+use Rattle.script_session.specs.Machine.{SessionState, session_over}
 use Rattle.tcm_session.specs.Outcome.{Outcome}
 
 -- bytes are added to the file with this name, if one is named

@@ -2,9 +2,9 @@
 use Rattle.std.specs.Prelude.{ℕ, List, ◌++◌, codes}
 use Rattle.script_lang.specs.AnswerTexts.{line}
 use Rattle.tcm_session.specs.Limits.{too_large_text}
-use Rattle.tcm_session.specs.files.LogFiles.{refused_line_text}
+use Rattle.script_session.specs.LogFiles.{refused_line_text}
 use Rattle.tcm_session.specs.declared.ending.Ending.{Ending}
-use Rattle.tcm_session.specs.declared.files.refused_line.RefusedLine.{RefusedLine}
+use Rattle.script_session.specs.declared.refused_line.RefusedLine.{RefusedLine}
 
 abbrev pub absent_end : List ℕ → Ending
 absent_end name = record { status = 7; text = line (codes "NO FILE " ++ name) }

@@ -17,13 +17,13 @@ use Rattle.wire_json.specs.declared.line.ReadLineFault.{ReadLineFault}
 use Rattle.wire_json.specs.declared.line.ReadLineFault.TheVariants as read
 use Rattle.script_lang.specs.AnswerTexts.{line as with_feed, nodes_text, place_text}
 use Rattle.tcm_session.specs.Limits.{input_limit}
-use Rattle.tcm_session.specs.Lines.{whole_lines}
+use Rattle.script_session.specs.Lines.{whole_lines}
 use Rattle.tcm_session.specs.files.FileEnds.{absent_end, refused_end, too_large_end}
-use Rattle.tcm_session.specs.files.LogFiles.{goes_on}
+use Rattle.script_session.specs.LogFiles.{goes_on}
 use Rattle.tcm_session.specs.declared.ending.Ending.{Ending}
-use Rattle.tcm_session.specs.declared.files.refused_line.Cause.{Cause}
-use Rattle.tcm_session.specs.declared.files.refused_line.Cause.TheVariants as cause
-use Rattle.tcm_session.specs.declared.files.refused_line.RefusedLine.{RefusedLine}
+use Rattle.script_session.specs.declared.refused_line.Cause.{Cause}
+use Rattle.script_session.specs.declared.refused_line.Cause.TheVariants as cause
+use Rattle.script_session.specs.declared.refused_line.RefusedLine.{RefusedLine}
 use Rattle.tcm_session.specs.declared.files.replay.Replay.{Replay}
 
 -- the replay before the first line

@@ -13,9 +13,9 @@ use Rattle.wire_json.specs.declared.line.Line.{Line}
 use Rattle.wire_json.specs.declared.line.Line.TheVariants as line
 use Rattle.wire_json.specs.declared.line.ReadLineFault.{ReadLineFault}
 use Rattle.tcm_session.specs.Limits.{input_limit}
-use Rattle.tcm_session.specs.Lines.{whole_lines}
+use Rattle.script_session.specs.Lines.{whole_lines}
 use Rattle.tcm_session.specs.files.Replay.{report_text}
-use Rattle.tcm_session.specs.session.Taken.{ShowsPrefix, unless_full}
+use Rattle.script_session.specs.Taken.{ShowsPrefix, unless_full}
 use Rattle.tcm_session.specs.declared.ending.Ending.{Ending}
 use Rattle.tcm_session.specs.declared.files.replay.Replay.{Replay}
 

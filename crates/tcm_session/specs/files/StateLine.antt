@@ -12,10 +12,10 @@ use Rattle.script_lang.specs.Grammar.{number_below}
 use Rattle.script_lang.specs.AnswerTexts.{no_text}
 use Rattle.tcm_session.specs.Limits.{input_limit}
 use Rattle.tcm_session.specs.files.FileEnds.{absent_end, refused_end, too_large_end}
-use Rattle.tcm_session.specs.files.LogFiles.{log_of}
-use Rattle.tcm_session.specs.session.Machine.{no_epoch}
+use Rattle.script_session.specs.LogFiles.{log_of}
+use Rattle.script_session.specs.Machine.{no_epoch}
 use Rattle.tcm_session.specs.declared.ending.Ending.{Ending}
-use Rattle.tcm_session.specs.declared.files.refused_line.RefusedLine.{RefusedLine}
+use Rattle.script_session.specs.declared.refused_line.RefusedLine.{RefusedLine}
 
 -- the file and the epoch, if the words are `snapshot LOG E`
 unfoldable pub snapshot_words : List (List ℕ) → Option (List ℕ × ℕ)

@@ -2,13 +2,12 @@
 
 ghost use Rattle.std.specs.Prelude.{◌≡◌, [], IfErr, IfOk};
 ghost use Rattle.tcm_session.specs.code.Loading.{IsOpened, IsUnopened};
-ghost use Rattle.tcm_session.specs.session.Machine.{session_over};
+ghost use Rattle.script_session.specs.Machine.{session_over};
 ghost use Rattle.tcm_session.specs.declared.files.log_file.LogFault.TheVariants as log_fault;
 
-use crate::files::refused_line::RefusedLine;
 use crate::scripts::lines::cut_line;
-use crate::session::Session;
 use cluster_terms::Memory;
+use script_session::{RefusedLine, Session};
 use std::alloc::Global;
 
 /// Why the log in a file isn't opened.

@@ -8,12 +8,12 @@ ghost use Rattle.tcm_session.specs.files.Replay as spec;
 ghost use Rattle.tcm_session.specs.code.Replays.{EndsSo};
 
 use crate::ending::Ending;
-use crate::fault::RunFault;
 use crate::files::replay::{Replay, hand_files};
-use crate::session::place_text::placements_text;
+use crate::run_fault::RunFault;
 use cluster_metadata::Metadata;
 use cluster_terms::{ByteText, Memory};
 use script_lang::{labelled, nodes_text};
+use script_session::placements_text;
 use std::alloc::Global;
 use tcm_edges::Store;
 

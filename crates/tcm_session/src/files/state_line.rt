@@ -3,17 +3,17 @@
 ghost use Rattle.std.specs.Prelude.{◌≡◌, map, option_map, string_bytes, IfOk};
 ghost use Rattle.tcm_session.specs.Counts.{counts};
 ghost use Rattle.tcm_session.specs.code.RunFaults.{counts_by};
-ghost use Rattle.tcm_session.specs.files.LogFiles.{log_of};
+ghost use Rattle.script_session.specs.LogFiles.{log_of};
 ghost use Rattle.tcm_session.specs.code.Replays.{EndsSo};
 ghost use Rattle.tcm_session.specs.files.StateLine as spec;
 
 use crate::ending::Ending;
-use crate::fault::RunFault;
 use crate::files::log_file::{LogFault, open_log};
 use crate::limits::FILE_LIMIT;
-use crate::session::Session;
+use crate::run_fault::RunFault;
 use cluster_terms::Memory;
 use script_lang::number_of;
+use script_session::Session;
 use std::alloc::Global;
 use tcm_edges::{Loaded, Store};
 use wire_json::snapshot_line;

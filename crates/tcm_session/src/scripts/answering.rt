@@ -5,17 +5,16 @@ ghost use Rattle.std.specs.Option.{option_copied};
 ghost use Rattle.tcm_session.specs.Counts.{counts};
 ghost use Rattle.tcm_session.specs.code.RunFaults.{counts_by};
 ghost use Rattle.tcm_session.specs.Left.{StopsIn, StopsNext};
-ghost use Rattle.tcm_session.specs.Lines.{whole_lines};
-ghost use Rattle.tcm_session.specs.files.LogFiles.{Gains, entry_lines};
-ghost use Rattle.tcm_session.specs.session.Machine.{reply, session_next};
+ghost use Rattle.script_session.specs.Lines.{whole_lines};
+ghost use Rattle.script_session.specs.LogFiles.{Gains, entry_lines};
+ghost use Rattle.script_session.specs.Machine.{reply, session_next};
 ghost use Rattle.tcm_session.specs.code.Runs.{IsBegun, LeavesStore, Takes, Writes, standing};
 ghost use Rattle.tcm_session.specs.code.Stops.{Stopped};
 
-use crate::fault::RunFault;
-use crate::limits::TEXT_ROOM;
+use crate::run_fault::RunFault;
 use crate::scripts::lines::{cut_line, keep_begun};
-use crate::session::Session;
 use cluster_terms::ByteText;
+use script_session::{Session, TEXT_ROOM};
 use std::alloc::Global;
 use tcm_edges::{Sink, Store, write_all};
 

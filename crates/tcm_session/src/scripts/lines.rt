@@ -1,7 +1,7 @@
 //! Cuts the pieces of a script into lines, and keeps the line that has begun.
 
 ghost use Rattle.std.specs.Prelude.{◌≡◌, ◌∷◌, ◌++◌, length, IfNone, IfSome, OnErr, OnOk};
-ghost use Rattle.tcm_session.specs.Lines.{HasNoFeed};
+ghost use Rattle.script_session.specs.Lines.{HasNoFeed};
 ghost use Rattle.tcm_session.specs.code.Runs.{IsBegun, kept_of};
 
 use cluster_terms::Memory;

@@ -7,11 +7,11 @@ ghost use Rattle.tcm_session.specs.Counts.{counts};
 ghost use Rattle.tcm_session.specs.code.RunFaults.{counts_by};
 ghost use Rattle.tcm_session.specs.Outcome.{input_limit};
 ghost use Rattle.tcm_session.specs.code.Runs.{IsBegun, LeavesStore, ReadsOnce, ReadsPast, ReadsTo, StopsAt, standing};
-ghost use Rattle.tcm_session.specs.declared.fault.RunFault.TheVariants as fault;
+ghost use Rattle.tcm_session.specs.declared.run_fault.RunFault.TheVariants as fault;
 
-use crate::fault::RunFault;
+use crate::run_fault::RunFault;
 use crate::scripts::answering::feed;
-use crate::session::Session;
+use script_session::Session;
 use std::alloc::Global;
 use tcm_edges::{Sink, Source, Store};
 

@@ -1,6 +1,7 @@
 use Rattle.std.proofs.Common.{◌≡◌, ℕ, ◌+◌, ◌-◌, ◌++◌, take, drop, ap, sym, ◌∙◌, subst, arith}
 use Rattle.range_placements.proofs.InPlaceEdits.{all_added, all_passed, begin, last_made}
-use Rattle.range_placements.specs.Editing.{edited_rows, row_count, rows_added, rows_passed, with_first}
+use Rattle.range_placements.specs.Editing.{edited_rows, rows_passed, with_first}
+use Rattle.range_placements.specs.code.EditCounts.{row_count, rows_added}
 use Rattle.range_placements.specs.code.InPlace.{LeadsTo}
 use Rattle.range_placements.specs.declared.edits_in_place.Gap.{Gap}
 use Rattle.range_placements.proofs.edits_in_place.edit_in_place.Goals as goal

@@ -1,6 +1,7 @@
 use Rattle.std.proofs.Common.{◌≡◌, ◌+◌, ◌≤◌, ◌++◌, vec_capacity, vec_len}
 use Rattle.std.specs.Vec.Iter.{into_iter_items}
-use Rattle.range_placements.specs.Editing.{edited_rows, rows_made}
+use Rattle.range_placements.specs.Editing.{edited_rows}
+use Rattle.range_placements.specs.code.EditCounts.{rows_made}
 use Rattle.range_placements.proofs.edits_in_room.edit_into.Given as goal
 
 -- the edits that are left, in the rows that are left, lead to the same rows; and there is room for them

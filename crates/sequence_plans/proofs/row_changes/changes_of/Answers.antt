@@ -4,7 +4,7 @@ use Rattle.cluster_terms.specs.declared.row.TokenRange.{TokenRange}
 use Rattle.placement_deltas.proofs.ChangesLemmas.{joined_more}
 use Rattle.placement_deltas.specs.code.Changes.{AreJoined}
 use Rattle.placement_deltas.specs.declared.delta_row.DeltaRow.{DeltaRow}
-use Rattle.sequence_plans.specs.Placers.{placed_by}
+use Rattle.replica_placer.specs.Placers.{placed_by}
 use Rattle.sequence_plans.specs.code.RowChanges.{change_at}
 use Rattle.sequence_plans.proofs.row_changes.changes_of.Goals as goal
 

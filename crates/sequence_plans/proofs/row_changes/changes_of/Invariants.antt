@@ -1,6 +1,6 @@
 use Rattle.std.proofs.Common.{map, take}
 use Rattle.placement_deltas.specs.code.Changes.{AreJoined}
-use Rattle.sequence_plans.specs.Placers.{placed_by}
+use Rattle.replica_placer.specs.Placers.{placed_by}
 use Rattle.sequence_plans.specs.code.RowChanges.{change_at}
 use Rattle.sequence_plans.proofs.row_changes.changes_of.Given as goal
 

@@ -2,7 +2,7 @@ use Rattle.std.proofs.Common.{OnOk, sym, ◌∙◌, subst}
 use Rattle.placement_deltas.specs.code.Changes.{AreWithRow}
 use Rattle.placement_deltas.specs.declared.delta_row.DeltaRow.{DeltaRow}
 use Rattle.sequence_plans.proofs.RowChangeLemmas.{outside_ranges, within_ranges}
-use Rattle.sequence_plans.specs.Placers.{placed_by}
+use Rattle.replica_placer.specs.Placers.{placed_by}
 use Rattle.sequence_plans.proofs.row_changes.push_row.Goals as goal
 
 pub returns-then-not-contains : goal.returns-then-not-contains

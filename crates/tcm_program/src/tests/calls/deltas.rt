@@ -107,7 +107,7 @@ fn sets_of(alloc: Global, sets: &[&[u32]]) -> Result<Vec<NodeSet>, Fail> {
     Ok(list)
 }
 
-fn delta_of(
+pub fn delta_of(
     alloc: Global,
     cuts: &[i64],
     before: &[&[u32]],

@@ -11,7 +11,7 @@ use crate::tests::running::Script;
 use crate::tests::{joins, locks, racks, steps};
 use cluster_metadata::Metadata;
 use cluster_terms::{ByteText, Steps, TryCopy};
-use placement_deltas::{DeltaBookRow, Plan};
+use placement_deltas::{DeltaBook, Plan};
 use script_lang::{ScriptLine, nodes_text, parse_line};
 use sequence_plans::plan;
 use std::alloc::Global;
@@ -335,7 +335,7 @@ fn lines_of(scripts: &'static [Script], name: &str) -> Result<&'static str, Fail
 }
 
 /// The opening and the lines of the script that a letter stands for.
-fn script_of(letter: u8) -> Result<(&'static str, &'static str), Fail> {
+pub fn script_of(letter: u8) -> Result<(&'static str, &'static str), Fail> {
     match letter {
         b'j' => Ok((NOTHING, lines_of(&joins::FROM_NOTHING, "two-joins")?)),
         b'w' => Ok((SIX, lines_of(&locks::ON_SIX, "leave-widens")?)),
@@ -366,7 +366,12 @@ fn commit(alloc: Global, metadata: &mut Metadata, line: &[u8], last: u16) -> Res
 }
 
 /// Applies the commits of lines up to this epoch. The id of each is its epoch.
-fn commit_to(alloc: Global, metadata: &mut Metadata, lines: &str, last: u16) -> Result<(), Fail> {
+pub fn commit_to(
+    alloc: Global,
+    metadata: &mut Metadata,
+    lines: &str,
+    last: u16,
+) -> Result<(), Fail> {
     for line in lines.as_bytes().split(|byte| *byte == b'\n') {
         commit(alloc, metadata, line, last)?;
     }
@@ -393,9 +398,9 @@ fn planned<L: Ledger>(
 }
 
 /// A word and the rows of a delta, for each replication.
-fn book_text(alloc: Global, word: &str, book: &[DeltaBookRow]) -> Result<String, Fail> {
+fn book_text(alloc: Global, word: &str, book: &DeltaBook) -> Result<String, Fail> {
     let mut text = String::new(alloc);
-    for row in book {
+    for row in book.as_slice() {
         text.push_str(word)?;
         text.push_str("\n")?;
         text.push_str(&delta_text(alloc, &row.delta)?)?;
@@ -403,11 +408,12 @@ fn book_text(alloc: Global, word: &str, book: &[DeltaBookRow]) -> Result<String,
     Ok(text)
 }
 
+/// The texts of copies of the deltas of a plan.
 fn plan_text(alloc: Global, plan: &Plan) -> Result<String, Fail> {
     let node = plan.row.node.0;
-    let gain = book_text(alloc, "gain", plan.gain.as_slice())?;
-    let swap = book_text(alloc, "swap", plan.swap.as_slice())?;
-    let lose = book_text(alloc, "lose", plan.lose.as_slice())?;
+    let gain = book_text(alloc, "gain", &plan.gain.copy()?)?;
+    let swap = book_text(alloc, "swap", &plan.swap.copy()?)?;
+    let lose = book_text(alloc, "lose", &plan.lose.copy()?)?;
     Ok(format!(in alloc; "node {node}\n{gain}{swap}{lose}")?)
 }
 

@@ -1,4 +1,4 @@
-//! Rings of pairs, and ranges between few cuts.
+//! Rings of pairs, ranges between few cuts, and locks.
 
 ghost use Rattle.std.specs.Prelude.{◌≡◌, IfOk};
 ghost use Rattle.std.specs.List.Sorted.{IsStrictlySortedBy};
@@ -8,6 +8,7 @@ ghost use Rattle.token_ring.specs.TokenRanges.{AreCutOut};
 use cluster_terms::{
     NodeId, Pair, Replication, Rf, RightEnd, Token, TokenList, TryCopy, rows_between,
 };
+use locked_ranges::LockTable;
 use std::alloc::Global;
 use std::process::Abort;
 use std::test::Fail;
@@ -171,14 +172,33 @@ fn locks(alloc: Global) -> Result<LockRow, Fail> {
     }
 }
 
+/// Compares a row with the ranges of node 7.
+fn is_of_node_7<A: Abort>(rt: &A, row: &LockRow) {
+    assert_eq!(rt; row.node, NodeId(7));
+    assert_eq!(rt; row.ranges.as_slice().len(), 1);
+    assert!(rt; shows(&row.ranges.as_slice()[0].ranges, &[(Some(0), Some(5))]));
+}
+
+/// A table is copied, and unlocked with its one key. The copy stays.
+fn a_table_is_copied<A: Abort>(rt: &A, alloc: Global) -> Result<(), Fail> {
+    let LockRow { node, ranges } = locks(alloc)?.copy()?;
+    let mut table = LockTable::empty(alloc);
+    let Ok(key) = table.lock(node, ranges) else {
+        return Err("memory")?;
+    };
+    let copied = table.copy();
+    table.unlock(key);
+    assert!(rt; table.rows().is_empty());
+    let copied = copied?;
+    assert_eq!(rt; copied.rows().len(), 1);
+    is_of_node_7(rt, &copied.rows()[0]);
+    Ok(())
+}
+
 #[test]
 fn rings_and_ranges(rt: HostRuntime) -> Result<(), Fail> {
     owners(&rt, rt.alloc())?;
     added_and_gone(&rt, rt.alloc())?;
     ranges_of_tokens(&rt, rt.alloc())?;
-    let copied = locks(rt.alloc())?.copy()?;
-    assert_eq!(rt; copied.node, NodeId(7));
-    assert_eq!(rt; copied.ranges.as_slice().len(), 1);
-    assert!(rt; shows(&copied.ranges.as_slice()[0].ranges, &[(Some(0), Some(5))]));
-    Ok(())
+    a_table_is_copied(&rt, rt.alloc())
 }

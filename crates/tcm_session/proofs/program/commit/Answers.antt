@@ -1,4 +1,4 @@
-use Rattle.tcm_session.specs.declared.fault.RunFault.TheVariants as fault
+use Rattle.tcm_session.specs.declared.run_fault.RunFault.TheVariants as fault
 use Rattle.tcm_session.proofs.runs.RunLemmas.{runs_err, runs_none}
 use Rattle.tcm_session.proofs.program.commit.Goals as goal
 

@@ -1,6 +1,6 @@
 use Rattle.std.proofs.Common.{refl, sym, subst, true≢false}
 use Rattle.tcm_session.specs.code.Loading.{IsUnopened}
-use Rattle.tcm_session.specs.files.LogFiles.{cut_to_lines}
+use Rattle.script_session.specs.LogFiles.{cut_to_lines}
 use Rattle.tcm_session.proofs.log_files.CutFiles.{held_cut}
 use Rattle.tcm_session.proofs.runs.LeftLemmas.{good_reads, loaded_cut, loaded_same, loaded_script}
 use Rattle.tcm_session.proofs.runs.RunCauses.{not_source}

@@ -1,4 +1,4 @@
-use Rattle.tcm_session.proofs.quorums.PrintedLemmas.{is_run}
+use Rattle.tcm_session.proofs.printed.PrintedLemmas.{is_run}
 use Rattle.tcm_session.proofs.runs.RunLemmas.{not_6, shows_status}
 use Rattle.tcm_session.proofs.program.run.Goals as goal
 

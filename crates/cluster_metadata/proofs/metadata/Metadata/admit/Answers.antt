@@ -1,7 +1,7 @@
 use Rattle.std.proofs.Common.{◌≡◌, None, Some}
 use Rattle.transformations.specs.Refusals.{early_refusal_of, refusal_of}
 use Rattle.cluster_metadata.proofs.locks.LockRefusals.{early_first}
-use Rattle.cluster_metadata.proofs.placement_maps.ChangeMoves.{map_steps}
+use Rattle.cluster_metadata.proofs.map_changes.ChangeMoves.{map_steps}
 use Rattle.cluster_metadata.proofs.PermitOutcomes.{valid_changed}
 use Rattle.cluster_metadata.proofs.metadata.Metadata.admit.Goals as goal
 

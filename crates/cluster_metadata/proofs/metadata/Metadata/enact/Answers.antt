@@ -3,16 +3,16 @@ use Rattle.transformation_laws.proofs.cut_changes.CutsFollowed.{same_across}
 use Rattle.transformations.specs.Meeting.{QuorumsMeet, makes_movement_epoch}
 use Rattle.transformations.specs.Ranges.{KeepsRanges}
 use Rattle.transformations.specs.Valid.{IsValid}
-use Rattle.cluster_metadata.proofs.placement_maps.DeltasAcross.{deltas_across}
+use Rattle.cluster_metadata.proofs.map_changes.DeltasAcross.{deltas_across}
 use Rattle.cluster_metadata.proofs.locks.LockPlaces.{locks_named}
 use Rattle.cluster_metadata.proofs.locks.LocksKept.{locks_held}
 use Rattle.cluster_metadata.proofs.locks.LocksTaken.{may_lock}
 use Rattle.cluster_metadata.proofs.PermitOutcomes.{acts_by_delta, cuts_move, keeps_ranges, placed, placements, quorums_meet, replications_kept, rings, valid_after}
 use Rattle.cluster_metadata.proofs.in_flight.PlanLemmas.{deltas_held}
-use Rattle.cluster_metadata.proofs.placement_maps.EditedMaps.{maps_hold}
+use Rattle.placement_maps.proofs.EditedMaps.{maps_hold}
 use Rattle.cluster_metadata.specs.code.Change.{changed}
 use Rattle.cluster_metadata.specs.CutDeltas.{ActsByDelta, CutsMove}
-use Rattle.cluster_metadata.specs.code.ShownMaps.{AreMaps}
+use Rattle.placement_maps.specs.code.ShownMaps.{AreMaps}
 use Rattle.cluster_metadata.specs.code.PermitParts.{IsPermitted}
 use Rattle.cluster_metadata.proofs.metadata.Metadata.enact.Goals as goal
 

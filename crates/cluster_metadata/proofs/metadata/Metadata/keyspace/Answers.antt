@@ -2,7 +2,7 @@ use Rattle.std.proofs.Common.{◌≤◌, length, subst}
 use Rattle.transformations.proofs.quorums.AdjacentLemmas.{each_exist, each_written, meet_itself}
 use Rattle.transformations.specs.Meeting.{QuorumsExistTogether, QuorumsMeet, ReadsAreWritten}
 use Rattle.transformations.specs.Rings.{writes_at}
-use Rattle.cluster_metadata.proofs.placement_maps.ImageRings.{few_served}
+use Rattle.placement_maps.proofs.ImageRings.{few_served}
 use Rattle.cluster_metadata.proofs.metadata.Metadata.keyspace.Goals as goal
 
 pub returns-clause-few : goal.returns-clause-few

@@ -1,9 +1,9 @@
 use Rattle.std.proofs.Common.{◌≡◌, Some, option_map, ap, sym, ◌∙◌, subst}
 use Rattle.transformations.specs.declared.keyspace.KeyspaceRow.{KeyspaceRow}
-use Rattle.cluster_metadata.proofs.placement_maps.MapBooks.{map_found}
-use Rattle.cluster_metadata.specs.Maps.{placement_rows}
-use Rattle.cluster_metadata.specs.code.ShownMaps.{AreMaps}
-use Rattle.cluster_metadata.specs.Served.{keyspace_of}
+use Rattle.placement_maps.proofs.MapBooks.{map_found}
+use Rattle.placement_maps.specs.Maps.{placement_rows}
+use Rattle.placement_maps.specs.code.ShownMaps.{AreMaps}
+use Rattle.placement_maps.specs.Served.{keyspace_of}
 use Rattle.cluster_metadata.proofs.metadata.Metadata.map.Goals as goal
 
 pub returns-in-Some-clause-found : goal.returns-in-Some-clause-found

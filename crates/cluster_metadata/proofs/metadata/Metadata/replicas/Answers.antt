@@ -1,6 +1,6 @@
 use Rattle.std.proofs.Common.{ℕ, ◌≤◌, ◌≤ℤ◌, List, Some, length, ap, sym, ◌∙◌, subst, rules}
 use Rattle.cluster_terms.specs.Arc.{greatest_token}
-use Rattle.cluster_metadata.proofs.placement_maps.MapBooks.{few_found, no_step, served_found}
+use Rattle.placement_maps.proofs.MapBooks.{few_found, no_step, served_found}
 use Rattle.cluster_metadata.proofs.metadata.Metadata.replicas.Goals as goal
 
 pub returns-in-Some-clause-sets : goal.returns-in-Some-clause-sets

@@ -1,7 +1,8 @@
 use Rattle.std.proofs.Common.{◌≡◌, ℕ, ◌+◌, ◌∷◌, ◌++◌, [], List, ap, sym, ◌∙◌, arith}
 use Rattle.std.specs.Prelude.{Some}
 use Rattle.range_placements.proofs.EditedRows.{adds_make, one_adds, one_makes, one_passes, put_edited}
-use Rattle.range_placements.specs.Editing.{Edits, all_passed, edited, edited_rows, rows_added, rows_made, rows_passed}
+use Rattle.range_placements.specs.Editing.{Edits, all_passed, edited, edited_rows, rows_passed}
+use Rattle.range_placements.specs.code.EditCounts.{rows_added, rows_made}
 use Rattle.range_placements.specs.declared.row_edits.RowEdit.{RowEdit}
 use Rattle.range_placements.proofs.row_edits.RowEdits.put.Goals as goal
 

@@ -1,7 +1,8 @@
 use Rattle.std.proofs.Common.{◌≡◌, ◌-◌, ◌≤◌, ◌∷◌, ◌++◌, [], List, ap, sym, ◌∙◌, subst, arith}
 use Rattle.std.specs.Prelude.{None}
 use Rattle.range_placements.proofs.EditedRows.{one_adds, one_makes, one_passes, skip_edited}
-use Rattle.range_placements.specs.Editing.{Edits, all_passed, edited, edited_rows, rows_added, rows_made, rows_passed}
+use Rattle.range_placements.specs.Editing.{Edits, all_passed, edited, edited_rows, rows_passed}
+use Rattle.range_placements.specs.code.EditCounts.{rows_added, rows_made}
 use Rattle.range_placements.specs.declared.row_edits.RowEdit.{RowEdit}
 use Rattle.range_placements.proofs.row_edits.RowEdits.skip_to.Goals as goal
 

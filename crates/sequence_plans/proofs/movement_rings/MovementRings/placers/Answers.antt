@@ -1,7 +1,7 @@
 use Rattle.std.proofs.Common.{◌≡◌, ◌∙◌, subst}
 use Rattle.transformations.specs.Ranges.{moved_by}
 use Rattle.sequence_plans.proofs.PlacerLemmas.{placed_low, placed_moved}
-use Rattle.sequence_plans.specs.Placers.{PlacesOn, at_homes}
+use Rattle.replica_placer.specs.Placers.{PlacesOn, at_homes}
 use Rattle.sequence_plans.proofs.movement_rings.MovementRings.placers.Goals as goal
 
 pub returns : goal.returns

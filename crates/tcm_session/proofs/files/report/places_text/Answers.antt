@@ -2,9 +2,9 @@ use Rattle.std.proofs.Common.{◌≡◌, ℕ, ◌≤◌, ◌++◌, List, flat_ma
 use Rattle.std.proofs.lemmas.List.{take_all}
 use Rattle.transformations.specs.declared.image.Image.{Image}
 use Rattle.transformations.specs.declared.keyspace.KeyspaceRow.{KeyspaceRow}
-use Rattle.cluster_metadata.specs.Served.{keyspace_of}
-use Rattle.tcm_session.specs.session.Machine.{placements}
-use Rattle.tcm_session.proofs.machine.KeyspacePlacements.{places_answered}
+use Rattle.placement_maps.specs.Served.{keyspace_of}
+use Rattle.script_session.specs.Machine.{placements}
+use Rattle.script_session.proofs.KeyspacePlacements.{places_answered}
 use Rattle.tcm_session.proofs.files.report.places_text.Goals as goal
 
 pub returns : goal.returns

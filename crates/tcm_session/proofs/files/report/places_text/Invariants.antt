@@ -1,7 +1,7 @@
 use Rattle.std.proofs.Common.{◌≡◌, ◌++◌, flat_map, take}
 use Rattle.transformations.specs.declared.keyspace.KeyspaceRow.{KeyspaceRow}
-use Rattle.cluster_metadata.specs.Served.{keyspace_of}
-use Rattle.tcm_session.specs.session.Machine.{placements}
+use Rattle.placement_maps.specs.Served.{keyspace_of}
+use Rattle.script_session.specs.Machine.{placements}
 use Rattle.tcm_session.proofs.files.report.places_text.Given as goal
 
 -- the keyspaces so far are added

@@ -1,5 +1,6 @@
 use Rattle.std.proofs.Common.{length-take, refl, arith}
-use Rattle.tcm_session.proofs.inputs.ReadLemmas.{StopsAt-none, StopsAt-piece, at_fault}
+use Rattle.script_session.proofs.AnswersLemmas.{at_fault}
+use Rattle.tcm_session.proofs.inputs.ReadLemmas.{StopsAt-none, StopsAt-piece}
 use Rattle.tcm_session.proofs.scripts.pieces.read_piece.Goals as goal
 
 pub returns-in_err-count-clause-err : goal.returns-in_err-count-clause-err

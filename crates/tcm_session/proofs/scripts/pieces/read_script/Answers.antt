@@ -2,7 +2,8 @@ use Rattle.std.proofs.Common.{◌+◌, ◌≤◌, length-take, refl, arith, ◌�
 use Rattle.std.proofs.KnownBytes.{Keeps-refl}
 use Rattle.tcm_session.specs.Outcome.{input_limit}
 use Rattle.tcm_session.proofs.runs.RunCauses.{counts_passed}
-use Rattle.tcm_session.proofs.inputs.ReadLemmas.{ReadsSoFar-begun, ReadsSoFar-more, ReadsSoFar-none, ReadsSoFar-none_more, ReadsSoFar-stop, ReadsTo-end, StopsAt-none, at_fault}
+use Rattle.script_session.proofs.AnswersLemmas.{at_fault}
+use Rattle.tcm_session.proofs.inputs.ReadLemmas.{ReadsSoFar-begun, ReadsSoFar-more, ReadsSoFar-none, ReadsSoFar-none_more, ReadsSoFar-stop, ReadsTo-end, StopsAt-none}
 use Rattle.tcm_session.proofs.scripts.pieces.read_script.Goals as goal
 
 pub loop-taken-init : goal.loop-taken-init

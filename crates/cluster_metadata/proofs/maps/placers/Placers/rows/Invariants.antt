@@ -1,7 +1,0 @@
-use Rattle.std.proofs.Common.{◌≡◌, map, take}
-use Rattle.cluster_metadata.specs.code.MapBasis.{row_placed}
-use Rattle.cluster_metadata.proofs.maps.placers.Placers.rows.Given as goal
-
--- the rows of the ranges so far
-abbrev pub invariant-loop-range : goal.invariant-loop-range
-invariant-loop-range g l = l.rows.items ≡ map (row_placed l.self) (take l.range-index l.ranges)

@@ -1,0 +1,74 @@
+-- A step more of a disk in memory.
+use Rattle.std.proofs.Common.{◌≡◌, ℕ, ◌+◌, ◌≤◌, List, [], ◌∷◌, ◌++◌, length, take, reverse, sym, ◌∙◌, ap, subst, arith, length-append, false, Result, Ok, Err, MatchResult}
+use Rattle.std.proofs.Math.Logic.{∥∥₁_map}
+use Rattle.std.specs.Result.{is_err}
+use Rattle.std.proofs.lemmas.List.{reverse-append, take-append-le, take_all}
+use Rattle.durable_log.specs.Disk.{Passes, Written}
+use Rattle.durable_log.specs.MemImages.{LeavesAfter, LeftAt}
+use Rattle.durable_log.specs.declared.mem_disk.Done.{Done}
+use Rattle.durable_log.specs.declared.mem_disk.Done.TheVariants.{Wrote, Synced}
+use Rattle.durable_log.proofs.Writes.{torn_wider, written_torn}
+
+module _ (first : List ℕ) (done : List Done) (step : Done) where
+  pushed : reverse (take (length (done ++ step ∷ [])) (done ++ step ∷ [])) ≡ step ∷ reverse done
+  pushed = ap reverse (take_all (length (done ++ step ∷ [])) (done ++ step ∷ []) (omega arith)) ∙ reverse-append done (step ∷ [])
+
+  whole : reverse (take (length done) done) ≡ reverse done
+  whole = ap reverse (take_all (length done) done (omega arith))
+
+  -- what is left after one step more
+  pub after_step : (c : List ℕ) → LeavesAfter first (step ∷ reverse done) c → LeftAt first (done ++ step ∷ []) (length (done ++ step ∷ [])) c
+  after_step c left = subst (λ (l : List Done). LeavesAfter first l c) (sym pushed) left
+
+  pub by_step : (c : List ℕ) → LeftAt first (done ++ step ∷ []) (length (done ++ step ∷ [])) c → LeavesAfter first (step ∷ reverse done) c
+  by_step c left = subst (λ (l : List Done). LeavesAfter first l c) pushed left
+
+  pub to_now : (c : List ℕ) → LeftAt first done (length done) c → LeavesAfter first (reverse done) c
+  to_now c left = subst (λ (l : List Done). LeavesAfter first l c) whole left
+
+  pub from_now : (c : List ℕ) → LeavesAfter first (reverse done) c → LeftAt first done (length done) c
+  from_now c left = subst (λ (l : List Done). LeavesAfter first l c) (sym whole) left
+
+  -- the past stays
+  pub before : (t : ℕ) → t ≤ length done → take t (done ++ step ∷ []) ≡ take t done
+  before t le = take-append-le t done (step ∷ []) le
+
+-- the content stays among the images
+pub among_synced : (first : List ℕ) (done new : List Done) (bytes kept : List ℕ) → new ≡ done ++ Synced kept ∷ [] → bytes ≡ kept → ∥ LeftAt first done (length done) bytes ∥₁ → ∥ LeftAt first new (length new) bytes ∥₁
+among_synced first done new bytes kept is same among =
+    subst (λ (l : List Done). ∥ LeftAt first l (length l) bytes ∥₁) (sym is)
+    (∥∥₁_map among (λ left. after_step first done (Synced kept) bytes (same, to_now first done (Synced kept) bytes left)))
+
+pub among_wrote : (first : List ℕ) (done new : List Done) (at n : ℕ) (bytes old next : List ℕ) → new ≡ done ++ Wrote at n ∷ [] → at ≤ length old → length bytes ≤ n → Written at bytes old next → ∥ LeftAt first done (length done) old ∥₁ → ∥ LeftAt first new (length new) next ∥₁
+among_wrote first done new at n bytes old next is le front written among =
+    subst (λ (l : List Done). ∥ LeftAt first l (length l) next ∥₁) (sym is)
+    (∥∥₁_map among (λ left. after_step first done (Wrote at n) next (old, to_now first done (Wrote at n) old left, torn_wider at (length bytes) n old next front (written_torn at bytes old next le written))))
+
+-- one step more, where the images after it come from those before it
+pub step_passes : {D : Type 0} (first : D → List ℕ) (done : D → List Done) (step : Done) (R : List ℕ → List ℕ → Type 0) (old new : D) → first new ≡ first old → done new ≡ done old ++ step ∷ []
+    → ((c : List ℕ) → LeavesAfter (first old) (step ∷ reverse (done old)) c → (d : List ℕ) × LeavesAfter (first old) (reverse (done old)) d × R d c)
+    → Passes (λ x. length (done x)) (λ x t c. LeftAt (first x) (done x) t c) R old new
+step_passes first done step R old new same_first is from =
+    let grown : length (done new) ≡ length (done old) + 1 = ap length is ∙ length-append (done old) (step ∷ []) in
+    let past : (t : ℕ) → t ≤ length (done old) → take t (done new) ≡ take t (done old) = λ t le. ap (λ (l : List Done). take t l) is ∙ before (first old) (done old) step t le in
+    record {
+      later = omega (arith, grown);
+      keeps = λ t c le left. subst (λ (f : List ℕ). LeavesAfter f (reverse (take t (done new))) c) (sym same_first) (subst (λ (l : List Done). LeavesAfter (first old) (reverse l) c) (sym (past t le)) left);
+      adds_none = λ t c le left. subst (λ (l : List Done). LeavesAfter (first old) (reverse l) c) (past t le) (subst (λ (f : List ℕ). LeavesAfter f (reverse (take t (done new))) c) same_first left);
+      since = λ t c lt le left.
+          let e : t ≡ length (done new) = omega (arith, grown) in
+          let here = subst (λ (f : List ℕ). LeavesAfter f (reverse (take t (done new))) c) same_first left in
+          let at_end = subst (λ (n : ℕ). LeavesAfter (first old) (reverse (take n (done new))) c) e here in
+          let stepped = by_step (first old) (done old) step c (subst (λ (l : List Done). LeavesAfter (first old) (reverse (take (length l) l)) c) is at_end) in
+          let it = from c stepped in
+          (it.0, from_now (first old) (done old) step it.0 it.1, it.2);
+    }
+
+-- a step was noted, or nothing was
+pub noted : {E : Type 0} (r : Result (Unit {0}) E) (Q : E → Type 0) (done new : List Done) (step : Done) → MatchResult r (λ _. new ≡ done ++ step ∷ []) (λ e. (new ≡ done) × Q e) → is_err r ≡ false → new ≡ done ++ step ∷ []
+noted (Ok x) Q done new step pushed fine = pushed
+noted (Err e) Q done new step pushed fine = absurd (cc fine)
+
+pub among_kept : {E : Type 0} (r : Result (Unit {0}) E) (Q : E → Type 0) (first : List ℕ) (done new : List Done) (bytes kept : List ℕ) → MatchResult r (λ _. new ≡ done ++ Synced kept ∷ []) (λ e. (new ≡ done) × Q e) → bytes ≡ kept → ∥ LeftAt first done (length done) bytes ∥₁ → ∥ LeftAt first new (length new) bytes ∥₁
+among_kept (Ok x) Q first done new bytes kept pushed same among = among_synced first done new bytes kept pushed same among
+among_kept (Err e) Q first done new bytes kept pushed same among = subst (λ (l : List Done). ∥ LeftAt first l (length l) bytes ∥₁) (sym pushed.0) among

@@ -1,0 +1,30 @@
+-- What the images of a store's disk stand for.
+use Rattle.std.specs.Prelude.{◌≡◌, ◌⊎◌, ℕ, List, [], ◌∷◌, Option, IfSome}
+use Rattle.std.specs.Option.{option_map}
+use Rattle.tcm_edges.specs.Files.{Files}
+use Rattle.durable_log.specs.Disk.{Written}
+use Rattle.durable_log.specs.Records.{Change, changed, files}
+
+-- the files of a disk's content, if the disk tells it
+abbrev pub told_files : Option (List ℕ) → Option Files
+told_files content = option_map files content
+
+-- an image stands for the same files as an earlier one
+abbrev pub SameFiles : List ℕ → List ℕ → Type 0
+SameFiles old new = files new ≡ files old
+
+-- an image stands for the same files as an earlier one, or for these
+abbrev pub SameFilesOr : Files → List ℕ → List ℕ → Type 0
+SameFilesOr promised old new = (files new ≡ files old) ⊎ (files new ≡ promised)
+
+-- each image stands for the files of the content
+abbrev pub Stands : Option (List ℕ) → (List ℕ → Type 0) → Type 0
+Stands content image = IfSome content (λ bytes. (c : List ℕ) → image c → files c ≡ files bytes)
+
+-- each image stands for the files of the content, or for those after a change
+abbrev pub StandsEither : Change → Option (List ℕ) → (List ℕ → Type 0) → Type 0
+StandsEither change content image = IfSome content (λ bytes. (c : List ℕ) → image c → SameFilesOr (changed (files bytes) change) bytes c)
+
+-- nothing was written, or a single 0
+abbrev pub ClosesGate : List ℕ → List ℕ → Type 0
+ClosesGate old new = (new ≡ old) ⊎ ((at : ℕ) × Written at (0 ∷ []) old new)

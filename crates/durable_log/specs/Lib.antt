@@ -1,0 +1,6 @@
+pub mod Disk
+pub mod Images
+pub mod MemDisk
+pub mod MemImages
+pub mod Records
+pub mod code

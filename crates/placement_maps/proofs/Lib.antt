@@ -1,0 +1,12 @@
+pub mod ArrangedMaps
+pub mod EditedMaps
+pub mod ExchangedMaps
+pub mod IdleMaps
+pub mod ImageMaps
+pub mod ImageRings
+pub mod KeptRows
+pub mod MapBooks
+pub mod RevisedBooks
+pub mod TurnedMaps
+pub mod TurnedRuns
+pub mod TurnedSets

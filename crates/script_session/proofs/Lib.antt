@@ -1,0 +1,10 @@
+pub mod AnswersLemmas
+pub mod FollowerLemmas
+pub mod GainLemmas
+pub mod HandedLemmas
+pub mod KeptImageLemmas
+pub mod KeyspacePlacements
+pub mod LocalLemmas
+pub mod SessionLemmas
+pub mod StepEndLemmas
+pub mod TakenLemmas

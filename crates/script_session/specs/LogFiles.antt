@@ -1,0 +1,122 @@
+-- The file of a log: the log in its lines, the first line that is refused, and the file once entries are added.
+use Rattle.std.specs.Prelude.{◌≡◌, ℕ, ◌+◌, if◌then◌else◌, List, [], ◌∷◌, ◌++◌, flat_map, length, Option, Some, None, option_map, Result, Ok, Err, ◌==◌, codes, decimal}
+use Rattle.std.specs.FinMap as map
+use Rattle.tcm_edges.specs.Files.{Files, content, file_of}
+use Rattle.transformations.specs.History.{commit_refusal}
+use Rattle.transformations.specs.Log.{commands_of, entry_with_id}
+use Rattle.transformations.specs.declared.entry.Entry.{Entry}
+use Rattle.wire_json.specs.Reading.{reading}
+use Rattle.wire_json.specs.EntryTexts.{entry_line}
+use Rattle.wire_json.specs.declared.line.Line.{Line}
+use Rattle.wire_json.specs.declared.line.Line.TheVariants as line
+use Rattle.wire_json.specs.declared.line.ReadLineFault.{ReadLineFault}
+use Rattle.wire_json.specs.declared.line.ReadLineFault.TheVariants as read
+use Rattle.script_lang.specs.AnswerTexts.{bad_image_text, line as with_feed, refusal_text}
+use Rattle.script_session.specs.Lines.{open_line, whole_lines}
+use Rattle.script_session.specs.declared.refused_line.Cause.{Cause}
+use Rattle.script_session.specs.declared.refused_line.Cause.TheVariants as cause
+use Rattle.script_session.specs.declared.refused_line.RefusedLine.{RefusedLine}
+
+-- ---- the log in a file
+
+-- why an entry is refused as the next entry of a log, cause by cause
+abbrev pub wrong_epoch : List Entry → Entry → Option Cause
+wrong_epoch log entry =
+    if entry.epoch == length log + 1 then None else Some (cause.Epoch (length log + 1) entry.epoch)
+
+abbrev pub id_again : List Entry → Entry → Option Cause
+id_again log entry = option_map (λ (earlier : Entry). cause.Id entry.id earlier.epoch) (entry_with_id log entry.id)
+
+abbrev pub command_refused : List Entry → Entry → Option Cause
+command_refused log entry = option_map (cause.Command entry.epoch) (commit_refusal (commands_of log) entry.cmd)
+
+-- the first of these causes
+abbrev pub first_cause : List (Option Cause) → Option Cause
+first_cause [] = None
+first_cause (Some cause ∷ later) = Some cause
+first_cause (None ∷ later) = first_cause later
+
+abbrev pub entry_cause : List Entry → Entry → Option Cause
+entry_cause log entry = first_cause (wrong_epoch log entry ∷ id_again log entry ∷ command_refused log entry ∷ [])
+
+-- the entry that follows a log, or the cause to refuse it
+abbrev pub unless_refused : Entry → Option Cause → Result Entry Cause
+unless_refused entry None = Ok entry
+unless_refused entry (Some cause) = Err cause
+
+-- what was read as the next line of a log: its entry, or the first cause to refuse the line (a reading is never
+-- without memory)
+abbrev pub entry_read : List Entry → Result Line ReadLineFault → Result Entry Cause
+entry_read log (Ok (line.Entry entry)) = unless_refused entry (entry_cause log entry)
+entry_read log (Ok (line.Snapshot image)) = Err cause.NotEntry
+entry_read log (Err (read.Bad rule)) = Err (cause.Line rule)
+entry_read log (Err read.Memory) = Err (cause.Line 0)
+
+unfoldable pub next_entry : List Entry → List ℕ → Result Entry Cause
+next_entry log bytes = entry_read log (reading bytes)
+
+-- goes on with what a line of a file came to, or refuses the line with this number of this file
+abbrev pub goes_on : {A B : Type 0} → ℕ → ℕ → Result A Cause → (A → Result B RefusedLine) → Result B RefusedLine
+goes_on file number (Ok came) next = next came
+goes_on file number (Err cause) next = Err (record { file = file; line = number; cause = cause })
+
+-- the log that lines make after a log, or the first line that is refused; line l of a log file holds its entry l
+abbrev pub log_from : List Entry → List (List ℕ) → Result (List Entry) RefusedLine
+log_from log [] = Ok log
+log_from log (bytes ∷ lines) = goes_on 1 (length log + 1) (next_entry log bytes) (λ entry. log_from (log ++ entry ∷ []) lines)
+
+-- the log in a file: bytes after its last line feed are no line
+abbrev pub log_of : List ℕ → Result (List Entry) RefusedLine
+log_of file = log_from [] (whole_lines file)
+
+-- ---- the text for a line that is refused
+
+abbrev pub cause_text : Cause → List ℕ
+cause_text (cause.Line rule) = codes "LINE " ++ decimal rule
+cause_text cause.NotEntry = codes "NOT-ENTRY"
+cause_text (cause.Epoch want came) = codes "EPOCH " ++ decimal want ++ codes " " ++ decimal came
+cause_text (cause.Id id epoch) = codes "ID " ++ decimal id ++ codes " " ++ decimal epoch
+cause_text (cause.Image bad) = codes "IMAGE " ++ bad_image_text bad
+cause_text (cause.Command epoch refusal) = codes "COMMAND " ++ decimal epoch ++ codes " " ++ refusal_text refusal
+cause_text (cause.Fork epoch held came) = codes "FORK " ++ decimal epoch
+
+-- the lines of the entries of a fork: the one that waits, and the one that came
+abbrev pub fork_lines : Cause → List ℕ
+fork_lines (cause.Fork epoch held came) = entry_line held ++ entry_line came
+fork_lines _ = []
+
+-- the number of the file, the number of the line, and the cause
+abbrev pub refused_head : RefusedLine → List ℕ
+refused_head refused =
+    with_feed (codes "REFUSED " ++ decimal refused.file ++ codes " " ++ decimal refused.line ++ codes " " ++ cause_text refused.cause)
+
+unfoldable pub refused_line_text : RefusedLine → List ℕ
+refused_line_text refused = refused_head refused ++ fork_lines refused.cause
+
+-- ---- the file after a run
+
+-- the lines of entries
+abbrev pub entry_lines : List Entry → List ℕ
+entry_lines entries = flat_map entry_line entries
+
+-- the files after a text is added to the file with this name, if a name is given; to add nothing makes no file
+abbrev pub with_added : Option (List ℕ) → List ℕ → Files → Files
+with_added None text all = all
+with_added (Some name) [] all = all
+with_added (Some name) (byte ∷ text) all = map.insert all name (content (file_of all name) ++ (byte ∷ text))
+
+-- the whole lines of a file, each with its line feed
+abbrev pub lines_part : List ℕ → List ℕ
+lines_part file = flat_map with_feed (whole_lines file)
+
+-- the files once the bytes after the last line feed of a file are cut off, if there are any
+abbrev pub without_open : List ℕ → List ℕ → List ℕ → Files → Files
+without_open name file [] all = all
+without_open name file (byte ∷ opened) all = map.insert all name (lines_part file)
+
+abbrev pub cut_to_lines : List ℕ → List ℕ → Files → Files
+cut_to_lines name file all = without_open name file (open_line file) all
+
+-- a text is added, if the store tells its files
+abbrev pub Gains : Option (List ℕ) → List ℕ → Option Files → Option Files → Type 0
+Gains name text old new = new ≡ option_map (with_added name text) old

@@ -1,0 +1,5 @@
+pub mod FileLogs
+pub mod LinesLemmas
+pub mod TakenLines
+pub mod quorums
+pub mod texts

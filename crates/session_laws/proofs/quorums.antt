@@ -1,0 +1,5 @@
+-- The quorums that answers show.
+pub mod AnswerLines
+pub mod AnswersShown
+pub mod ShownAnswers
+pub mod ShownLemmas

@@ -1,3 +1,0 @@
--- The generated script, and what `gen` prints.
-pub mod GeneratedLemmas
-pub mod GeneratedTexts

@@ -1,6 +1,0 @@
-use Rattle.tcm_session.proofs.gen_script.GeneratedLemmas.{if_ok, scripted}
-use Rattle.tcm_session.proofs.generated.summary.run_script.Goals as goal
-
-pub returns : goal.returns
-returns c =
-    if_ok c.run_rounds.result _ _ _ c.run_rounds.ensures (scripted c.args.generation.now c.open.new.generation c.args.start c.args.rounds c.requires.begins c.in_ok-open.ensures)

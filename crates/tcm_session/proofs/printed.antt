@@ -1,0 +1,4 @@
+-- What a run prints.
+pub mod GeneratedTexts
+pub mod PlainReplays
+pub mod PrintedLemmas

@@ -1,0 +1,158 @@
+-- The lines that a run prints, and the quorums in them.
+use Rattle.std.proofs.Common.{if◌then◌else◌, ◌≡◌, ◌≢◌, ℕ, Bool, true, false, List, [], Option, Some, None, Result, Ok, Err, length, nat_le, codes, refl, sym, ◌∙◌, subst, drop, arith, cond}
+use Rattle.std.proofs.KnownBytes.{starts_with_rest}
+use Rattle.tcm_edges.specs.Files.{Files, file_of, loaded_of}
+use Rattle.tcm_edges.specs.declared.store.Loaded.{Loaded}
+use Rattle.tcm_edges.specs.declared.store.Loaded.TheVariants as loaded
+use Rattle.transformations.specs.declared.entry.Entry.{Entry}
+use Rattle.script_lang.specs.AnswerTexts.{no_text}
+use Rattle.tcm_session.specs.declared.ending.Ending.{Ending}
+use Rattle.generated_scripts.specs.Generated.{gen_numbers}
+use Rattle.tcm_session.specs.Left.{LeavesFiles}
+use Rattle.script_session.specs.LogFiles.{cut_to_lines, log_of, refused_line_text}
+use Rattle.script_session.specs.Machine.{answers, no_epoch, session_over}
+use Rattle.tcm_session.specs.Outcome.{Outcome, Start, commit_outcome, ended_outcome, gen_end, input_limit, is_commit, is_replay, large_outcome, last_end, log_file, named_log, other_end, outcome, outcome_from, outcome_loaded, printed_by, replayed_files, script_outcome, too_large_text, unread_outcome, usage_text, whole_outcome}
+use Rattle.tcm_session.specs.Run.{IsFinal, IsRun}
+use Rattle.tcm_session.specs.code.Runs.{IsEnd, RunsSeen}
+use Rattle.session_laws.specs.Shown.{IsOfNoQuorum, shown}
+use Rattle.script_session.specs.declared.refused_line.RefusedLine.{RefusedLine}
+use Rattle.session_laws.proofs.quorums.AnswerLines.{other_line}
+use Rattle.session_laws.proofs.FileLogs.{refused_lines, session_file}
+use Rattle.script_session.proofs.SessionLemmas.{IsSession, session_empty}
+use Rattle.tcm_session.specs.files.ReplayPrefix.{ReportsPrefix, taken_of_files}
+use Rattle.tcm_session.specs.files.Replay.{replay_ending}
+use Rattle.tcm_session.specs.files.StateLine.{file_ending, log_ending, snapshot_ending, snapshot_words, state_ending}
+use Rattle.session_laws.proofs.texts.PlainSnapshots.{snapshot_is_line}
+use Rattle.transformations.specs.History.{state_after}
+use Rattle.transformations.specs.Log.{commands_of}
+use Rattle.transformations.specs.declared.image.Image.{Image}
+use Rattle.wire_json.specs.SnapshotTexts.{snapshot_line}
+use Rattle.tcm_session.proofs.printed.GeneratedTexts.{summary_lines}
+use Rattle.tcm_session.proofs.printed.PlainReplays.{replay_lines, too_large_lines}
+use Rattle.tcm_session.proofs.log_files.ReplayReports.{refuses_no_line, reports_prefix}
+use Rattle.tcm_session.proofs.runs.RunLemmas.{final_end}
+use Rattle.session_laws.proofs.quorums.ShownAnswers.{texts}
+use Rattle.session_laws.proofs.quorums.ShownLemmas.{shown_meet}
+use Rattle.session_laws.proofs.TakenLines.{followers_show}
+use Rattle.session_laws.proofs.texts.WholeLines.{AreLines, AreLines-append, AreLines-front, AreLines-nil, AreLines-weaker}
+use Rattle.session_laws.proofs.quorums.AnswersShown.{lines_of, IsTold}
+
+-- ---- what is printed after the answers shows none
+
+-- the text after the answers, unless the name of an absent file is printed, and the log from which lines are answered
+record IsPlainOutcome (o : Outcome) : Type 0 where
+  last : o.status ≢ 7 → AreLines IsOfNoQuorum o.last
+  is : IsSession (session_over o.log)
+
+of_script : (start : Start) (input : List ℕ) → IsSession (session_over start.log) → IsPlainOutcome (script_outcome start input)
+unfolding script_outcome
+of_script start input is = by (nat_le (length input) input_limit)
+  where
+    by : (b : Bool) → IsPlainOutcome (cond b (whole_outcome start input) (large_outcome start input))
+    by true = record { last = λ _. AreLines-nil IsOfNoQuorum; is = is }
+    by false = record { last = λ _. too_large_lines; is = is }
+
+of_unread : (status : ℕ) (last : List ℕ) (all : Files) → (status ≢ 7 → AreLines IsOfNoQuorum last) → IsPlainOutcome (unread_outcome status last all)
+of_unread status last all lines = record { last = lines; is = session_empty }
+
+of_file : (name : List ℕ) (all : Files) (file : List ℕ) (r : Result (List Entry) RefusedLine) → log_of file ≡ r → (input : List ℕ) → IsPlainOutcome (outcome_from name all file r input)
+of_file name all file (Ok log) is input = of_script (record { log = log; file = Some name; files = cut_to_lines name file all }) input (session_file file log is)
+of_file name all file (Err refused) is input = of_unread 3 (refused_line_text refused) all (λ _. refused_lines file refused is)
+
+of_loaded : (name : List ℕ) (all : Files) (it : Loaded) (input : List ℕ) → IsPlainOutcome (outcome_loaded name all it input)
+of_loaded name all loaded.Absent input = of_script (record { log = []; file = Some name; files = all }) input session_empty
+of_loaded name all (loaded.TooLarge size) input = of_unread 8 too_large_text all (λ _. too_large_lines)
+of_loaded name all (loaded.Bytes file) input = of_file name all file (log_of file) refl input
+
+of_commit : (file : Option (List ℕ)) (all : Files) (input : List ℕ) → IsPlainOutcome (commit_outcome file all input)
+of_commit None all input = of_script (record { log = []; file = None; files = all }) input session_empty
+of_commit (Some name) all input = of_loaded name all (loaded_of (file_of all name) input_limit) input
+
+usage_lines : AreLines IsOfNoQuorum usage_text
+usage_lines = other_line (codes "usage: tcm commit [LOG] | replay FILE.. | snapshot LOG E | gen START N") refl (λ e. omega arith) (λ e. omega arith)
+
+gen_lines : (numbers : Option (ℕ × ℕ)) → AreLines IsOfNoQuorum (gen_end numbers).text
+gen_lines None = usage_lines
+gen_lines (Some (start, rounds)) = summary_lines start rounds
+
+state_lines : (e : ℕ) (log : List Entry) → (state_ending e log).status ≢ 7 → AreLines IsOfNoQuorum (state_ending e log).text
+state_lines e log = by (nat_le e (length log))
+  where
+    state : Image
+    state = state_after (commands_of log) e
+
+    at_epoch : Bool → Ending
+    at_epoch b = if b then record { status = 0; text = snapshot_line state } else record { status = 7; text = no_text (no_epoch (commands_of log)) }
+
+    by : (b : Bool) → (at_epoch b).status ≢ 7 → AreLines IsOfNoQuorum (at_epoch b).text
+    by true other = snapshot_is_line state
+    by false other = absurd (other refl)
+
+log_lines : (e : ℕ) (file : List ℕ) (r : Result (List Entry) RefusedLine) → log_of file ≡ r → (log_ending e r).status ≢ 7 → AreLines IsOfNoQuorum (log_ending e r).text
+log_lines e file (Ok log) is other = state_lines e log other
+log_lines e file (Err refused) is other = refused_lines file refused is
+
+-- the text of the state of a log, unless the name of an absent file or an epoch is printed
+snapshot_lines : (name : List ℕ) (e : ℕ) (seen : ℕ → Files) → (snapshot_ending name e seen).status ≢ 7 → AreLines IsOfNoQuorum (snapshot_ending name e seen).text
+snapshot_lines name e seen = by (loaded_of (file_of (seen 0) name) input_limit)
+  where
+    by : (it : Loaded) → (file_ending name e it).status ≢ 7 → AreLines IsOfNoQuorum (file_ending name e it).text
+    by loaded.Absent other = absurd (other refl)
+    by (loaded.TooLarge size) other = too_large_lines
+    by (loaded.Bytes file) other = log_lines e file (log_of file) refl other
+
+of_other : (words : List (List ℕ)) (seen : ℕ → Files) → IsPlainOutcome (ended_outcome (other_end words seen) (seen 0))
+of_other words seen = of_unread (other_end words seen).status (other_end words seen).text (seen 0) (by (is_replay words))
+  where
+    last : (o : Option (List ℕ × ℕ)) → (last_end words seen o).status ≢ 7 → AreLines IsOfNoQuorum (last_end words seen o).text
+    last None other = gen_lines (gen_numbers words)
+    last (Some named) other = snapshot_lines named.0 named.1 seen other
+
+    by : (b : Bool) → (cond b (replay_ending (replayed_files words) seen) (last_end words seen (snapshot_words words))).status ≢ 7
+        → AreLines IsOfNoQuorum (cond b (replay_ending (replayed_files words) seen) (last_end words seen (snapshot_words words))).text
+    by true other = replay_lines (replayed_files words) seen other
+    by false other = last (snapshot_words words) other
+
+plain_outcome : (words : List (List ℕ)) (seen : ℕ → Files) (input : List ℕ) → IsPlainOutcome (outcome words seen input)
+unfolding outcome
+plain_outcome words seen input = by (is_commit words)
+  where
+    by : (b : Bool) → IsPlainOutcome (cond b (commit_outcome (log_file words) (seen 0) input) (ended_outcome (other_end words seen) (seen 0)))
+    by true = of_commit (log_file words) (seen 0) input
+    by false = of_other words seen
+
+printed_lines : (o : Outcome) → o.status ≢ 7 → IsPlainOutcome o → AreLines (IsTold (shown (session_over o.log) o.lines)) (printed_by o)
+printed_lines o other plain =
+    let session = session_over o.log in
+    AreLines-append (IsTold (shown session o.lines)) (answers session o.lines) o.last (lines_of session plain.is o.lines)
+    (AreLines-weaker IsOfNoQuorum (IsTold (shown session o.lines)) (λ l none begins. absurd (none begins)) o.last (plain.last other))
+
+-- ---- a run
+
+-- an end of a run is final
+final_at : (n status : ℕ) → status ≡ n → IsEnd n → IsFinal status
+final_at n status e is = (final_end status (subst IsEnd (sym e) is)).1
+
+pub is_run : {S : Type 0} (words : List (List ℕ)) (left : S → Option (List ℕ)) (input input' : S) (w w' : Option (List ℕ)) (f f' : Option Files) (status : ℕ)
+    → RunsSeen (outcome words) (LeavesFiles (named_log words) f f') left input input' w w' f f' status → IsRun words left input input' w w' f f' status
+is_run words left input input' w w' f f' status on =
+    let o = outcome words on.seen on.runs.given in
+    let plain = plain_outcome words on.seen on.runs.given in
+    record {
+      given = record { input = on.runs.given; seen = on.seen; told_input = on.runs.told; told_files = on.held };
+      comes = on.runs.comes;
+      reads = on.runs.reads;
+      replays = λ is log of all. record {
+        unrefused = λ three. refuses_no_line words on.seen on.runs.given log is of all (sym (on.runs.comes.status (final_at 3 status three refl)) ∙ three);
+        reports = λ zero. let final = final_at 0 status zero refl in
+            subst (ReportsPrefix log (taken_of_files (replayed_files words) on.seen)) (sym (on.runs.comes.whole final))
+            (reports_prefix words on.seen on.runs.given log is of all (sym (on.runs.comes.status final) ∙ zero));
+      };
+      quorums = λ other. record {
+        texts = AreLines-front (IsTold (shown (session_over o.log) o.lines)) (printed_by o) on.runs.comes.printed (drop (length on.runs.comes.printed) (printed_by o))
+            (starts_with_rest (printed_by o) on.runs.comes.printed on.runs.comes.prefix) (printed_lines o other plain);
+        meet = shown_meet (session_over o.log) plain.is o.lines;
+      };
+      followers = followers_show o.log o.lines plain.is;
+      leaves = on.runs.leaves;
+    }

@@ -1,0 +1,189 @@
+"""The verb `moves`: for each movement in flight what is streamed from where to where, and what to run at each step."""
+from __future__ import annotations
+
+import argparse
+from dataclasses import dataclass
+from typing import Dict, List, Sequence, Set, Tuple
+
+from tools.answers import Movement
+from tools.errors import Refused
+from tools.flight import Change, changes
+from tools.log import State, state
+from tools.names import Names, names_of
+from tools.placements import Stretch, merged
+from tools.show import print_json, print_lines, table
+from tools.status import partner
+from tools.terms import listed, percent, plural
+from tools.words import add_json, add_keyspaces, add_log, chosen_keyspaces
+
+NAME, HELP = "moves", "show what the movements in flight stream, and what to run at each step"
+EXAMPLE = """example:
+  bin/cluster moves cluster.log --down 10.0.1.12
+  bin/cluster moves cluster.log --node 10.0.1.16 --keyspace accounts"""
+
+
+@dataclass(frozen=True)
+class Streams:
+    """What a movement changes under the keyspaces of one replication, neighbouring ranges merged."""
+
+    keyspaces: Tuple[str, ...]
+    stretches: List[Tuple[Stretch, Change]]
+
+    @property
+    def width(self) -> int:
+        """How many tokens are streamed."""
+        return sum(it.width * len(change.gaining) for it, change in self.stretches)
+
+
+def words(parser: argparse.ArgumentParser) -> None:
+    """Declares the words of the verb."""
+    add_log(parser)
+    parser.add_argument("--node", metavar="NAME", help="show the movement of this node alone")
+    parser.add_argument(
+        "--down", metavar="NAME", action="append", default=[], help="a node that is down, so no source; may be repeated"
+    )
+    add_keyspaces(parser)
+    add_json(parser)
+
+
+def run(options: argparse.Namespace) -> int:
+    """Shows the movements in flight."""
+    names, now = names_of(options.log), state(options.log)
+    down = {node_id(it, now, names) for it in options.down}
+    keyspaces = chosen_keyspaces(options.keyspace, now, names)
+    wanted = [it for it in now.movements if not options.node or it.node == node_id(options.node, now, names)]
+    shown = [(it, streams_of(options.log, it, now, keyspaces, down)) for it in wanted]
+    if options.json:
+        print_json([as_json(it, streams, now, names) for it, streams in shown])
+    elif not shown:
+        print("No movement is in flight" + (f" of {options.node}." if options.node else "."))
+    else:
+        for i, (it, streams) in enumerate(shown):
+            show(it, streams, now, names, is_first=i == 0)
+    return 0
+
+
+def node_id(said: str, now: State, names: Names) -> int:
+    """Returns the id of the node with a name."""
+    node = now.by_name.get(names.here("node", said))
+    if not node:
+        raise Refused(f"no node {said} at epoch {now.epoch}")
+    return node.id
+
+
+def streams_of(log: str, movement: Movement, now: State, keyspaces: Sequence[str], down: Set[int]) -> List[Streams]:
+    """Returns what a movement changes, by the keyspaces of one replication."""
+    groups = [tuple(it for it in same if it in keyspaces) for same in now.distinct().values()]
+    groups = [it for it in groups if it]
+    others = [it for it in now.movements if it != movement]
+    found = changes(log, now.epoch, movement, others, [it[0] for it in groups])
+    told = {it: [(row, with_sources(change, now, down)) for row, change in rows] for it, rows in found.items()}
+    return [Streams(it, merged(told[it[0]])) for it in groups]
+
+
+def named(ids: Sequence[int], now: State, names: Names) -> str:
+    """Returns nodes by their names of Cassandra."""
+    return listed([names.there("node", now.by_id[it].name) for it in ids])
+
+
+def with_sources(change: Change, now: State, down: Set[int]) -> Change:
+    """Returns a change whose holders are those that send the data: up, and in the datacenter of the node that gains.
+
+    Those of other datacenters send only where none is up there. A node that loses the range stands first.
+    """
+    up = [it for it in (*change.losing, *change.holding) if it in change.holding and it not in down]
+    near = {now.by_id[it].dc for it in change.gaining}
+    local = [it for it in up if now.by_id[it].dc in near]
+    return Change(change.gaining, change.losing, tuple(dict.fromkeys(local or up)) if change.gaining else ())
+
+
+def show(it: Movement, streams: List[Streams], now: State, names: Names, is_first: bool) -> None:
+    """Prints a movement."""
+    print(
+        (
+            "" if is_first else "\n"
+        ) + f"{named([it.node], now, names)}: {it.kind}{partner(it, now, names)}, {it.phase} at epoch {now.epoch}"
+    )
+    print_lines([f"{i}. {said}" for i, said in enumerate(steps_left(it, streams, now, names), 1)], "  ")
+    for group in streams:
+        print(
+            f"\n  {listed([names.there('keyspace', k) for k in group.keyspaces])}: "
+            f"{plural(len(group.stretches), 'range')}, {percent(group.width)} of the ring streamed"
+        )
+        rows = [["range", "share", "to", "from", "loses it"]]
+        rows += [
+            [
+                stretch.name,
+                percent(stretch.width),
+                named(change.gaining, now, names),
+                source_said(change, now, names),
+                named(change.losing, now, names),
+            ]
+            for stretch, change in group.stretches
+        ]
+        print_lines(table(rows, right=[1]), "    ")
+
+
+def source_said(change: Change, now: State, names: Names) -> str:
+    """Returns the sources of a range, or that there are none."""
+    if change.gaining and not change.holding:
+        return "NO SOURCE IS UP"
+    return named(change.holding, now, names)
+
+
+def steps_left(it: Movement, streams: List[Streams], now: State, names: Names) -> List[str]:
+    """Returns what is still to be done for a movement."""
+    node = named([it.node], now, names)
+    losing = {n for group in streams for _, change in group.stretches for n in change.losing}
+    gone = {n for _, n in it.outgoing} if it.kind in ("leave", "replace") else set()
+    clean = sorted(losing - gone)
+    seen = f"check that all coordinators have seen epoch {now.epoch}, then commit"
+    steps = {
+        "PREPARED": [
+            f"{seen} `start-{it.kind} {node}`",
+            "check that all coordinators have seen that epoch",
+            "stream the ranges below",
+        ],
+        "STARTED": [f"check that all coordinators have seen epoch {now.epoch}", "stream the ranges below"],
+        "MID": [f"{seen} `finish-{it.kind} {node}`"],
+    }[it.phase]
+    if it.phase != "MID":
+        steps += [
+            f"commit `mid-{it.kind} {node}`",
+            f"check that all coordinators have seen it, then commit `finish-{it.kind} {node}`",
+        ]
+    if clean:
+        steps.append(f"run `nodetool cleanup` on {named(clean, now, names)}")
+    return steps
+
+
+def as_json(it: Movement, streams: List[Streams], now: State, names: Names) -> Dict[str, object]:
+    """Returns a movement as JSON has it."""
+
+    def name(n: int) -> str:
+        return names.there("node", now.by_id[n].name)
+
+    return {
+        "node": name(it.node),
+        "kind": it.kind,
+        "phase": it.phase,
+        "epoch": now.epoch,
+        "steps": steps_left(it, streams, now, names),
+        "streams": [
+            {
+                "keyspaces": [names.there("keyspace", k) for k in group.keyspaces],
+                "share": round(group.width / 2**64, 6),
+                "ranges": [
+                    {
+                        "left": None if stretch.left is None else str(stretch.left),
+                        "right": None if stretch.right is None else str(stretch.right),
+                        "to": [name(n) for n in change.gaining],
+                        "from": [name(n) for n in change.holding],
+                        "losing": [name(n) for n in change.losing],
+                    }
+                    for stretch, change in group.stretches
+                ],
+            }
+            for group in streams
+        ],
+    }

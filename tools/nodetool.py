@@ -1,0 +1,185 @@
+"""Reads what `nodetool ring` and `nodetool describering` print, of Cassandra 4 and 5."""
+from __future__ import annotations
+
+import re
+from dataclasses import dataclass, field
+from typing import Dict, List, Tuple
+
+from tools.errors import Refused
+from tools.names import canonical
+from tools.terms import TOKEN, is_token
+from tools.text import fault
+
+DATACENTER = re.compile(r"\s*Datacenter:\s*(.*\S)\s*")
+HEADING = re.compile(r"\s*Address\S*\s+Rack\s+Status\s+State\s+Load\s+Owns.*Token\s*")
+PASSED_OVER = re.compile(r"\s*(=+|(Note|Warning):.*|To\s+view\s+status\s.*)?\s*")
+# (a rack of 12 characters or more has no space behind it)
+RING_ROW = re.compile(
+    r"\s*(?P<address>\S+)\s+(?P<rack>\S+(?: \S+)*?)\s*(?P<status>Up|Down|\?)"
+    r"\s+(?P<state>Normal|Leaving|Joining|Moving|Shutdown|\?)"
+    r"\s+(?P<load>\?|[\d.,]+\s+\S+)\s+(?P<owns>\?|[\d.,]+\s*%)\s+(?P<token>\S.*?)\s*"
+)
+
+
+@dataclass
+class RingNode:
+    """A node of `nodetool ring`, with its tokens in the order of the lines; `line` is its first."""
+
+    address: str
+    dc: str
+    rack: str
+    status: str
+    state: str
+    line: int
+    tokens: List[int] = field(default_factory=list)
+
+
+@dataclass
+class TokenRange:
+    """A range of `nodetool describering`, open at the left, and its replicas with their datacenters and racks."""
+
+    start: int
+    end: int
+    endpoints: Tuple[str, ...]
+    places: Dict[str, Tuple[str, str]]
+    line: int
+
+
+# ---- nodetool ring
+
+
+class RingReader:
+    """Reads the lines of `nodetool ring` one after another."""
+
+    def __init__(self, path: str) -> None:
+        self.path = path
+        self.nodes: Dict[str, RingNode] = {}
+        self.owners: Dict[int, str] = {}
+        self.greatest: Dict[str, Tuple[int, int]] = {}  # of each datacenter: the token of its first line, and the line
+        self.last: Dict[str, int] = {}  # of each datacenter: the token of its last line
+        self.dc = ""
+
+    def read(self, number: int, line: str) -> None:
+        """Reads a line."""
+        head, row = DATACENTER.fullmatch(line), RING_ROW.fullmatch(line)
+        if head:
+            self.begin(number, head[1])
+        elif HEADING.fullmatch(line) or PASSED_OVER.fullmatch(line):
+            pass
+        elif not self.dc:
+            raise fault(self.path, number, f"`Datacenter: NAME` is to come first, not `{line.split()[0]}`")
+        elif len(line.split()) == 1 and self.dc not in self.greatest:
+            self.greatest[self.dc] = (self.token(number, line.strip()), number)
+        elif row:
+            self.add(number, row)
+        else:
+            raise fault(
+                self.path,
+                number,
+                f"no line of nodetool ring: `{line.split()[0]} ..`; a node has Address, Rack, Status, State, Load, "
+                "Owns and Token",
+            )
+
+    def begin(self, number: int, dc: str) -> None:
+        """Begins the part of a datacenter."""
+        if any(it.dc == dc for it in self.nodes.values()):
+            raise fault(
+                self.path, number, f"the datacenter {dc} comes a second time: are these the rings of two clusters?"
+            )
+        self.dc = dc
+
+    def token(self, number: int, word: str) -> int:
+        """Returns the token that a word is."""
+        if not TOKEN.fullmatch(word):
+            raise fault(
+                self.path,
+                number,
+                f"`{word[:40]}` is no token of Murmur3Partitioner: other partitioners have no place here",
+            )
+        if not is_token(word):
+            raise fault(
+                self.path,
+                number,
+                f"the token {word} is out of range, -2^63 to 2^63 - 1: is the partitioner RandomPartitioner?",
+            )
+        return int(word)
+
+    def add(self, number: int, row: re.Match) -> None:
+        """Adds the token of a row to its node."""
+        token, address = self.token(number, row["token"]), canonical(row["address"])
+        node = self.nodes.setdefault(
+            address, RingNode(address, self.dc, row["rack"], row["status"], row["state"], number)
+        )
+        if (node.dc, node.rack) != (self.dc, row["rack"]):
+            raise fault(
+                self.path,
+                number,
+                f"{address} is in {self.dc} {row['rack']} here, and in {node.dc} {node.rack} in line {node.line}: two "
+                "clusters?",
+            )
+        if token in self.owners:
+            raise fault(self.path, number, f"the token {token} is {self.owners[token]}'s already: two clusters?")
+        self.owners[token] = address
+        self.last[self.dc] = token
+        node.tokens.append(token)
+
+    def check(self) -> None:
+        """Checks that no rows are missing at the end of a datacenter: its greatest token stands above its rows."""
+        if not self.nodes:
+            raise Refused(f"{self.path}: no node of nodetool ring is there")
+        for dc, (greatest, line) in self.greatest.items():
+            if self.last.get(dc) != greatest:
+                raise fault(
+                    self.path, line, f"the last row of {dc} is to have this token, {greatest}: rows are missing"
+                )
+
+
+def read_ring(lines: List[str], path: str) -> List[RingNode]:
+    """Returns the nodes of `nodetool ring`, by datacenter and address."""
+    reader = RingReader(path)
+    for number, line in enumerate(lines, 1):
+        reader.read(number, line)
+    reader.check()
+    return sorted(reader.nodes.values(), key=lambda it: (it.dc, order_of(it.address)))
+
+
+def order_of(address: str) -> Tuple[List[Tuple[int, str]], str]:
+    """Returns a key by which addresses ascend as people count: 10.0.0.9 before 10.0.0.10."""
+    return [(int(it), "") if it.isdigit() else (-1, it) for it in re.split(r"(\d+)", address)], address
+
+
+# ---- nodetool describering
+
+
+def read_describering(lines: List[str], path: str) -> List[TokenRange]:
+    """Returns the ranges of `nodetool describering`."""
+    ranges = []
+    for number, line in enumerate(lines, 1):
+        said = line.strip()
+        if said.startswith("TokenRange("):
+            ranges.append(read_range(number, said, path))
+        elif said and not re.match(r"(Schema Version:|TokenRange:|Keyspace:)", said):
+            raise fault(path, number, f"no line of nodetool describering: `{said.split()[0][:60]} ..`")
+    if not ranges:
+        raise Refused(f"{path}: no TokenRange of nodetool describering is there")
+    return ranges
+
+
+def read_range(number: int, said: str, path: str) -> TokenRange:
+    """Returns the range in a line."""
+    start, end = (re.search(rf"\b{it}_token:\s*([^,\s]+)", said) for it in ("start", "end"))
+    endpoints = re.search(r"[(\s,]endpoints:\s*\[([^\]]*)\]", said)
+    if not (start and end and endpoints and said.endswith(")")):
+        raise fault(
+            path,
+            number,
+            "this is to be TokenRange(start_token:.., end_token:.., endpoints:[..], ..), and is cut or changed",
+        )
+    for word in (start[1], end[1]):
+        if not is_token(word):
+            raise fault(path, number, f"`{word[:40]}` is no token of Murmur3Partitioner")
+    details = re.findall(r"EndpointDetails\(host:\s*([^,]+),\s*datacenter:\s*(.*?),\s*rack:\s*(.*?)\)", said)
+    names = tuple(canonical(it.strip()) for it in endpoints[1].split(",") if it.strip())
+    return TokenRange(
+        int(start[1]), int(end[1]), names, {canonical(host): (dc, rack) for host, dc, rack in details}, number
+    )

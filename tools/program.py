@@ -1,0 +1,110 @@
+"""Runs `tcm`: `bin/tcm` beside the planner, or the program that the environment variable TCM names."""
+from __future__ import annotations
+
+import os
+import subprocess
+import threading
+from dataclasses import dataclass
+from typing import List, Sequence
+
+from tools.answers import lines_after
+from tools.errors import Refused
+
+TOP = os.path.dirname(os.path.dirname(os.path.realpath(__file__)))
+
+
+@dataclass
+class Run:
+    """A run that has ended."""
+
+    status: int
+    out: bytes
+
+    @property
+    def lines(self) -> List[str]:
+        """What the run printed, line by line."""
+        return self.out.decode("ascii", "replace").splitlines()
+
+
+def program() -> str:
+    """Returns the path of the program."""
+    return os.environ.get("TCM") or os.path.join(TOP, "bin", "tcm")
+
+
+def run(words: Sequence[str], script: bytes = b"") -> Run:
+    """Runs the program to its end. Its standard error is that of the planner."""
+    try:
+        ended = subprocess.run([program(), *words], input=script, stdout=subprocess.PIPE)
+    except OSError as why:
+        raise Refused(f"{program()} can't be run: {why.strerror}") from why
+    if ended.returncode == 125:
+        raise Refused(f"{program()} isn't there to answer; what it said stands above")
+    return Run(ended.returncode, ended.stdout)
+
+
+class Session:
+    """A run of `tcm commit` that answers one line after another. A context manager: leaving it ends the run."""
+
+    def __init__(self, words: Sequence[str] = ()):
+        """Starts `tcm commit` with these words, for example the name of a log file."""
+        try:
+            self.process = subprocess.Popen(
+                [program(), "commit", *words], stdin=subprocess.PIPE, stdout=subprocess.PIPE
+            )
+        except OSError as why:
+            raise Refused(f"{program()} can't be run: {why.strerror}") from why
+
+    def __enter__(self) -> Session:
+        return self
+
+    def __exit__(self, *_: object) -> None:
+        self.close()
+
+    def close(self) -> int:
+        """Ends the input, and returns the status of the run."""
+        for pipe in (self.process.stdin, self.process.stdout):
+            try:
+                pipe.close()
+            except BrokenPipeError:
+                pass
+        return self.process.wait()
+
+    def ask(self, line: str) -> List[str]:
+        """Sends a line, and returns the lines of its answer."""
+        try:
+            self.process.stdin.write(line.encode() + b"\n")
+            self.process.stdin.flush()
+        except BrokenPipeError:
+            pass  # (the answer that is missing tells)
+        return self.answer()
+
+    def ask_all(self, lines: Sequence[str]) -> List[List[str]]:
+        """Sends lines while their answers are read, and returns the answers."""
+        sender = threading.Thread(target=self.send, args=(lines,))
+        sender.start()
+        try:
+            return [self.answer() for _ in lines]
+        finally:
+            sender.join()
+
+    def send(self, lines: Sequence[str]) -> None:
+        """Sends lines."""
+        try:
+            self.process.stdin.write("".join(f"{it}\n" for it in lines).encode())
+            self.process.stdin.flush()
+        except BrokenPipeError:
+            pass
+
+    def answer(self) -> List[str]:
+        """Reads the lines of one answer."""
+        head = self.line()
+        return [head, *(self.line() for _ in range(lines_after(head)))]
+
+    def line(self) -> str:
+        """Reads a line."""
+        line = self.process.stdout.readline()
+        if not line.endswith(b"\n"):
+            raise Refused(
+                f"tcm ended with status {self.close()} before it answered; see docs/operators.md, After each status"
+            )
+        return line[:-1].decode("ascii", "replace")

@@ -1,0 +1,98 @@
+"""Tests of answers, sums over placements, and pictures."""
+import unittest
+import xml.etree.ElementTree
+
+from tools.answers import Node, Placement, Row, framed, read_nodes, read_placement
+from tools.bands import draw_bands
+from tools.errors import Refused
+from tools.placements import merged, pending_shares, read_shares
+from tools.rings import draw_rings
+from tools.svg import length, wrapped
+from tools.terms import GREATEST, LEAST, WHOLE, percent
+
+PLACE = ["PLACE 12 ks 3", "(min,0] read 1 write 1,2", "(0,100] read 2 write 2", "(100,max] read 1 write 1"]
+NODES = ["NODES 12 2 1", "1 a dc1 r1 JOINED 0", "2 b dc1 r1 MOVING 100", "SEQ 2 move STARTED out 100@2 in -7@2"]
+
+
+class Answers(unittest.TestCase):
+    """Answers."""
+
+    def test_answers_are_framed(self):
+        lines = ["OK 1", *PLACE, "REPLAY 3 at 3 waiting 0 full 0", *NODES, "AT 3", "NO DC"]
+        self.assertEqual([it[0].split()[0] for _, it in framed(lines)], ["OK", "PLACE", "REPLAY", "NODES", "AT", "NO"])
+        for broken in (PLACE[:2], ["hello"], [""]):
+            with self.subTest(broken), self.assertRaises(Refused):
+                list(framed(broken))
+
+    def test_answers_are_read(self):
+        self.assertEqual(read_placement(PLACE).rows[0], Row(None, 0, (1,), (1, 2)))
+        nodes = read_nodes(NODES)
+        self.assertEqual((nodes.nodes[1].state, nodes.movements[0].incoming), ("MOVING", ((-7, 2),)))
+
+    def test_rows_that_do_not_follow_are_told(self):
+        for at, line in (
+            (1, "(min,0] read 2,1 write 2"), (2, "(1,100] read 2 write 2"), (3, "(100,200] read 1 write 1"), (2, "x")
+        ):
+            lines = [*PLACE]
+            lines[at] = line
+            with self.subTest(line), self.assertRaises(Refused):
+                read_placement(lines)
+
+
+class Sums(unittest.TestCase):
+    """Shares and merged rows."""
+
+    def test_shares_add_up(self):
+        placement = read_placement(PLACE)
+        self.assertEqual(sum(read_shares(placement).values()), WHOLE)
+        self.assertEqual(pending_shares(placement), {2: 0 - LEAST + 1})
+        self.assertEqual(percent(GREATEST + 1), "50.00%")
+
+    def test_neighbours_merge_round_the_end_of_the_ring(self):
+        rows = read_placement(PLACE).rows
+        self.assertEqual([it.name for it, _ in merged((row, row.reads) for row in rows)], ["(100,0]", "(0,100]"])
+        self.assertEqual([it.name for it, _ in merged((row, 1) for row in rows)], ["(min,max]"])
+        self.assertEqual([it.name for it, _ in merged((row, 1) for row in rows if row.left != 0)], ["(100,0]"])
+
+
+class Pictures(unittest.TestCase):
+    """Rings and bands."""
+
+    def test_no_text_is_cut(self):
+        placement = Placement(12, "k" * 46, read_placement(PLACE).rows)
+        nodes = [
+            Node(1, "2001:db8:1234:5678:1234:5678:1234:5678", "a" * 32, "r" * 32, "JOINED", ()),
+            Node(2, "b", "c", "d", "JOINED", ()),
+        ]
+        pictures = [
+            draw_rings([placement] * 2, [1, 2], {it.id: it.name for it in nodes}), draw_bands([placement], nodes)
+        ]
+        for said in pictures:
+            self.check_texts(xml.etree.ElementTree.fromstring(said))
+
+    def check_texts(self, picture):
+        """Checks that each text that isn't turned ends before the border."""
+        width = float(picture.get("width"))
+        for group in picture.iter():
+            shift = group.get("transform", "")
+            left = float(shift[10:].split(" ")[0]) if shift.startswith("translate(") else 0.0
+            for it in group.findall("{http://www.w3.org/2000/svg}text"):
+                long = length(it.text, float(it.get("font-size", 11))) * 0.9
+                anchor = {"start": 0.0, "middle": 0.5, "end": 1.0}[it.get("text-anchor")]
+                begin = left + float(it.get("x")) - anchor * long
+                self.assertTrue(0 <= begin and begin + long <= width, it.text)
+
+    def test_read_and_pending_are_told_apart(self):
+        drawn = draw_bands(
+            [read_placement(PLACE)], [Node(1, "a", "dc1", "r1", "", ()), Node(2, "b", "dc1", "r1", "", ())]
+        )
+        self.assertEqual(drawn.count("<title>a: read and written</title>"), 1)
+        self.assertEqual(drawn.count("<title>b: written, not read</title>"), 1)
+        self.assertIn("0.00% + 50.00%", drawn)
+
+    def test_captions_break(self):
+        self.assertEqual(wrapped("a bb ccc", length("a bb")), ["a bb", "ccc"])
+
+
+if __name__ == "__main__":
+    unittest.main()

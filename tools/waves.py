@@ -1,0 +1,174 @@
+"""Plans wishes on a copy of a log: which movements can be in flight together, wave after wave."""
+from __future__ import annotations
+
+from dataclasses import dataclass, field
+from typing import Dict, List, Sequence, Tuple
+
+from tools.answers import Placement, is_refusal
+from tools.coupling import Attempt, Coupling, couplings
+from tools.errors import Refused
+from tools.flight import Trial
+from tools.log import copy_of, state
+from tools.margins import Level, Margin, Quorums, least
+from tools.names import Names
+from tools.placements import pending_shares
+from tools.program import Session
+from tools.wishes import Wish, chosen, command_of, draw_tokens
+
+ORDER = {"PREPARED": 0, "STARTED": 1, "MID": 2}
+
+
+@dataclass
+class Wave:
+    """Movements that can be in flight together, and what was seen of them on the copy."""
+
+    wishes: List[Wish] = field(default_factory=list)
+    waiting: Dict[str, str] = field(default_factory=dict)  # by the name of a wish: the refusal
+    coupled: Dict[str, List[Coupling]] = field(default_factory=dict)
+    already: List[Tuple[str, int, str]] = field(default_factory=list)  # kind, node and phase of what was in flight
+    moved: Dict[str, Dict[int, int]] = field(default_factory=dict)  # by keyspace and node: tokens streamed to it
+    margins: Dict[Level, Margin] = field(default_factory=dict)
+
+
+@dataclass
+class Plan:
+    """The waves, and what else was seen: `impossible` has the refusal that a wish still meets after all of them."""
+
+    waves: List[Wave]
+    finished: List[Tuple[str, int]]  # kinds and nodes of movements that were half way, and were finished first
+    impossible: Dict[str, str]
+    registered: List[Tuple[str, str, str]]  # new nodes, with datacenter and rack, by their names of Cassandra
+    node_names: Dict[int, str]
+    same: Dict[str, List[str]]  # one keyspace of each replication, with all that have it
+    after: Dict[Level, Margin]
+
+
+class Planner:
+    """Tries wishes on a copy of a log."""
+
+    def __init__(self, session: Session, copy: str, names: Names, down: Sequence[str]) -> None:
+        self.copy, self.names = copy, names
+        now = state(copy)
+        self.trial = Trial(session, copy, now.epoch)
+        self.ids = {it.name: it.id for it in now.nodes.nodes}
+        self.places = {it.name: (it.dc, it.rack) for it in now.nodes.nodes}
+        self.next_id, self.replications, self.same = now.next_id, now.replications, now.distinct()
+        self.taken = {token for node in now.nodes.nodes for token in node.tokens}
+        self.taken |= {token for it in now.movements for token, _ in it.incoming}
+        self.quorums = Quorums(self.trial, self.replications, {self.id_of(it) for it in down})
+
+    def here(self, name: str) -> str:
+        """Returns the name that the log has for a name of Cassandra."""
+        return self.names.choose("node", name)
+
+    def id_of(self, name: str) -> int:
+        """Returns the id of the node with a name."""
+        if self.here(name) not in self.ids:
+            raise Refused(f"no node {name} is in the log")
+        return self.ids[self.here(name)]
+
+    # ---- Nodes
+
+    def register(self, wishes: Sequence[Wish]) -> List[Tuple[str, str, str]]:
+        """Registers the nodes of joins and replaces that the log doesn't have yet, and returns them."""
+        found = []
+        for wish in wishes:
+            if wish.kind not in ("join", "replace"):
+                self.id_of(wish.name)
+                continue
+            dc, rack = self.place_of(wish)
+            if self.here(wish.name) not in self.ids:
+                self.trial.commit(f"register {self.here(wish.name)} {dc} {rack}")
+                self.ids[self.here(wish.name)], self.next_id = self.next_id, self.next_id + 1
+                found.append((wish.name, self.names.word("datacenter", dc), self.names.word("rack", rack)))
+            elif wish.kind == "join" and self.places[self.here(wish.name)] != (dc, rack):
+                raise Refused(
+                    f"{wish.name} is registered in {' '.join(self.places[self.here(wish.name)])}, not in {dc} {rack}"
+                )
+        return found
+
+    def place_of(self, wish: Wish) -> Tuple[str, str]:
+        """Returns the datacenter and the rack of a new node, by their names in the log."""
+        if wish.kind == "replace":
+            self.id_of(wish.gone)
+            return self.places[self.here(wish.gone)]
+        return self.names.choose("datacenter", wish.dc), self.names.choose("rack", wish.rack)
+
+    def draw(self, wish: Wish, seed: int) -> Wish:
+        """Returns a wish with the tokens that are drawn for it."""
+        if not wish.draws:
+            return wish
+        tokens = draw_tokens(wish.name, wish.draws, seed, self.taken)
+        self.taken |= set(tokens)
+        return chosen(wish, tokens)
+
+    def finish_half_way(self) -> List[Tuple[str, int]]:
+        """Finishes the movements that are half way, and returns their kinds and nodes."""
+        half_way = [it for it in state(self.copy).movements if it.phase == "MID"]
+        for it in half_way:
+            self.trial.commit(f"finish-{it.kind} {it.node}")
+        return [(it.kind, it.node) for it in half_way]
+
+    # ---- Waves
+
+    def wave(self, wishes: Sequence[Wish]) -> Wave:
+        """Prepares the wishes that can be in flight together, goes through their steps, and finishes them."""
+        before, wave = state(self.copy), Wave()
+        wave.already = [(it.kind, it.node, it.phase) for it in before.movements]
+        moments = [self.quorums.margins(self.places_now())]
+        attempts = [self.attempt(wave, it) for it in wishes]
+        if any("LOCKED" in it for it in wave.waiting.values()):
+            found = couplings(before, attempts)
+            wave.coupled = {it.name: found.get(self.id_of(it.name), []) for it in wishes if it.name in wave.waiting}
+        moving = [*wave.already, *((it.kind, self.id_of(it.name), "PREPARED") for it in wave.wishes)]
+        self.step("start", moving)
+        started = self.places_now()
+        wave.moved = {keyspace: pending_shares(it) for keyspace, it in started.items()}
+        moments.append(self.quorums.margins(started))
+        self.step("mid", moving)
+        moments.append(self.quorums.margins(self.places_now()))
+        self.step("finish", moving)
+        wave.margins = least(moments)
+        return wave
+
+    def attempt(self, wave: Wave, wish: Wish) -> Attempt:
+        """Tries to prepare a wish."""
+        node = self.id_of(wish.name)
+        command = command_of(wish, node, self.id_of(wish.gone) if wish.gone else None)
+        answer = self.trial.try_commit(command)
+        if is_refusal(answer):
+            wave.waiting[wish.name] = answer[0]
+        else:
+            wave.wishes.append(wish)
+        return Attempt(command, node, not is_refusal(answer))
+
+    def step(self, step: str, moving: Sequence[Tuple[str, int, str]]) -> None:
+        """Takes each movement a step further, unless it was further already."""
+        done = {"start": 1, "mid": 2, "finish": 3}[step]
+        for kind, node, phase in moving:
+            if ORDER[phase] < done:
+                self.trial.commit(f"{step}-{kind} {node}")
+
+    def places_now(self) -> Dict[str, Placement]:
+        """Returns the placements now, of one keyspace for each replication."""
+        return self.trial.places(list(self.same))
+
+
+def plan(log: str, wishes: List[Wish], down: List[str], names: Names, seed: int) -> Plan:
+    """Tries wishes on a copy of a log, in waves, and returns what was seen."""
+    with copy_of(log) as copy, Session([copy]) as session:
+        planner = Planner(session, copy, names, down)
+        finished = planner.finish_half_way()
+        registered = planner.register(wishes)
+        rest = [planner.draw(it, seed) for it in wishes]
+        waves: List[Wave] = []
+        while rest:
+            wave = planner.wave(rest)
+            if not wave.wishes and not wave.already:
+                break
+            waves.append(wave)
+            rest = [it for it in rest if it not in wave.wishes]
+        after = planner.quorums.margins(planner.places_now())
+        impossible = {it.name: wave.waiting[it.name] for it in rest}
+    nodes = {node: name for name, node in planner.ids.items()}
+    return Plan(waves, finished, impossible, registered, nodes, planner.same, after)

@@ -1,0 +1,53 @@
+"""Words that several verbs share."""
+from __future__ import annotations
+
+import argparse
+import re
+from typing import List, Optional
+
+from tools.errors import Refused, WrongWords
+from tools.log import State
+from tools.names import Names
+from tools.terms import listed
+
+
+def add_log(parser: argparse.ArgumentParser) -> None:
+    """Declares the log file."""
+    parser.add_argument("log", metavar="LOG", help="the log file; LOG.names beside it has names that differ")
+
+
+def add_json(parser: argparse.ArgumentParser) -> None:
+    """Declares `--json`."""
+    parser.add_argument("--json", action="store_true", help="print JSON, with tokens as texts")
+
+
+def add_keyspaces(parser: argparse.ArgumentParser) -> None:
+    """Declares `--keyspace`."""
+    parser.add_argument(
+        "--keyspace", metavar="KS", action="append", default=[], help="show this keyspace alone; may be repeated"
+    )
+
+
+def epoch_of(word: str) -> Optional[int]:
+    """Returns the epoch that a word such as @12 names, None for @last."""
+    if word == "@last":
+        return None
+    if not re.fullmatch(r"@(0|[1-9][0-9]{0,18})", word):
+        raise WrongWords(f"an epoch is @ and a number, such as @12, or @last, not {word}")
+    return int(word[1:])
+
+
+def keyspace_named(said: str, now: State, names: Names) -> str:
+    """Returns the name in the log of a keyspace that is there."""
+    name = names.here("keyspace", said)
+    if name not in now.replications:
+        raise Refused(
+            f"no keyspace {said} at epoch {now.epoch}, only "
+            f"{listed([names.there('keyspace', it) for it in sorted(now.replications)])}"
+        )
+    return name
+
+
+def chosen_keyspaces(said: List[str], now: State, names: Names) -> List[str]:
+    """Returns the keyspaces that words name, or all, by their names in the log."""
+    return sorted({keyspace_named(it, now, names) for it in said}) if said else sorted(now.replications)
