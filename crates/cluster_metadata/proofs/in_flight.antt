@@ -4,5 +4,6 @@ pub mod CancelLemmas
 pub mod MovementPlaces
 pub mod PlanLemmas
 pub mod PrepareLemmas
+pub mod RenewedPlans
 pub mod ResumeLemmas
 pub mod RunningLemmas

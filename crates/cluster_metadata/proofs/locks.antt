@@ -6,3 +6,4 @@ pub mod LocksKept
 pub mod LocksResumed
 pub mod LocksTaken
 pub mod OverlapLemmas
+pub mod RenewedLocks

@@ -1,22 +1,23 @@
 -- How a command changes the reads, the writes and the cuts, and where the deltas of movements change from token to
 -- token.
-use Rattle.std.specs.Prelude.{◌≡◌, ℤ, pos, ◌+ℤ◌}
+use Rattle.std.specs.Prelude.{◌≡◌, true, ℤ, pos, ◌+ℤ◌}
 use Rattle.std.specs.List.{AllByRecursion}
 use Rattle.cluster_terms.specs.Arc.{IsToken}
 use Rattle.cluster_terms.specs.declared.replication.Replication.{Replication}
 use Rattle.transformations.specs.CutSteps.{CutsChange, ended_by}
 use Rattle.transformations.specs.DeltaSteps.{AreChanged, delta_of_command}
+use Rattle.transformations.specs.Meeting.{makes_movement_epoch}
 use Rattle.transformations.specs.MovementDeltas.{gained_at, lost_at}
 use Rattle.transformations.specs.Refusals.{prepared_by}
 use Rattle.transformations.specs.declared.command.Command.{Command}
 use Rattle.transformations.specs.declared.image.Image.{Image}
 use Rattle.transformations.specs.declared.sequence.SeqRow.{SeqRow}
 
--- at each token and under each keyspace, the reads and the writes after a command are those before, changed by the
--- command's delta
+-- at each token and under each keyspace for which a command makes a movement epoch, the reads and the writes after it
+-- are those before, changed by its delta
 abbrev pub ActsByDelta : Image → Image → Command → Type 0
 ActsByDelta before after c = (x : ℤ) → IsToken x
-    → AllByRecursion (λ k. AreChanged before after k.replication x (delta_of_command before c k.replication x)) before.keyspaces
+    → AllByRecursion (λ k. makes_movement_epoch k.name c ≡ true → AreChanged before after k.replication x (delta_of_command before c k.replication x)) before.keyspaces
 
 -- the cuts change by the movement that the command begins, or by the movement that it ends, and stay if it does neither
 abbrev pub CutsMove : Image → Image → Command → Type 0

@@ -1,5 +1,5 @@
 ghost use Rattle.std.specs.Prelude.{◌≡◌, ◌*◌, ◌-◌, ◌<◌, ◌≤◌, ◌^◌, ◌↔◌, if◌then◌else◌, ℤ, [], true, false, None, length, map, option_map, IfErr, IfOk, IfSome, IsNone, IsSome, IsTrue, MatchResult, OnErr, OnOk};
-ghost use Rattle.std.specs.List.{All};
+ghost use Rattle.std.specs.List.{All, Contains};
 ghost use Rattle.std.specs.Option.{option_copied};
 ghost use Rattle.std.specs.Ordering.{int_eq};
 ghost use Rattle.std.specs.Set.{is_member};
@@ -8,7 +8,8 @@ ghost use Rattle.cluster_terms.specs.declared.replication.Replication.{Replicati
 ghost use Rattle.transformations.specs.CutSteps.{SameAcross};
 ghost use Rattle.transformations.specs.History.{empty_image, is_command, most_epochs, next_image};
 ghost use Rattle.transformations.specs.ImageRules.{bad_of};
-ghost use Rattle.transformations.specs.Meeting.{HaveReplications, QuorumsExistTogether, QuorumsMeet, ReadsAreWritten, makes_movement_epoch};
+ghost use Rattle.transformations.specs.declared.keyspace.KeyspaceRow.{KeyspaceRow as Keyspace};
+ghost use Rattle.transformations.specs.Meeting.{HaveReplications, MeetsAfter, QuorumsExistTogether, QuorumsMeet, ReadsAreWritten, is_unsafe_join, makes_movement_epoch};
 ghost use Rattle.transformations.specs.Refusals.{early_refusal_of, prepared_by, refusal_of};
 ghost use Rattle.transformations.specs.Rings.{cuts, writes_at};
 ghost use Rattle.transformations.specs.Valid.{IsValid};
@@ -47,8 +48,9 @@ use transformations::{Command, Image, KeyspaceRow};
 /// The metadata of a cluster: a valid image, and the movements in flight, each as a value of its phase. Contracts see
 /// it as the image.
 ///
-/// Each movement in flight keeps the row and the deltas of the plan with which it was prepared. The deltas are exact in
-/// the image as it is: at each token, under each keyspace, they are the nodes that the movement gains and loses.
+/// Each movement in flight keeps the row and the deltas of its plan. The plan is made when the movement is prepared, and
+/// anew if a keyspace is set or dropped. The deltas are exact in the image as it is: at each token, under each keyspace,
+/// they are the nodes that the movement gains and loses.
 ///
 /// Under each keyspace, a token is in the ranges of at most one movement. The ranges are CEP-21's locked ranges, by a
 /// rule of this project: the tokens whose replicas the movement may change, whatever happens to the other movements.
@@ -218,7 +220,9 @@ impl Metadata {
     ///
     /// Errors: `Refused` with the first refusal of the command; `Memory` if memory runs out. Locked ranges are checked
     /// last. `Locked` shows the least node whose movement shares a token with the new movement, in the ranges of both
-    /// under one keyspace, and the right end of the first row that they share.
+    /// under one keyspace, and the right end of the first row that they share. `KeyspaceLocked` shows the least node
+    /// whose movement would share a token with that of a greater node if the keyspace were set, the least such greater
+    /// node, and the right end of the first row that they would share.
     ///
     /// Cost: a copy of each list that the command changes. The nodes aren't copied: a register, an unregister and a
     /// finish change one row of the image and of the directory. A register takes memory for the nodes once more, and
@@ -229,7 +233,11 @@ impl Metadata {
     /// If the command prepares a movement, its plan is made, as `sequence_plans::plan_in` makes it: the movements are
     /// copied, and for m movements with the new one and r replications, `ring_reach::reached` is called m·r times. Under
     /// each replication, two walks are counted for each row between cuts that is in the ranges of the new movement.
-    /// `Locked` is the only refusal that comes after walks.
+    /// `Locked` is the only refusal that comes after walks that `walks` counts.
+    ///
+    /// If a keyspace is set or dropped, the image is copied, and a plan is made for each movement in flight, as for one
+    /// that is prepared, but its walks are counted on a counter of their own. Then the ranges of each two movements are
+    /// compared.
     ///
     /// The placement maps stay if a node is registered or unregistered. A start, the step half way and a cancel half
     /// way make new sets for the rows that the deltas of the movement change, and search the delta for each row. If a
@@ -284,11 +292,12 @@ impl Metadata {
     /// Each movement that goes on keeps its ranges, and under each keyspace a token is still in the ranges of at most
     /// one movement. Reads and writes are still placements after outcomes, as `admit` says.
     ///
-    /// If the command makes a movement epoch, each write quorum of the image before shares a replica with each read
-    /// quorum of the image after, and the other way round. This holds for QUORUM at every token under every keyspace,
-    /// and for LOCAL_QUORUM in each datacenter that its replication names.
+    /// Under each keyspace for which the command makes a movement epoch, each write quorum of the image before shares a
+    /// replica with each read quorum of the image after, and the other way round. This holds for QUORUM at every token,
+    /// and for LOCAL_QUORUM in each datacenter that the replication names. Such a keyspace stays as it is.
     ///
-    /// Such a command changes the reads and the writes by its delta, and the cuts by the movement that begins or ends.
+    /// Under it the command changes the reads and the writes by its delta. A command that gives no tokens at once changes
+    /// the cuts by the movement that begins or ends.
     /// After every command, the reads and the writes at a token that is no cut are those at the token after it, and
     /// each movement in flight gains and loses the same nodes at both. So a token at which its delta changes is a cut
     /// as long as the movement is in flight.
@@ -298,7 +307,8 @@ impl Metadata {
     /// ends, the rows of later movements move, and one pass over the locks unlocks its ranges; any other step, and a
     /// cancel half way, sets the phase of one row. If a movement begins or ends, rows of the placement maps are moved
     /// past those that come or go, or to new memory if the map has none to spare. If a command on keyspaces brings
-    /// another list of replications, the maps that stay move to a new list, and their rows stay where they are.
+    /// another list of replications, the maps that stay move to a new list, and their rows stay where they are; each
+    /// movement in flight takes a new plan, for m movements at the cost of m·m moves of such a value.
     pub fn enact(&mut self, permit: Permit) -> u64
         requires { permit.image ≡ self.old }
         ensures image { self.new ≡ next_image self.old permit.command }
@@ -308,9 +318,10 @@ impl Metadata {
         ensures rings { AreOutcomes self.new }
         ensures placements { ArePlacedByOutcomes self.new }
         ensures ranges { KeepsRanges self.old self.new }
-        ensures meets { makes_movement_epoch permit.command ≡ true → QuorumsMeet self.old self.new }
-        ensures acts { makes_movement_epoch permit.command ≡ true → ActsByDelta self.old self.new permit.command }
-        ensures cuts { makes_movement_epoch permit.command ≡ true → CutsMove self.old self.new permit.command }
+        ensures meets { (k : Keyspace) → Contains self.old.keyspaces k
+            → makes_movement_epoch k.name permit.command ≡ true → MeetsAfter self.old self.new k }
+        ensures acts { ActsByDelta self.old self.new permit.command }
+        ensures cuts { is_unsafe_join permit.command ≡ false → CutsMove self.old self.new permit.command }
         ensures across { (r : Replication) (t : ℤ) → is_member int_eq (cuts self.new) t ≡ false
             → SameAcross self.new r t }
         ensures live { (r : Replication) (t : ℤ) → is_member int_eq (cuts self.new) t ≡ false

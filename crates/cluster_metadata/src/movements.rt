@@ -2,6 +2,7 @@
 
 pub mod cancelling;
 pub mod preparing;
+pub mod renewing;
 pub mod rows_in_place;
 pub mod running;
 pub mod stepping;

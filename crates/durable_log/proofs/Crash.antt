@@ -11,7 +11,7 @@ use Rattle.durable_log.proofs.Fronts.{closed_end, front_kept, records_end}
 use Rattle.durable_log.proofs.RecordLemmas.{records-written, records_none, shut}
 use Rattle.durable_log.proofs.Writes.{written_torn}
 
-changed_all_push : (all : Files) (xs : List Change) (x : Change) → changed_all all (xs ++ x ∷ []) ≡ changed (changed_all all xs) x
+pub changed_all_push : (all : Files) (xs : List Change) (x : Change) → changed_all all (xs ++ x ∷ []) ≡ changed (changed_all all xs) x
 changed_all_push all [] x = refl
 changed_all_push all (y ∷ xs) x = changed_all_push (changed all y) xs x
 

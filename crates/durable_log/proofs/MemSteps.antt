@@ -1,13 +1,13 @@
 -- A step more of a disk in memory.
-use Rattle.std.proofs.Common.{◌≡◌, ℕ, ◌+◌, ◌≤◌, List, [], ◌∷◌, ◌++◌, length, take, reverse, sym, ◌∙◌, ap, subst, arith, length-append, false, Result, Ok, Err, MatchResult}
+use Rattle.std.proofs.Common.{◌≡◌, ℕ, ◌+◌, ◌≤◌, List, [], ◌∷◌, ◌++◌, length, take, reverse, refl, sym, ◌∙◌, ap, subst, arith, length-append, false, Result, Ok, Err, IfOk, MatchResult}
 use Rattle.std.proofs.Math.Logic.{∥∥₁_map}
 use Rattle.std.specs.Result.{is_err}
 use Rattle.std.proofs.lemmas.List.{reverse-append, take-append-le, take_all}
 use Rattle.durable_log.specs.Disk.{Passes, Written}
-use Rattle.durable_log.specs.MemImages.{LeavesAfter, LeftAt}
+use Rattle.durable_log.specs.MemImages.{LeavesAfter, LeftAt, last_kept}
 use Rattle.durable_log.specs.declared.mem_disk.Done.{Done}
 use Rattle.durable_log.specs.declared.mem_disk.Done.TheVariants.{Wrote, Synced}
-use Rattle.durable_log.proofs.Writes.{torn_wider, written_torn}
+use Rattle.durable_log.proofs.Writes.{torn_same, torn_wider, written_torn}
 
 module _ (first : List ℕ) (done : List Done) (step : Done) where
   pushed : reverse (take (length (done ++ step ∷ [])) (done ++ step ∷ [])) ≡ step ∷ reverse done
@@ -72,3 +72,21 @@ noted (Err e) Q done new step pushed fine = absurd (cc fine)
 pub among_kept : {E : Type 0} (r : Result (Unit {0}) E) (Q : E → Type 0) (first : List ℕ) (done new : List Done) (bytes kept : List ℕ) → MatchResult r (λ _. new ≡ done ++ Synced kept ∷ []) (λ e. (new ≡ done) × Q e) → bytes ≡ kept → ∥ LeftAt first done (length done) bytes ∥₁ → ∥ LeftAt first new (length new) bytes ∥₁
 among_kept (Ok x) Q first done new bytes kept pushed same among = among_synced first done new bytes kept pushed same among
 among_kept (Err e) Q first done new bytes kept pushed same among = subst (λ (l : List Done). ∥ LeftAt first l (length l) bytes ∥₁) (sym pushed.0) among
+
+-- what the last sync kept is an image
+kept_left : (first : List ℕ) (older : List Done) (x : List ℕ) → LeavesAfter first older x → LeavesAfter first older (last_kept first older)
+kept_left first [] x left = refl
+kept_left first (Wrote at n ∷ older) x left = (last_kept first older, kept_left first older left.0 left.1, torn_same at n (last_kept first older))
+kept_left first (Synced bytes ∷ older) x left = (refl, subst (λ (l : List ℕ). LeavesAfter first older l) left.0 left.1)
+
+kept_among : (first : List ℕ) (done : List Done) (x bytes : List ℕ) → bytes ≡ last_kept first (reverse done) → ∥ LeftAt first done (length done) x ∥₁ → ∥ LeftAt first done (length done) bytes ∥₁
+kept_among first done x bytes is among =
+    ∥∥₁_map among (λ left.
+    let whole : reverse (take (length done) done) ≡ reverse done = ap reverse (take_all (length done) done (omega arith)) in
+    subst (λ (l : List Done). LeavesAfter first l bytes) (sym whole)
+    (subst (λ (b : List ℕ). LeavesAfter first (reverse done) b) (sym is)
+    (kept_left first (reverse done) x (subst (λ (l : List Done). LeavesAfter first l x) whole left))))
+
+pub crash_left : {E : Type 0} (r : Result (List ℕ) E) (first : List ℕ) (done : List Done) (x bytes : List ℕ) → bytes ≡ last_kept first (reverse done) → IfOk r (λ copy. copy ≡ bytes) → ∥ LeftAt first done (length done) x ∥₁ → IfOk r (λ copy. ∥ LeftAt first done (length done) copy ∥₁)
+crash_left (Ok copy) first done x bytes is copied among = kept_among first done x copy (copied ∙ is) among
+crash_left (Err e) first done x bytes is copied among = tt

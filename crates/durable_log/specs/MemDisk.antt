@@ -1,7 +1,7 @@
 -- A disk in memory.
-use Rattle.std.specs.Prelude.{ℕ, List, length}
-use Rattle.tcm_edges.specs.Calls.{Plan}
-use Rattle.durable_log.specs.MemImages.{LeftAt, latest}
+use Rattle.std.specs.Prelude.{ℕ, List, length, reverse, Result, Ok, Err}
+use Rattle.tcm_edges.specs.Calls.{Plan, call_passed, failed}
+use Rattle.durable_log.specs.MemImages.{LeftAt, last_kept, latest}
 use Rattle.durable_log.specs.declared.mem_disk.MemDisk.{MemDisk}
 
 -- its bytes
@@ -19,3 +19,12 @@ CrashLeaves disk t c = LeftAt disk.first disk.done t c
 -- the plan of its calls
 abbrev pub plan_of : MemDisk → Plan ℕ
 plan_of disk = disk.calls
+
+-- its bytes after the last sync that succeeded
+abbrev pub kept_on : MemDisk → List ℕ
+kept_on disk = last_kept disk.first (reverse disk.done)
+
+-- the plan after a call with this result
+abbrev pub counted : {T E : Type 0} → Result T E → Plan ℕ → Plan ℕ
+counted (Ok _) plan = call_passed plan
+counted (Err _) plan = failed plan

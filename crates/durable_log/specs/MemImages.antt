@@ -18,3 +18,9 @@ LeftAt first done t c = LeavesAfter first (reverse (take t done)) c
 -- the bytes on the disk: the first ones, until something is written
 abbrev pub latest : List ℕ → Option (List ℕ) → List ℕ
 latest first changed = unwrap_or changed first
+
+-- the bytes after the last sync among these steps, the last of them first: the first ones, if there was none
+abbrev pub last_kept : List ℕ → List Done → List ℕ
+last_kept first [] = first
+last_kept first (Wrote at n ∷ older) = last_kept first older
+last_kept first (Synced bytes ∷ older) = bytes

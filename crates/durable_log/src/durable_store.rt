@@ -1,6 +1,6 @@
 ghost use Rattle.std.specs.Prelude.{◌≡◌, IfErr, IfOk, IfSome, IsOkUnless, MatchResult, OnErr, OnOk};
-ghost use Rattle.tcm_edges.specs.Causes.{count_write, one_more, OnFailed};
-ghost use Rattle.tcm_edges.specs.Files.{ChangesFile, OthersKept, GainsAll, GainsPart, IsReplaced, IsOldOrNew};
+ghost use Rattle.tcm_edges.specs.Causes.{count_load, count_write, one_more, OnFailed, OnLoadMemory};
+ghost use Rattle.tcm_edges.specs.Files.{ChangesFile, IsLoad, OthersKept, GainsAll, GainsPart, IsReplaced, IsOldOrNew};
 ghost use Rattle.tcm_edges.specs.Writes.{KeptAtMemory, TellsAlike};
 ghost use Rattle.durable_log.specs.Disk.{Changes, Passes};
 ghost use Rattle.durable_log.specs.Images.{ClosesGate, SameFiles, SameFilesOr, Stands, StandsEither, told_files};
@@ -8,13 +8,15 @@ ghost use Rattle.durable_log.specs.code.Ends.{write_result};
 ghost use Rattle.durable_log.specs.Records.{appending, changed, files, replacing};
 
 use crate::disk::Disk;
+use crate::loading::Wanted;
 use crate::record_log::RecordLog;
 use std::alloc::Global;
 use std::marker::Model;
-use tcm_edges::{Failed, WriteFault};
+use tcm_edges::{Failed, LoadFault, Loaded, Store, WriteFault};
 
 /// Files on a disk that may stop at any moment. The store is seen as its disk. Its files are those after the records
 /// on the disk.
+#[derive(Drop)]
 pub struct DurableStore<D: Disk> {
     alloc: Global,
     log: RecordLog<D>,
@@ -68,10 +70,43 @@ impl<D: Disk> DurableStore<D> {
         let DurableStore { alloc: _, log } = self;
         log.close()
     }
+}
+
+impl<D: Disk> Store for DurableStore<D> {
+    ghost files = { λ store. told_files (D.content store) };
+
+    ghost faults = { λ store. D.faults store };
+
+    /// Returns the bytes of the file, by one pass over the records. If a call before it failed, begins as `open` does.
+    /// Returns `Failed` if a call of the disk failed; then the next call begins as `open` does. Returns `Memory` if
+    /// memory runs out. The cost is two reads for each record, and one more for each record of the file.
+    fn load(&mut self, name: &str, limit: u64) -> Result<Loaded, LoadFault>
+        ensures found { IfOk result (λ loaded. IsLoad (told_files (D.content self.old)) name.now limit loaded) }
+        ensures kept { told_files (D.content self.new) ≡ told_files (D.content self.old) }
+        ensures cause { D.faults self.new ≡ count_load result (D.faults self.old) }
+        // Unless a call of the disk failed, nothing was written, or a single 0.
+        ensures closes { MatchResult result
+            (λ _. Changes ClosesGate (D.content self.old) (D.content self.new))
+            (λ fault. OnLoadMemory fault (Changes ClosesGate (D.content self.old) (D.content self.new))) }
+        // Each image of a moment since the start stands for the files of an image of the start.
+        ensures images { IfSome (D.content self.old) (λ _. Passes D.moment D.image SameFiles self.old self.new) }
+        // After `Ok` each image stands for the files that the store tells.
+        ensures stands { OnOk result (Stands (D.content self.new) (D.image self.new (D.moment self.new))) }
+        // Where this was so before, it stays so, whatever the result.
+        ensures still { Stands (D.content self.old) (D.image self.old (D.moment self.old)) →
+            Stands (D.content self.new) (D.image self.new (D.moment self.new)) }
+    {
+        let wanted = Wanted {
+            alloc: self.alloc,
+            name: name.as_bytes(),
+            limit,
+        };
+        self.log.load(&wanted)
+    }
 
     /// Adds the bytes at the end of a file, and makes the file if it is absent. They count once all of them are on the
     /// disk. The only error is `Failed`; then the next call begins as `open` does. Takes no memory.
-    pub fn append(&mut self, name: &str, bytes: &[u8]) -> Result<(), WriteFault>
+    fn append(&mut self, name: &str, bytes: &[u8]) -> Result<(), WriteFault>
         ensures ok { OnOk result (ChangesFile (GainsAll bytes.now)
             (told_files (D.content self.old)) (told_files (D.content self.new)) name.now) }
         ensures failed { IfErr result (λ fault. OnFailed fault (ChangesFile (GainsPart bytes.now)
@@ -97,7 +132,7 @@ impl<D: Disk> DurableStore<D> {
 
     /// Replaces the contents of a file by these bytes, and makes the file if it is absent. They count once all of them
     /// are on the disk. The only error is `Failed`; then the next call begins as `open` does. Takes no memory.
-    pub fn replace(&mut self, name: &str, bytes: &[u8]) -> Result<(), WriteFault>
+    fn replace(&mut self, name: &str, bytes: &[u8]) -> Result<(), WriteFault>
         ensures ok { OnOk result (ChangesFile (IsReplaced bytes.now)
             (told_files (D.content self.old)) (told_files (D.content self.new)) name.now) }
         ensures failed { IfErr result (λ fault. OnFailed fault (ChangesFile (IsOldOrNew bytes.now)

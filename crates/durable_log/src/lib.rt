@@ -5,6 +5,8 @@ mod adding;
 pub mod disk;
 mod disk_calls;
 pub mod durable_store;
+pub mod file_disk;
+mod loading;
 pub mod mem_disk;
 mod mem_disk_calls;
 mod put_down;
@@ -14,4 +16,5 @@ mod settling;
 
 pub use disk::Disk;
 pub use durable_store::DurableStore;
+pub use file_disk::FileDisk;
 pub use mem_disk::MemDisk;

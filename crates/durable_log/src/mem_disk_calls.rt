@@ -1,9 +1,9 @@
-ghost use Rattle.std.specs.Prelude.{◌≡◌, ◌<◌, ◌≤◌, ◌+◌, ◌^◌, ◌++◌, ◌↔◌, Some, length, take, drop, IfOk, IfSome, IsErr, IsTrue, MatchResult, OnErr, OnOk};
+ghost use Rattle.std.specs.Prelude.{◌≡◌, ◌<◌, ◌≤◌, ◌+◌, ◌^◌, ◌++◌, ◌↔◌, ◌⊎◌, Some, length, take, drop, IfOk, IfSome, IsErr, IsTrue, MatchResult, OnErr, OnOk};
 ghost use Rattle.std.specs.Io.{ReadsAtMost};
 ghost use Rattle.tcm_edges.specs.Calls.{fresh_plan, next_fails, call_passed, failed};
 ghost use Rattle.tcm_edges.specs.Causes.{count_read};
 ghost use Rattle.durable_log.specs.Disk.{Changes, Only, Passes, ReadsAt, Same, Torn, Written};
-ghost use Rattle.durable_log.specs.MemDisk.{bytes_on, plan_of, steps_of, CrashLeaves};
+ghost use Rattle.durable_log.specs.MemDisk.{bytes_on, counted, kept_on, plan_of, steps_of, CrashLeaves};
 
 use crate::disk::Disk;
 use crate::disk_calls::DiskCalls;
@@ -62,6 +62,27 @@ impl MemDisk {
             Some(bytes) => bytes.as_slice(),
             None => self.first.as_slice(),
         }
+    }
+
+    /// The bytes after the last sync that succeeded.
+    fn kept(&self) -> &[u8]
+        ensures { result.now ≡ kept_on self.now }
+    {
+        let mut kept = self.first.as_slice();
+        for step in self.done.as_slice() {
+            if let Done::Synced(bytes) = step {
+                kept = bytes.as_slice();
+            }
+        }
+        kept
+    }
+
+    /// What a crash leaves that loses each write since the last sync that succeeded. This counts as no call.
+    pub fn crash(&self) -> Result<ByteText, Memory>
+        ensures image { IfOk result (λ bytes. ∥ CrashLeaves self.now (steps_of self.now) bytes ∥₁) }
+        ensures kept { IfOk result (λ bytes. bytes ≡ kept_on self.now) }
+    {
+        copy_of(self.alloc, self.kept())
     }
 
     /// Writes bytes at a place, as the front of a write of `len` bytes. If memory runs out, or the disk would have more
@@ -125,7 +146,16 @@ impl Disk for MemDisk {
 
     ghost among = { λ disk. disk.among };
 
-    fn size(&mut self) -> Result<u64, Failed> {
+    /// Fails if it is listed or if there are more than 2^62 bytes, and otherwise never.
+    fn size(&mut self) -> Result<u64, Failed>
+        ensures size { IfOk result (λ n. n ≡ length (bytes_on self.old)) }
+        ensures bound { IfOk result (λ n. n ≤ 2 ^ 62) }
+        ensures kept { Some (bytes_on self.new) ≡ Some (bytes_on self.old) }
+        ensures images { Passes steps_of CrashLeaves Same self.old self.new }
+        ensures cause { (plan_of self.new).faults ≡ count_read result (plan_of self.old).faults }
+        ensures fails { IsErr result ↔ (IsTrue (next_fails (plan_of self.old)) ⊎ (2 ^ 62 < length (bytes_on self.old))) }
+        ensures plan { plan_of self.new ≡ counted result (plan_of self.old) }
+    {
         let size = self.bytes().len();
         if self.calls.next_fails() || size > 1 << 62 {
             return Err(self.fail());
@@ -134,7 +164,17 @@ impl Disk for MemDisk {
         Ok(size as u64)
     }
 
-    fn read_at(&mut self, at: u64, buf: &mut [u8]) -> Result<usize, Failed> {
+    /// Fails if it is listed, and otherwise never. Reads as many bytes as there are and as the buffer has room for.
+    fn read_at(&mut self, at: u64, buf: &mut [u8]) -> Result<usize, Failed>
+        requires { 0 < length buf.old }
+        ensures bound { ReadsAtMost result buf.new }
+        ensures bytes { IfOk result (λ n. ReadsAt (bytes_on self.old) at n buf.new) }
+        ensures kept { Some (bytes_on self.new) ≡ Some (bytes_on self.old) }
+        ensures images { Passes steps_of CrashLeaves Same self.old self.new }
+        ensures cause { (plan_of self.new).faults ≡ count_read result (plan_of self.old).faults }
+        ensures fails { IsErr result ↔ IsTrue (next_fails (plan_of self.old)) }
+        ensures plan { plan_of self.new ≡ counted result (plan_of self.old) }
+    {
         if self.calls.next_fails() {
             return Err(self.fail());
         }
@@ -150,7 +190,18 @@ impl Disk for MemDisk {
         Ok(n)
     }
 
-    fn write_at(&mut self, at: u64, bytes: &[u8]) -> Result<(), Failed> {
+    /// Fails if it is listed, if the disk would have more than 2^62 bytes, or if memory runs out. A listed call writes
+    /// the first half of the bytes, rounded up, if there is memory for it. No other call that fails writes any.
+    fn write_at(&mut self, at: u64, bytes: &[u8]) -> Result<(), Failed>
+        requires { at ≤ length (bytes_on self.old) }
+        ensures ok { OnOk result (Written at bytes.now (bytes_on self.old) (bytes_on self.new)) }
+        ensures err { OnErr result (Torn at (length bytes.now) (bytes_on self.old) (bytes_on self.new)) }
+        ensures bound { OnOk result (at + length bytes.now ≤ 2 ^ 62) }
+        ensures images { Passes steps_of CrashLeaves (Torn at (length bytes.now)) self.old self.new }
+        ensures cause { (plan_of self.new).faults ≡ count_read result (plan_of self.old).faults }
+        ensures fails { IsTrue (next_fails (plan_of self.old)) → IsErr result }
+        ensures plan { plan_of self.new ≡ counted result (plan_of self.old) }
+    {
         let len = bytes.len() as u64;
         if self.calls.next_fails() {
             let half = bytes.len() - bytes.len() / 2;
@@ -164,7 +215,15 @@ impl Disk for MemDisk {
         Ok(())
     }
 
-    fn sync(&mut self) -> Result<(), Failed> {
+    /// Fails if it is listed, or if memory runs out.
+    fn sync(&mut self) -> Result<(), Failed>
+        ensures durable { OnOk result (Only (CrashLeaves self.new (steps_of self.new)) (bytes_on self.old)) }
+        ensures kept { Some (bytes_on self.new) ≡ Some (bytes_on self.old) }
+        ensures images { Passes steps_of CrashLeaves Same self.old self.new }
+        ensures cause { (plan_of self.new).faults ≡ count_read result (plan_of self.old).faults }
+        ensures fails { IsTrue (next_fails (plan_of self.old)) → IsErr result }
+        ensures plan { plan_of self.new ≡ counted result (plan_of self.old) }
+    {
         if self.calls.next_fails() || self.keep().is_err() {
             return Err(self.fail());
         }

@@ -1,17 +1,31 @@
 ghost use Rattle.std.specs.Prelude.{◌≡◌, ◌<◌, ◌≤◌, ◌^◌, IfOk, IfSome, MatchResult, OnErr, OnOk};
 ghost use Rattle.std.proofs.Props.{props};
-ghost use Rattle.tcm_edges.specs.Causes.{count_read, one_more};
+ghost use Rattle.tcm_edges.specs.Causes.{count_load, count_read, one_more, OnLoadMemory};
+ghost use Rattle.tcm_edges.specs.Files.{IsLoad};
 ghost use Rattle.durable_log.specs.Disk.{Changes, Passes};
-ghost use Rattle.durable_log.specs.Images.{ClosesGate, SameFiles, SameFilesOr, Stands, StandsEither};
+ghost use Rattle.durable_log.specs.Images.{ClosesGate, SameFiles, SameFilesOr, Stands, StandsEither, told_files};
 ghost use Rattle.durable_log.specs.Records.{changed, files};
 ghost use Rattle.durable_log.specs.code.Ends.{change_by, FilesChanged, FilesMayChange, IsSettled};
+ghost use Rattle.durable_log.specs.code.Loads.{gate_after};
 
 use crate::adding::add_record;
 use crate::disk::Disk;
+use crate::loading::Wanted;
 use crate::settling::settle;
-use tcm_edges::Failed;
+use tcm_edges::{Failed, LoadFault, Loaded};
+
+/// The place of the closed gate that ends the records, as it is known after a load. A load that failed leaves it open.
+fn gate_after(loaded: &Result<Loaded, LoadFault>, gate: u64) -> Option<u64>
+    ensures { result ≡ gate_after loaded.now gate }
+{
+    match loaded {
+        Err(LoadFault::Failed) => None,
+        Ok(_) | Err(LoadFault::Memory) => Some(gate),
+    }
+}
 
 /// The records on a disk.
+#[derive(Drop)]
 pub(crate) struct RecordLog<D: Disk> {
     pub(crate) disk: D,
     /// The place of the closed gate that ends the records, if all of the disk's bytes are known to be on the disk.
@@ -57,6 +71,7 @@ impl<D: Disk> RecordLog<D> {
     fn gate(&mut self) -> Result<u64, Failed>
         ensures kept { IfOk result (λ gate. self.new.gate ≡ Some gate) }
         ensures files { Changes SameFiles (D.content self.old.disk) (D.content self.new.disk) }
+        ensures closes { OnOk result (Changes ClosesGate (D.content self.old.disk) (D.content self.new.disk)) }
         ensures images { IfSome (D.content self.old.disk)
             (λ _. Passes D.moment D.image SameFiles self.old.disk self.new.disk) }
         ensures cause { D.faults self.new.disk ≡ count_read result (D.faults self.old.disk) }
@@ -92,5 +107,30 @@ impl<D: Disk> RecordLog<D> {
         let end = add_record(&mut self.disk, gate, kind, name, bytes)?;
         self.gate = Some(end);
         Ok(())
+    }
+
+    /// Loads a file.
+    pub(crate) fn load(&mut self, wanted: &Wanted) -> Result<Loaded, LoadFault>
+        ensures found { IfOk result (λ loaded. IsLoad (told_files (D.content self.old.disk))
+            wanted.now.name.now wanted.now.limit loaded) }
+        ensures files { Changes SameFiles (D.content self.old.disk) (D.content self.new.disk) }
+        ensures closes { MatchResult result
+            (λ _. Changes ClosesGate (D.content self.old.disk) (D.content self.new.disk))
+            (λ fault. OnLoadMemory fault (Changes ClosesGate (D.content self.old.disk) (D.content self.new.disk))) }
+        ensures images { IfSome (D.content self.old.disk)
+            (λ _. Passes D.moment D.image SameFiles self.old.disk self.new.disk) }
+        ensures stands { OnOk result
+            (Stands (D.content self.new.disk) (D.image self.new.disk (D.moment self.new.disk))) }
+        ensures still { Stands (D.content self.old.disk) (D.image self.old.disk (D.moment self.old.disk)) →
+            Stands (D.content self.new.disk) (D.image self.new.disk (D.moment self.new.disk)) }
+        ensures cause { D.faults self.new.disk ≡ count_load result (D.faults self.old.disk) }
+    {
+        let Ok(gate) = self.gate() else {
+            return Err(LoadFault::Failed);
+        };
+        self.gate = None;
+        let loaded = wanted.load(&mut self.disk);
+        self.gate = gate_after(&loaded, gate);
+        loaded
     }
 }

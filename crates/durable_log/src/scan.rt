@@ -34,7 +34,7 @@ impl RecordHeader {
 }
 
 /// Fills a buffer from a place on, as far as the disk goes, and returns how many bytes it got.
-fn read_full<D: Disk>(disk: &mut D, at: u64, buf: &mut [u8]) -> Result<usize, Failed>
+pub(crate) fn read_full<D: Disk>(disk: &mut D, at: u64, buf: &mut [u8]) -> Result<usize, Failed>
     requires { at + length buf.old ≤ 2 ^ 63 }
     ensures bound { IfOk result (λ n. n ≤ length buf.new) }
     ensures bytes { IfOk result (λ n. IfSome (D.content disk.old)

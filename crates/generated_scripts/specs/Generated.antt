@@ -1,8 +1,6 @@
--- The words `gen START N`, and the summary of the answers to the generated script.
-use Rattle.std.specs.Prelude.{ℕ, zero, suc, ◌+◌, ◌^◌, Bool, false, true, if◌then◌else◌, List, [], ◌∷◌, ◌++◌, length, filter, Option, Some, None, option_map, option_and_then, ◌==◌, codes, decimal}
+-- The summary of the answers to the generated script.
+use Rattle.std.specs.Prelude.{ℕ, zero, suc, ◌+◌, Bool, false, true, if◌then◌else◌, List, [], ◌∷◌, ◌++◌, length, filter, ◌==◌, codes, decimal}
 use Rattle.std.specs.List.{starts_with}
-use Rattle.std.specs.Str.{bytes_eq}
-use Rattle.script_lang.specs.Grammar.{number_below}
 use Rattle.script_lang.specs.AnswerTexts.{line}
 use Rattle.generated_scripts.specs.GeneratedLines.{generated_lines}
 use Rattle.script_session.specs.Machine.{epoch_of_follower, follower_named, reply, session_next, session_over}
@@ -10,18 +8,6 @@ use Rattle.script_session.specs.declared.session.followers.NamedFollower.{NamedF
 use Rattle.generated_scripts.specs.declared.kinds.AnswerKind.{AnswerKind}
 use Rattle.generated_scripts.specs.declared.kinds.AnswerKind.TheVariants.{Accepted, Refused, Other}
 use Rattle.generated_scripts.specs.declared.generation.Generation.{Generation}
-
--- ---- the words
-
--- START and N: a number below 2^64, and a number up to 3,000
-abbrev pub numbers_in : List ℕ → List ℕ → Option (ℕ × ℕ)
-numbers_in start rounds =
-    option_and_then (λ s. option_map (λ n. (s, n)) (number_below 3001 rounds)) (number_below (2 ^ 64) start)
-
--- the numbers that the words give, if they are `gen START N`
-unfoldable pub gen_numbers : List (List ℕ) → Option (ℕ × ℕ)
-gen_numbers (word ∷ start ∷ rounds ∷ []) = if bytes_eq word (codes "gen") then numbers_in start rounds else None
-gen_numbers _ = None
 
 -- ---- the answers
 
@@ -32,7 +18,7 @@ refusals =
     ∷ codes "NO NO-SEQUENCE" ∷ codes "NO WRONG-STEP" ∷ codes "NO TOKEN-TAKEN" ∷ codes "NO NO-TOKENS"
     ∷ codes "NO TOKENS-FULL" ∷ codes "NO NOT-ONE-TOKEN" ∷ codes "NO OTHER-RACK" ∷ codes "NO NOT-IDLE"
     ∷ codes "NO NO-KEYSPACE" ∷ codes "NO KEYSPACES-FULL" ∷ codes "NO TOO-FEW-NODES" ∷ codes "NO LOCKED"
-    ∷ codes "NO ID-REUSED" ∷ codes "NO EPOCHS-FULL" ∷ []
+    ∷ codes "NO ID-REUSED" ∷ codes "NO EPOCHS-FULL" ∷ codes "NO KEYSPACE-LOCKED" ∷ []
 
 -- whether a text begins with another one
 unfoldable pub begins : List ℕ → List ℕ → Bool
@@ -93,7 +79,7 @@ refused_lines kinds number (suc count) = refused_line kinds number ++ refused_li
 unfoldable pub answers_text : List AnswerKind → List ℕ
 answers_text kinds =
     count_line (codes "LINES ") (length kinds) ++ count_line (codes "OK ") (length (filter is_accepted kinds))
-    ++ refused_lines kinds 1 19
+    ++ refused_lines kinds 1 20
 
 unfoldable pub counts_text : Generation → List ℕ
 counts_text g =

@@ -15,7 +15,7 @@ pub enum AnswerKind {
 }
 
 /// The texts that the answers to refused commits begin with, by the number of the refusal, from 1 on.
-const REFUSALS: [&[u8]; 19] = [
+const REFUSALS: [&[u8]; 20] = [
     b"NO NAME-TAKEN",
     b"NO NODES-FULL",
     b"NO NO-NODE",
@@ -35,6 +35,7 @@ const REFUSALS: [&[u8]; 19] = [
     b"NO LOCKED",
     b"NO ID-REUSED",
     b"NO EPOCHS-FULL",
+    b"NO KEYSPACE-LOCKED",
 ];
 
 /// Whether a text begins with another one.
@@ -47,7 +48,7 @@ fn begins(text: &[u8], front: &[u8]) -> bool
 
 /// The refusal of the first of these texts that an answer begins with; they are counted from 1 on.
 fn refused_kind(text: &[u8], fronts: &[&[u8]]) -> AnswerKind
-    requires { length fronts.now ≤ 19 }
+    requires { length fronts.now ≤ 20 }
     ensures { result ≡ spec.refused_kind 1 (map (λ front. front.now) fronts.now) text.now }
 {
     let mut number = 1;

@@ -3,12 +3,10 @@
 
 mod command_lines;
 mod draw;
-mod gen_words;
 pub mod generation;
 pub mod kinds;
 mod opening;
 mod rounds;
 mod summary;
 
-pub use gen_words::gen_numbers;
 pub use summary::generate;

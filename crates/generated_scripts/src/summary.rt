@@ -14,7 +14,7 @@ use script_lang::labelled;
 use std::alloc::Global;
 
 /// The number of the last refusal.
-const LAST_REFUSAL: u8 = 19;
+const LAST_REFUSAL: u8 = 20;
 
 /// Adds a line of a label and a number.
 fn count_line(label: &[u8], count: u64, out: &mut ByteText) -> Result<(), Memory>
@@ -38,7 +38,7 @@ fn refused_line(kinds: &[AnswerKind], number: u8, out: &mut ByteText) -> Result<
 
 /// Adds the lines of the refusals with the numbers from 1 to `last` that came.
 fn refused_lines(kinds: &[AnswerKind], last: u8, out: &mut ByteText) -> Result<(), Memory>
-    requires { last ≤ 19 }
+    requires { last ≤ 20 }
     ensures { OnOk result (out.new ≡ out.old ++ spec.refused_lines kinds.now 1 last) }
 {
     let mut number = 1;

@@ -1,3 +1,4 @@
 pub mod ConflictExamples
 pub mod FirstSharedEnds
+pub mod Overlaps
 pub mod TableLemmas

@@ -1,5 +1,6 @@
 -- The first conflict of a movement with other movements, by the rows between the cuts of the cluster.
-use Rattle.std.specs.Prelude.{Bool, ℕ, ℤ, List, Option, option_map, find, filter_map, slice_get}
+use Rattle.std.specs.Prelude.{Bool, ℕ, ℤ, List, [], ◌∷◌, Option, None, option_map, find, filter_map, slice_get}
+use Rattle.std.specs.Option.{option_or}
 use Rattle.cluster_terms.specs.Row.{last_token, rows_between}
 use Rattle.cluster_terms.specs.declared.row.TokenRange.{TokenRange}
 use Rattle.cluster_terms.specs.declared.token.RightEnd.{RightEnd}
@@ -21,3 +22,8 @@ conflict_with ours cuts row = option_map (λ end. (row.node, end)) (first_shared
 -- the first conflict, in the order of the rows
 abbrev pub conflict_of : List RangeRow → List LockRow → List ℤ → Option (ℕ × RightEnd)
 conflict_of ours wide cuts = slice_get (filter_map (conflict_with ours cuts) wide) 0
+
+-- the first row that has a conflict with a later one: its node, and the first such conflict
+abbrev pub overlap_among : List LockRow → List ℤ → Option (ℕ × ℕ × RightEnd)
+overlap_among [] cuts = None
+overlap_among (row ∷ later) cuts = option_or (option_map (λ c. (row.node, c.0, c.1)) (conflict_of row.ranges later cuts)) (overlap_among later cuts)

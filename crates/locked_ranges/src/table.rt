@@ -1,5 +1,5 @@
-ghost use Rattle.std.specs.Prelude.{◌≡◌, ◌<◌, ◌≤◌, ◌↔◌, true, false, not, [], ◌∷◌, ◌++◌, length, is_some, IsNone, IsTrue, IfOk, IfErr, MatchResult};
-ghost use Rattle.std.specs.List.{AllByRecursion, insert};
+ghost use Rattle.std.specs.Prelude.{◌≡◌, ◌≢◌, ℕ, ◌<◌, ◌≤◌, ◌↔◌, true, false, not, [], ◌∷◌, ◌++◌, length, is_some, IsNone, IsTrue, IfOk, IfErr, MatchResult};
+ghost use Rattle.std.specs.List.{AllByRecursion, AllPairs, insert};
 ghost use Rattle.std.specs.List.Sorted.{IsStrictlySortedBy};
 ghost use Rattle.std.specs.Ordering.{int_cmp};
 ghost use Rattle.token_ring.specs.TokenRanges.{AreCutOut};
@@ -144,6 +144,17 @@ impl LockTable {
     {
         self.rows.insert_in(at, LockRow { node, ranges }, room);
         LockKey::of(node)
+    }
+
+    /// Exchanges all ranges. The new rows have the nodes of the table, each once, and no two of them share a token under
+    /// one replication. The keys stay. Takes no memory.
+    pub fn relock(&mut self, rows: LockRows)
+        requires names { (n : ℕ) → has_row rows n ≡ has_row self.old n }
+        requires once { AllPairs (λ one other. one.node ≢ other.node) rows }
+        requires apart { AllPairs (λ one other. ShareNoToken one.ranges other.ranges) rows }
+        ensures { self.new ≡ rows }
+    {
+        self.rows = rows;
     }
 
     /// Spends a key and unlocks the ranges of its movement, which has a row. Always succeeds, and takes no memory. The

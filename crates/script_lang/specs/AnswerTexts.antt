@@ -16,7 +16,7 @@ use Rattle.transformations.specs.declared.image_rules.BadImage.{BadImage}
 use Rattle.transformations.specs.declared.image.Image.{Image}
 use Rattle.transformations.specs.declared.keyspace.KeyspaceRow.{KeyspaceRow}
 use Rattle.transformations.specs.declared.refusal.Refusal.{Refusal}
-use Rattle.transformations.specs.declared.refusal.Refusal.TheVariants.{NameTaken, NodesFull, NoNode, WrongState, InSequence, NoSequence, WrongStep, TokenTaken, NoTokens, TokensFull, NotOneToken, OtherRack, NotIdle, NoKeyspace, KeyspacesFull, TooFewNodes, Locked, IdReused, EpochsFull}
+use Rattle.transformations.specs.declared.refusal.Refusal.TheVariants.{NameTaken, NodesFull, NoNode, WrongState, InSequence, NoSequence, WrongStep, TokenTaken, NoTokens, TokensFull, NotOneToken, OtherRack, NotIdle, NoKeyspace, KeyspacesFull, TooFewNodes, Locked, IdReused, EpochsFull, KeyspaceLocked}
 use Rattle.transformations.specs.declared.sequence.Kind.{Kind}
 use Rattle.transformations.specs.declared.sequence.Kind.TheVariants as kind
 use Rattle.transformations.specs.declared.sequence.Phase.{Phase}
@@ -110,6 +110,7 @@ refusal_text (TooFewNodes k) = codes "TOO-FEW-NODES " ++ k
 refusal_text (Locked n end) = codes "LOCKED " ++ locked_text (n, end)
 refusal_text (IdReused e) = codes "ID-REUSED " ++ decimal e
 refusal_text EpochsFull = codes "EPOCHS-FULL"
+refusal_text (KeyspaceLocked n o end) = codes "KEYSPACE-LOCKED " ++ decimal n ++ codes " " ++ locked_text (o, end)
 
 -- the answer to a commit that is accepted as an epoch, and to a line that is refused
 abbrev pub ok_text : ℕ → List ℕ

@@ -1,10 +1,10 @@
 //! The texts of refusals.
 
-ghost use Rattle.std.specs.Prelude.{◌≡◌, ◌++◌, codes, take, length, OnOk};
+ghost use Rattle.std.specs.Prelude.{◌≡◌, ◌++◌, codes, decimal, take, length, OnOk};
 ghost use Rattle.script_lang.specs.AnswerTexts as spec;
 
 use crate::shown::labelled;
-use cluster_terms::{ByteText, Memory, Name};
+use cluster_terms::{ByteText, Memory, Name, NodeId, RightEnd};
 use transformations::Refusal;
 
 /// Adds the text of a refusal: its word, and the values that explain it. If memory runs out, `out` still begins with
@@ -34,7 +34,23 @@ pub fn refusal_text(refusal: &Refusal, out: &mut ByteText) -> Result<(), Memory>
         Refusal::Locked(node, end) => labelled(b"LOCKED ", &(*node, *end), out),
         Refusal::IdReused(epoch) => labelled(b"ID-REUSED ", epoch, out),
         Refusal::EpochsFull => out.extend(b"EPOCHS-FULL"),
+        Refusal::KeyspaceLocked(node, other, end) => keyspace_locked_text(*node, *other, *end, out),
     }
+}
+
+/// Adds `KEYSPACE-LOCKED`, with the nodes of two movements and the right end of the first row that they would share.
+fn keyspace_locked_text(
+    node: NodeId,
+    other: NodeId,
+    end: RightEnd,
+    out: &mut ByteText,
+) -> Result<(), Memory>
+    ensures added { OnOk result (out.new ≡ out.old
+        ++ (codes "KEYSPACE-LOCKED " ++ decimal node ++ codes " " ++ spec.locked_text (other, end))) }
+    ensures kept { take (length out.old) out.new ≡ out.old }
+{
+    labelled(b"KEYSPACE-LOCKED ", &node, out)?;
+    labelled(b" ", &(other, end), out)
 }
 
 /// Adds `OTHER-RACK`, with the datacenter and the rack of the node to be replaced.

@@ -7,8 +7,8 @@ use placement_deltas::Plan;
 use std::marker::{Model, PhantomData};
 
 /// A movement in flight at a phase (CEP-21's multi-step operations). It is prepared, started, brought half way and
-/// finished, in this order, or cancelled. Contracts see it as the plan with which it began. No step changes the plan: its
-/// row stays at `Prepared`, and the type tells the phase.
+/// finished, in this order, or cancelled. Contracts see it as its plan. No step changes the plan: its row stays at
+/// `Prepared`, and the type tells the phase. If a keyspace is set or dropped, `renewed` gives the movement a new plan.
 ///
 /// The movement holds the key to the lock of its ranges. The call that ends the movement gives the key back.
 ///
@@ -33,13 +33,30 @@ impl<P> Model for Seq<P> {
 }
 
 impl<P> Seq<P> {
-    /// The plan with which the movement began. Its row is at `Prepared`. A movement of `Metadata` keeps the row and the
+    /// The plan of the movement. Its row is at `Prepared`. A movement of `Metadata` keeps the row and the
     /// deltas alone: its plan has no cuts and no ranges.
     pub fn plan(&self) -> &Plan
         ensures plan { result.now ≡ self.now }
         ensures prepared { self.now.row.phase ≡ phase.Prepared }
     {
         &self.plan
+    }
+
+    /// The movement with a new plan of the same row. The phase and the key stay. Takes no memory.
+    pub fn renewed(self, plan: Plan) -> Seq<P>
+        requires { plan.row ≡ self.row }
+        ensures { result ≡ plan }
+    {
+        let Seq {
+            plan: _,
+            key,
+            at: _,
+        } = self;
+        Seq {
+            plan,
+            key,
+            at: PhantomData,
+        }
     }
 
     /// The same movement at another phase.

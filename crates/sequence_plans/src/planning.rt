@@ -66,7 +66,7 @@ fn planned<L: Ledger>(
 /// has one row for each replication, however many keyspaces have it. If memory runs out, `Err` returns the row.
 ///
 /// The deltas stay exact whatever other movements do: as long as the movement lives, they are its deltas in each later
-/// image.
+/// image, under each keyspace that is neither set nor dropped.
 ///
 /// Cost: makes the directory of the image, and does what `plan_in` does.
 pub fn plan<L: Ledger>(

@@ -149,16 +149,16 @@ plain_id log entry = by (entry_with_id log entry.id)
     by None = tt
     by (Some earlier) = tt
 
-plain_command : (log : List Entry) (entry : Entry) → IsFormedLog log → IfPlain (command_refused log entry)
-plain_command log entry is = by (commit_refusal (commands_of log) entry.cmd) (commit_plain (commands_of log) entry.cmd is.history.formed)
+plain_command : (log : List Entry) (entry : Entry) → IsFormedLog log → IsFormed entry.cmd → IfPlain (command_refused log entry)
+plain_command log entry is formed = by (commit_refusal (commands_of log) entry.cmd) (commit_plain (commands_of log) entry.cmd is.history.formed formed)
   where
     by : (o : Option Refusal) → IfSome o HasPlainNames → IfPlain (option_map (cause.Command entry.epoch) o)
     by None names = tt
     by (Some r) names = names
 
-plain_cause : (log : List Entry) (entry : Entry) → IsFormedLog log → IfPlain (entry_cause log entry)
-plain_cause log entry is =
-    first_plain (wrong_epoch log entry ∷ id_again log entry ∷ command_refused log entry ∷ []) (plain_epoch log entry, (plain_id log entry, (plain_command log entry is, tt)))
+plain_cause : (log : List Entry) (entry : Entry) → IsFormedLog log → IsFormed entry.cmd → IfPlain (entry_cause log entry)
+plain_cause log entry is formed =
+    first_plain (wrong_epoch log entry ∷ id_again log entry ∷ command_refused log entry ∷ []) (plain_epoch log entry, (plain_id log entry, (plain_command log entry is formed, tt)))
 
 -- a line that breaks a rule
 abbrev line_refused : ℕ → Result Entry Cause
@@ -166,7 +166,7 @@ line_refused rule = Err (cause.Line rule)
 
 refused_next : (log : List Entry) (bytes : List ℕ) (c : Cause) → IsFormedLog log → next_entry log bytes ≡ Err c → HasPlainCause c
 unfolding next_entry
-refused_next log bytes c is e = by (reading bytes) e
+refused_next log bytes c is e = by (reading bytes) refl e
   where
     of_cause : (entry : Entry) (o : Option Cause) → IfPlain o → unless_refused entry o ≡ Err c → HasPlainCause c
     of_cause entry None plain e = absurd (cc)
@@ -175,11 +175,11 @@ refused_next log bytes c is e = by (reading bytes) e
     of_rule : (n : ℕ) → line_refused n ≡ Err c → HasPlainCause c
     of_rule n e = (let same : cause.Line n ≡ c = cc in subst HasPlainCause same tt)
 
-    by : (r : Result Line ReadLineFault) → entry_read log r ≡ Err c → HasPlainCause c
-    by (Ok (line.Entry entry)) e = of_cause entry (entry_cause log entry) (plain_cause log entry is) e
-    by (Ok (line.Snapshot image)) e = (let same : cause.NotEntry ≡ c = cc in subst HasPlainCause same tt)
-    by (Err (read.Bad rule)) e = of_rule rule e
-    by (Err read.Memory) e = of_rule 0 e
+    by : (r : Result Line ReadLineFault) → reading bytes ≡ r → entry_read log r ≡ Err c → HasPlainCause c
+    by (Ok (line.Entry entry)) there e = of_cause entry (entry_cause log entry) (plain_cause log entry is (reading_commands IsFormed formed_kinds bytes entry there)) e
+    by (Ok (line.Snapshot image)) there e = (let same : cause.NotEntry ≡ c = cc in subst HasPlainCause same tt)
+    by (Err (read.Bad rule)) there e = of_rule rule e
+    by (Err read.Memory) there e = of_rule 0 e
 
 refused_from : (lines : List (List ℕ)) (log : List Entry) (refused : RefusedLine) → IsFormedLog log → log_from log lines ≡ Err refused → HasPlainCause refused.cause
 refused_from [] log refused is e = absurd (cc)

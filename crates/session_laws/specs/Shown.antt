@@ -73,9 +73,9 @@ pub record AskAlike (p q : Shown) : Type 0 where
   pub keyspace : p.keyspace ≡ q.keyspace
   pub token : p.token ≡ q.token
 
--- they are at the same epoch, or the second is at the next epoch, which is a movement epoch
+-- they are at the same epoch, or the second is at the next epoch, which is a movement epoch for their keyspace
 abbrev pub AreAdjacent : List Command → Shown → Shown → Type 0
-AreAdjacent history p q = (p.epoch ≡ q.epoch) ⊎ ((q.epoch ≡ p.epoch + 1) × (option_map makes_movement_epoch (slice_get history p.epoch) ≡ Some true))
+AreAdjacent history p q = (p.epoch ≡ q.epoch) ⊎ ((q.epoch ≡ p.epoch + 1) × (option_map (makes_movement_epoch p.keyspace) (slice_get history p.epoch) ≡ Some true))
 
 -- the quorums of two answers to the same question meet, if their epochs are adjacent in this history
 abbrev pub ShownMeet : List Command → List Shown → Type 0

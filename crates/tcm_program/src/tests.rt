@@ -12,6 +12,7 @@ mod openings;
 mod quorums;
 mod racks;
 mod refusals;
+mod renewals;
 mod running;
 mod scripts;
 mod steps;
@@ -22,7 +23,7 @@ use running::{Script, go_on};
 use std::test::Fail;
 
 /// Tables of scripts, each with the opening that its scripts go on from.
-const TABLES: [(&str, &[Script]); 24] = [
+const TABLES: [(&str, &[Script]); 26] = [
     (NOTHING, &lines::FORMS),
     (NOTHING, &ids::FROM_NOTHING),
     (FOUR, &ids::ON_FOUR),
@@ -37,6 +38,8 @@ const TABLES: [(&str, &[Script]); 24] = [
     (THREE, &cancels::ON_THREE),
     (FOUR, &cancels::ON_FOUR),
     (EIGHT, &together::ON_EIGHT),
+    (EIGHT, &renewals::ON_EIGHT),
+    (SIX, &renewals::ON_SIX),
     (SIX, &locks::ON_SIX),
     (FOUR, &locks::ON_FOUR),
     (RACKS, &racks::ON_RACKS),

@@ -1,7 +1,11 @@
+pub mod Commit
 pub mod Counts
+pub mod Gen
 pub mod Left
 pub mod Limits
 pub mod Outcome
+pub mod Outcomes
+pub mod Request
 pub mod Run
 pub mod SentAgain
 pub mod code

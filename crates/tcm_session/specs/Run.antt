@@ -1,5 +1,5 @@
--- The promises of a run about its words, its input, the files, the bytes that it prints and its status.
-use Rattle.std.specs.Prelude.{◌≡◌, ◌≢◌, ℕ, ◌+◌, ◌≤◌, Bool, true, false, if◌then◌else◌, ◌==◌, List, ◌++◌, length, Option, IfSome}
+-- The promises of a run about what it is asked for, its input, the files, the bytes that it prints and its status.
+use Rattle.std.specs.Prelude.{◌≡◌, ◌≢◌, ℕ, ◌+◌, ◌≤◌, Bool, true, false, if◌then◌else◌, ◌==◌, List, ◌++◌, length, Option, Some, IfSome}
 use Rattle.std.specs.Io.{StartsWith}
 use Rattle.std.specs.Io.KnownBytes.{Appends, Consumes, IsAtEnd}
 use Rattle.tcm_edges.specs.Causes.{one_more}
@@ -10,7 +10,9 @@ use Rattle.tcm_session.specs.Counts.{Counts}
 use Rattle.tcm_session.specs.Left.{LeavesFiles}
 use Rattle.script_session.specs.Lines.{whole_lines}
 use Rattle.script_session.specs.Machine.{answers, session_over}
-use Rattle.tcm_session.specs.Outcome.{Outcome, input_limit, is_replay, named_log, outcome, printed_by, replayed_files}
+use Rattle.tcm_session.specs.Outcome.{Outcome, input_limit, printed_by}
+use Rattle.tcm_session.specs.Outcomes.{outcome}
+use Rattle.tcm_session.specs.Request.{Replay, Request, named_log}
 use Rattle.tcm_session.specs.files.ReplayPrefix.{AreFilesOf, ReportsPrefix, taken_of_files}
 use Rattle.session_laws.specs.Shown.{PrintsMeeting}
 use Rattle.script_session.specs.Taken.{FollowersShow}
@@ -70,25 +72,25 @@ pub record ReadsFor {S : Type 0} (o : Outcome) (left : S → Option (List ℕ)) 
 
 -- a replay of files of one log, with entries and images of it, refuses no line, and prints the report of a follower at
 -- the end of the longest gapless prefix of what it took
-pub record ReplaysLog (words : List (List ℕ)) (seen : ℕ → Files) (log : List Entry) (printed : List ℕ) (status : ℕ) : Type 0 where
+pub record ReplaysLog (names : List (List ℕ)) (seen : ℕ → Files) (log : List Entry) (printed : List ℕ) (status : ℕ) : Type 0 where
   pub unrefused : status ≢ 3
-  pub reports : status ≡ 0 → ReportsPrefix log (taken_of_files (replayed_files words) seen) printed
+  pub reports : status ≡ 0 → ReportsPrefix log (taken_of_files names seen) printed
 
--- a run for these words: it prints the bytes of their outcome, it reads as its outcome says, and the quorums in the
+-- a run for a request: it prints the bytes of the request's outcome, it reads as its outcome says, and the quorums in the
 -- printed lines meet (`ShownMeet`), unless the status is 7, as the name of an absent file may hold any line; each
 -- follower of a script, and that of a replay of files of one log, shows the longest gapless prefix of what it took
 -- (`ShowsPrefix`); and what a fault leaves in the log file is what the lines added that were done, with at most a part
 -- of one entry more
-pub record IsRun {S : Type 0} (words : List (List ℕ)) (left : S → Option (List ℕ)) (input input' : S) (written written' : Option (List ℕ)) (files files' : Option Files) (status : ℕ) : Type 0 where
+pub record IsRun {S : Type 0} (request : Option Request) (left : S → Option (List ℕ)) (input input' : S) (written written' : Option (List ℕ)) (files files' : Option Files) (status : ℕ) : Type 0 where
   pub given : Given (left input) files
-  pub comes : ComesTo (outcome words given.seen given.input) written written' files' status
-  pub reads : ReadsFor (outcome words given.seen given.input) left input input' written written' status
-  pub quorums : (outcome words given.seen given.input).status ≢ 7
-      → PrintsMeeting (outcome words given.seen given.input).log (outcome words given.seen given.input).lines comes.printed
-  pub followers : FollowersShow (outcome words given.seen given.input).log (outcome words given.seen given.input).lines
-  pub replays : is_replay words ≡ true → (log : List Entry) → IsLog log → AreFilesOf log (replayed_files words) given.seen
-      → ReplaysLog words given.seen log comes.printed status
-  pub leaves : (IsFinal status → ⊥) → LeavesFiles (named_log words) files files' (outcome words given.seen given.input) comes.printed status
+  pub comes : ComesTo (outcome request given.seen given.input) written written' files' status
+  pub reads : ReadsFor (outcome request given.seen given.input) left input input' written written' status
+  pub quorums : (outcome request given.seen given.input).status ≢ 7
+      → PrintsMeeting (outcome request given.seen given.input).log (outcome request given.seen given.input).lines comes.printed
+  pub followers : FollowersShow (outcome request given.seen given.input).log (outcome request given.seen given.input).lines
+  pub replays : (names : List (List ℕ)) → request ≡ Some (Replay names) → (log : List Entry) → IsLog log
+      → AreFilesOf log names given.seen → ReplaysLog names given.seen log comes.printed status
+  pub leaves : (IsFinal status → ⊥) → LeavesFiles (named_log request) files files' (outcome request given.seen given.input) comes.printed status
 
 -- the count of faults after a run: one more if its status says so, else the same
 abbrev pub more_if : Bool → ℕ → ℕ

@@ -2,6 +2,7 @@
 pub mod Endings
 pub mod Loading
 pub mod Replays
+pub mod Requests
 pub mod RunFaults
 pub mod Runs
 pub mod Stops

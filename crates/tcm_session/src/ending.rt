@@ -1,18 +1,42 @@
-//! The texts with which a run ends that reads no input.
+//! The ends of runs that read no input: their statuses and texts.
 
 ghost use Rattle.std.specs.Prelude.{◌≡◌, ◌++◌, codes, decimal, IfOk};
 ghost use Rattle.script_lang.specs.AnswerTexts.{no_text};
-ghost use Rattle.tcm_session.specs.Outcome.{usage_text};
+ghost use Rattle.tcm_session.specs.Counts.{counts};
+ghost use Rattle.tcm_session.specs.Outcomes.{usage_end};
+ghost use Rattle.tcm_session.specs.code.Runs.{Writes};
 ghost use Rattle.tcm_session.specs.files.FileEnds as spec;
 
 use crate::limits::TOO_LARGE;
+use crate::run_fault::RunFault;
+use crate::status::Status;
 use cluster_terms::{ByteText, Memory};
 use script_lang::no_epoch_text;
 use script_session::{RefusedLine, refused_line_text};
 use std::alloc::Global;
+use tcm_edges::{Sink, write_all};
 
 /// The text that is printed for words that name no command.
 const USAGE: &str = "usage: tcm commit [LOG] | replay FILE.. | snapshot LOG E | gen START N\n";
+
+/// Writes a text to `out`.
+pub fn print_text<K: Sink>(text: &[u8], out: &mut K) -> Result<(), RunFault>
+    ensures { Writes text.now (K.written out.old) (K.written out.new)
+        (counts 0 (K.faults out.old) 0) (counts 0 (K.faults out.new) 0) result }
+{
+    write_all(out, text)?;
+    Ok(())
+}
+
+/// Prints a text, and returns a status. No input is read, and no file changes.
+pub fn end_with<K: Sink>(text: &[u8], status: u8, out: &mut K) -> Result<Status, RunFault>
+    ensures writes { Writes text.now (K.written out.old) (K.written out.new)
+        (counts 0 (K.faults out.old) 0) (counts 0 (K.faults out.new) 0) result }
+    ensures status { IfOk result (λ ended. ended.0 ≡ status) }
+{
+    print_text(text, out)?;
+    Ok(Status(status))
+}
 
 /// The end of a run that reads no input: its status, and the text that is printed.
 #[derive(Debug, Drop)]
@@ -24,7 +48,7 @@ pub struct Ending {
 impl Ending {
     /// The end of words that name no command. Fails only if memory runs out.
     pub fn usage(alloc: Global) -> Result<Ending, Memory>
-        ensures { IfOk result (λ ending. ending ≡ record { status = 2; text = usage_text }) }
+        ensures { IfOk result (λ ending. ending ≡ usage_end) }
     {
         let mut text = ByteText::empty(alloc);
         text.extend(USAGE.as_bytes())?;
@@ -68,5 +92,14 @@ impl Ending {
         let mut text = ByteText::empty(alloc);
         refused_line_text(alloc, refused, &mut text)?;
         Ok(Ending { status: 3, text })
+    }
+
+    /// Prints the text, and returns the status. No input is read, and no file changes.
+    pub fn print<K: Sink>(self, out: &mut K) -> Result<Status, RunFault>
+        ensures writes { Writes self.text (K.written out.old) (K.written out.new)
+            (counts 0 (K.faults out.old) 0) (counts 0 (K.faults out.new) 0) result }
+        ensures status { IfOk result (λ ended. ended.0 ≡ self.status) }
+    {
+        end_with(self.text.as_slice(), self.status, out)
     }
 }

@@ -4,13 +4,17 @@
 
 mod ending;
 mod files;
+mod generated;
 mod limits;
 mod program;
+mod request;
 mod run_fault;
 mod scripts;
+mod status;
 mod validity;
 
-pub use program::{Status, run, run_surely};
+pub use program::{run, run_surely};
 pub use script_session::{Session, StepFault};
 pub use session_laws::{followers_show_prefixes, lines_make_the_input, shown_quorums_meet};
+pub use status::Status;
 pub use validity::{replays_show_the_longest_prefix, scripts_are_sent_again};

@@ -6,6 +6,6 @@ pub mod validity;
 
 pub use validity::{
     adjacent_epochs_meet, cuts_follow_movements, deltas_act, deltas_persist, histories_are_valid,
-    ids_act_once, locked_ranges_overlap, movements_are_apart, rows_stand_for_tokens,
-    valid_images_break_no_rule,
+    ids_act_once, keyspaces_lock, locked_ranges_overlap, movements_are_apart,
+    rows_stand_for_tokens, valid_images_break_no_rule,
 };

@@ -17,16 +17,18 @@ ghost use Rattle.transformations.specs.MovementDeltas.{KeepsDeltas, LivesOn, Row
 ghost use Rattle.transformations.specs.History.{IsHistory, are_accepted, empty_image, image_after, is_command, most_epochs, next_image};
 ghost use Rattle.transformations.specs.ImageRules.{bad_of, broken_rule};
 ghost use Rattle.transformations.specs.Log.{IsLog, commit_of};
-ghost use Rattle.transformations.specs.Meeting.{HaveReplications, QuorumsExistTogether, QuorumsMeet, ReadsAreWritten, makes_movement_epoch};
+ghost use Rattle.transformations.specs.Meeting.{HaveReplications, QuorumsExistTogether, QuorumsMeet, QuorumsMeetAcross, ReadsAreWritten, is_unsafe_join};
 ghost use Rattle.transformations.specs.Ranges.{AreApart, AreOutcomes, ArePlacedByOutcomes, IsLockedBy, KeepsRanges, PlacedByRanges, RowsStandInRanges, first_shared, in_both, in_ranges};
-ghost use Rattle.transformations.specs.Refusals.{IsLockedOf, locked, refusal_of};
+ghost use Rattle.transformations.specs.Refusals.{IsKeyspaceLocked, IsLockedOf, keyspace_locked, keyspace_row, locked, refusal_of, with_keyspace};
 ghost use Rattle.transformations.specs.Rings.{RowsStandForTokens, cuts, reads_at};
 ghost use Rattle.transformations.specs.Movements.{others};
 ghost use Rattle.transformations.specs.Valid.{IsSound, IsValid};
 ghost use Rattle.transformations.specs.declared.command.Command.{Command};
+ghost use Rattle.transformations.specs.declared.command.Command.TheVariants as command;
 ghost use Rattle.transformations.specs.declared.entry.Entry.{Entry};
 ghost use Rattle.transformations.specs.declared.image.Image.{Image};
-ghost use Rattle.transformations.specs.declared.refusal.Refusal.TheVariants.{Locked};
+ghost use Rattle.transformations.specs.declared.keyspace.KeyspaceRow.{KeyspaceRow};
+ghost use Rattle.transformations.specs.declared.refusal.Refusal.TheVariants.{KeyspaceLocked, Locked};
 ghost use Rattle.transformations.specs.declared.sequence.SeqRow.{SeqRow};
 
 /// If an image is valid and has an epoch left, a command that it accepts leads to a valid image. So each history leads
@@ -71,9 +73,10 @@ pub fn rows_stand_for_tokens()
     ensures ranges { (image : Image) → IsSound image → RowsStandInRanges image }
 {}
 
-/// The nodes that a movement gains and loses at a token don't change once it is prepared. If a command is accepted in a
-/// valid image, each movement that goes on keeps its deltas, at each token and under each keyspace. The same holds of a
-/// list of accepted commands, if the movement lives through them and there are epochs left for them.
+/// The nodes that a movement gains and loses at a token under a keyspace don't change once it is prepared, until the
+/// keyspace is set or dropped. If a command is accepted in a valid image, each movement that goes on keeps its deltas, at
+/// each token and under each keyspace as it was. The same holds of a list of accepted commands, under each keyspace that
+/// none of them sets or drops, if the movement lives through them and there are epochs left for them.
 ///
 /// In a sound image, a movement gains and loses nothing at tokens outside its ranges. In every image, the placement
 /// without a movement and the placement with it are the same at all tokens of a row between cuts.
@@ -83,31 +86,32 @@ pub fn deltas_persist()
     ensures kept { (image : Image) (s : SeqRow) (commands : List Command) → IsValid image
         → Contains image.sequences s → IsTrue (are_accepted image commands)
         → image.epoch + length commands ≤ most_epochs → IsTrue (lives_through image s.node commands)
-        → LivesOn image (image_after image commands) s }
+        → LivesOn image (image_after image commands) commands s }
     ensures outside { (image : Image) (r : Replication) (s : SeqRow) (x : ℤ) → IsSound image
         → Contains image.sequences s → in_ranges image r s x ≡ false
         → (gained_at image r s x ≡ []) × (lost_at image r s x ≡ []) }
     ensures rows { (image : Image) → RowsStandForDeltas image }
 {}
 
-/// The deltas of movements act. If a command makes a movement epoch and is accepted in a valid image, it changes the
-/// nodes that are read and the nodes that are written by the deltas of its movement, at each token and under each
-/// keyspace. A start adds the nodes gained to the writes. The step half way adds them to the reads, and removes the
-/// nodes lost from the reads. A finish removes the nodes lost from the writes. A cancel undoes the last step, if one
-/// was taken. No other such command changes what is read or written.
+/// The deltas of movements act. If a command is accepted in a valid image, it changes the nodes that are read and the
+/// nodes that are written by the deltas of its movement, at each token and under each keyspace for which it makes a
+/// movement epoch. A start adds the nodes gained to the writes. The step half way adds them to the reads, and removes the
+/// nodes lost from the reads. A finish removes the nodes lost from the writes. A cancel undoes the last step, if one was
+/// taken. No other such command changes what is read or written; one that sets or drops a keyspace changes it under no
+/// other keyspace.
 pub fn deltas_act()
     ensures acts { (image : Image) (c : Command) → IsValid image → IsTrue (is_command c)
-        → refusal_of image c ≡ None → makes_movement_epoch c ≡ true → ChangesByDeltas image c }
+        → refusal_of image c ≡ None → ChangesByDeltas image c }
 {}
 
-/// How the cuts change if a command makes a movement epoch and is accepted in a sound image. A prepare adds the tokens
+/// How the cuts change if a command is accepted in a sound image and gives no tokens at once. A prepare adds the tokens
 /// that its movement puts in. A finish adds no cut, and removes only cuts at tokens of its movement. A cancel at
 /// PREPARED or STARTED does the same. No other such command changes the cuts.
 ///
 /// In every image, the reads and the writes at a token that is no cut are those at the token after it.
 pub fn cuts_follow_movements()
     ensures follow { (image : Image) (c : Command) → IsSound image → IsTrue (is_command c)
-        → refusal_of image c ≡ None → makes_movement_epoch c ≡ true → CutsFollow image c }
+        → refusal_of image c ≡ None → is_unsafe_join c ≡ false → CutsFollow image c }
     ensures across { (image : Image) (r : Replication) (t : ℤ) → is_member int_eq (cuts image) t ≡ false
         → SameAcross image r t }
 {}
@@ -116,9 +120,10 @@ pub fn cuts_follow_movements()
 /// keyspace. Each node that is read is written, no more nodes are read than replicas are asked for, and a write quorum
 /// exists if and only if a read quorum does.
 ///
-/// The quorums of one image meet: each write quorum shares a replica with each read quorum. If a command makes a
-/// movement epoch and there is an epoch left, the quorums of the images before and after it meet too, both ways. For
-/// both, the keyspaces must have replications. In each image that `Metadata` holds, they do.
+/// The quorums of one image meet: each write quorum shares a replica with each read quorum. If a command is accepted and
+/// there is an epoch left, the quorums of the images before and after it meet too, both ways, under each keyspace for
+/// which it makes a movement epoch. For both, the keyspaces must have replications. In each image that `Metadata` holds,
+/// they do.
 pub fn adjacent_epochs_meet()
     ensures within { (image : Image) → IsValid image → ReadsAreWritten image }
     ensures few { (image : Image) → IsValid image → (x : ℤ) → IsToken x
@@ -127,8 +132,8 @@ pub fn adjacent_epochs_meet()
     ensures needs { (image : Image) → IsValid image → QuorumsExistTogether image }
     ensures itself { (image : Image) → IsValid image → HaveReplications image → QuorumsMeet image image }
     ensures adjacent { (image : Image) (c : Command) → IsValid image → HaveReplications image
-        → IsTrue (is_command c) → refusal_of image c ≡ None → makes_movement_epoch c ≡ true
-        → image.epoch < most_epochs → QuorumsMeet image (next_image image c) }
+        → IsTrue (is_command c) → refusal_of image c ≡ None
+        → image.epoch < most_epochs → QuorumsMeetAcross image c }
     ensures common { (one other : Sets) (written read : List ℕ) → Meet one other
         → AreSome (write_need one) one.writes written → AreSome (read_need other) other.reads read
         → IsTrue (list_any (is_member nat_eq written) read) }
@@ -160,6 +165,22 @@ pub fn locked_ranges_overlap()
     ensures refused { (image : Image) (c : Command) (n : ℕ) (right : RightEnd) → IsSound image
         → IsTrue (is_command c)
         → refusal_of image c ≡ Some (Locked n right) → IsLockedOf image c n right }
+{}
+
+/// The meaning of KEYSPACE-LOCKED. If it doesn't come, no two movements overlap once the keyspace is set. If a command
+/// is refused as KEYSPACE-LOCKED, the movements of the two nodes that are shown would overlap. They are the least such
+/// nodes, and the row that ends at the right end that is shown is the first in the ranges of both under the replication
+/// of the command. The cuts must be tokens. In each image that `Metadata` holds, they are.
+pub fn keyspaces_lock()
+    ensures free { (image : Image) (k : KeyspaceRow) → IsSound image → keyspace_locked image k ≡ None
+        → AreApart (with_keyspace image k) }
+    ensures taken { (image : Image) (k : KeyspaceRow) (n o : ℕ) (right : RightEnd) → IsValid image
+        → AllByRecursion IsToken (cuts image)
+        → keyspace_locked image k ≡ Some (KeyspaceLocked n o right) → IsKeyspaceLocked image k n o right }
+    ensures refused { (image : Image) (name : List ℕ) (replication : Replication) (n o : ℕ) (right : RightEnd)
+        → IsValid image → AllByRecursion IsToken (cuts image)
+        → refusal_of image (command.Keyspace name replication) ≡ Some (KeyspaceLocked n o right)
+        → IsKeyspaceLocked image (keyspace_row name replication) n o right }
 {}
 
 /// An image is sound if and only if it breaks none of the rules but the last one, and valid if and only if it breaks

@@ -1,4 +1,5 @@
 -- Lists of items, with some left out or put in.
+pub mod ContainsLemmas
 pub mod FilterLemmas
 pub mod ListLemmas
 pub mod TokenOrder

@@ -2,6 +2,7 @@
 pub mod KeptNodes
 pub mod KeptRanges
 pub mod KeptSteps
+pub mod KeyspacesApart
 pub mod MovementRanges
 pub mod MovementsApart
 pub mod OutcomeLemmas

@@ -1,12 +1,13 @@
 -- How commands change the nodes that are read and written: by the deltas of their movement (CEP-21's placement deltas,
 -- one for each step).
-use Rattle.std.specs.Prelude.{◌≡◌, ℕ, ℤ, List, [], Option, Some, None}
+use Rattle.std.specs.Prelude.{◌≡◌, ℕ, true, ℤ, List, [], Option, Some, None}
 use Rattle.std.specs.List.{AllByRecursion}
 use Rattle.cluster_terms.specs.Arc.{IsToken}
 use Rattle.cluster_terms.specs.IdSets.{with_change}
 use Rattle.cluster_terms.specs.declared.replication.Replication.{Replication}
 use Rattle.transformations.specs.MovementDeltas.{gained_at, lost_at}
 use Rattle.transformations.specs.History.{next_image}
+use Rattle.transformations.specs.Meeting.{makes_movement_epoch}
 use Rattle.transformations.specs.Rings.{reads_at, writes_at}
 use Rattle.transformations.specs.Movements.{movement_of}
 use Rattle.transformations.specs.declared.command.Command.{Command}
@@ -75,7 +76,8 @@ pub record AreChanged (before after : Image) (r : Replication) (x : ℤ) (delta 
   pub reads : reads_at after r x ≡ with_delta (reads_at before r x) delta.reads
   pub writes : writes_at after r x ≡ with_delta (writes_at before r x) delta.writes
 
--- a command changes the reads and the writes by its delta, at each token and under each keyspace
+-- a command changes the reads and the writes by its delta, at each token and under each keyspace for which it makes a
+-- movement epoch
 abbrev pub ChangesByDeltas : Image → Command → Type 0
 ChangesByDeltas image c = (x : ℤ) → IsToken x
-    → AllByRecursion (λ k. AreChanged image (next_image image c) k.replication x (delta_of_command image c k.replication x)) image.keyspaces
+    → AllByRecursion (λ k. makes_movement_epoch k.name c ≡ true → AreChanged image (next_image image c) k.replication x (delta_of_command image c k.replication x)) image.keyspaces

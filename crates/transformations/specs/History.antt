@@ -1,15 +1,14 @@
 -- The images that commands lead to, one after another (CEP-21's transformations and their log).
 use Rattle.std.specs.Prelude.{ℕ, ◌+◌, Bool, true, false, not, ◌&&◌, if◌then◌else◌, ℤ, int_lt, List, [], ◌∷◌, ◌++◌, filter, take, length, Option, Some, is_none, nat_le, ◌==◌, IsTrue}
 use Rattle.std.specs.Str.{bytes_eq}
-use Rattle.cluster_terms.specs.Ascending.{put, put_all}
+use Rattle.cluster_terms.specs.Ascending.{put_all}
 use Rattle.cluster_terms.specs.declared.node.NodeRow.{NodeRow}
-use Rattle.transformations.specs.Orders.{by_token, by_name}
-use Rattle.transformations.specs.Refusals.{refusal_of, with_movement}
+use Rattle.transformations.specs.Orders.{by_token}
+use Rattle.transformations.specs.Refusals.{keyspace_row, refusal_of, with_keyspace, with_movement}
 use Rattle.transformations.specs.Movements.{pairs_of, join_of, move_of, leave_of, replace_of, stepped, cancelled}
 use Rattle.transformations.specs.declared.command.Command.{Command}
 use Rattle.transformations.specs.declared.command.Command.TheVariants.{Register, Unregister, UnsafeJoin, Keyspace, DropKeyspace, PrepareJoin, PrepareMove, PrepareLeave, PrepareReplace, Step, Cancel}
 use Rattle.transformations.specs.declared.image.Image.{Image}
-use Rattle.transformations.specs.declared.keyspace.KeyspaceRow.{KeyspaceRow}
 use Rattle.transformations.specs.declared.refusal.Refusal.{Refusal}
 use Rattle.transformations.specs.declared.sequence.SeqRow.{SeqRow}
 use Rattle.transformations.specs.declared.refusal.Refusal.TheVariants.{EpochsFull}
@@ -32,8 +31,7 @@ next_image image (Unregister node) =
 next_image image (UnsafeJoin node tokens) =
     record image { epoch = image.epoch + 1; tokens = put_all by_token (pairs_of node tokens) image.tokens }
 next_image image (Keyspace name replication) =
-    let row : KeyspaceRow = record { name = name; replication = replication } in
-    record image { epoch = image.epoch + 1; keyspaces = put by_name row image.keyspaces }
+    (let after : Image = with_keyspace image (keyspace_row name replication) in record after { epoch = image.epoch + 1 })
 next_image image (DropKeyspace name) =
     record image { epoch = image.epoch + 1; keyspaces = filter (λ row. not (bytes_eq row.name name)) image.keyspaces }
 next_image image (PrepareJoin node tokens) = begun image (join_of node tokens)
@@ -42,6 +40,12 @@ next_image image (PrepareLeave node) = begun image (leave_of image.tokens node)
 next_image image (PrepareReplace node gone) = begun image (replace_of image.tokens node gone)
 next_image image (Cancel node) = (let after : Image = cancelled image node in record after { epoch = image.epoch + 1 })
 next_image image (Step goal kind node) = (let after : Image = stepped image goal node in record after { epoch = image.epoch + 1 })
+
+-- whether a command sets or drops the keyspace of this name
+abbrev pub changes_keyspace : List ℕ → Command → Bool
+changes_keyspace name (Keyspace other replication) = bytes_eq other name
+changes_keyspace name (DropKeyspace other) = bytes_eq other name
+changes_keyspace name _ = false
 
 -- the image after a list of commands, from a given image on; and the image after the first e commands of a history
 abbrev pub image_after : Image → List Command → Image

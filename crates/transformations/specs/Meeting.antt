@@ -1,16 +1,18 @@
 -- Quorums of images, and when those of two images meet (CEP-21: quorums of adjacent epochs meet).
-use Rattle.std.specs.Prelude.{◌≡◌, ℕ, Bool, true, false, ℤ, List, [], length, nat_eq, nat_le}
-use Rattle.std.specs.List.{AllByRecursion}
+use Rattle.std.specs.Prelude.{◌≡◌, ℕ, Bool, true, false, not, ◌&&◌, ℤ, List, [], length, nat_eq, nat_le}
+use Rattle.std.specs.List.{AllByRecursion, Contains}
 use Rattle.std.specs.Set.{is_member}
 use Rattle.cluster_terms.specs.Arc.{IsToken}
 use Rattle.cluster_terms.specs.Quorum.{Sets, Meet, local_sets, read_need, write_need}
 use Rattle.cluster_terms.specs.Replication.{IsReplication, total_of}
 use Rattle.cluster_terms.specs.declared.replication.Replication.{Replication}
 use Rattle.cluster_terms.specs.declared.replication.Replication.TheVariants.{Simple, Topology}
+use Rattle.transformations.specs.History.{changes_keyspace, next_image}
 use Rattle.transformations.specs.Rings.{reads_at, writes_at}
 use Rattle.transformations.specs.declared.command.Command.{Command}
-use Rattle.transformations.specs.declared.command.Command.TheVariants.{UnsafeJoin, Keyspace, DropKeyspace}
+use Rattle.transformations.specs.declared.command.Command.TheVariants.{UnsafeJoin, Keyspace}
 use Rattle.transformations.specs.declared.image.Image.{Image}
+use Rattle.transformations.specs.declared.keyspace.KeyspaceRow.{KeyspaceRow}
 
 -- the nodes that QUORUM reads and writes at a token under a replication
 abbrev pub sets_at : Image → Replication → ℤ → Sets
@@ -60,12 +62,24 @@ pub record MeetAt (one other : Image) (r : Replication) (x : ℤ) : Type 0 where
 abbrev pub QuorumsMeet : Image → Image → Type 0
 QuorumsMeet one other = (x : ℤ) → IsToken x → AllByRecursion (λ k. MeetAt one other k.replication x) one.keyspaces
 
--- whether a command makes a movement epoch: it gives no tokens at once, and changes no keyspace
-abbrev pub makes_movement_epoch : Command → Bool
-makes_movement_epoch (UnsafeJoin node tokens) = false
-makes_movement_epoch (Keyspace name replication) = false
-makes_movement_epoch (DropKeyspace name) = false
-makes_movement_epoch _ = true
+-- whether a command gives tokens at once; and whether it makes a movement epoch for the keyspace of this name: it
+-- doesn't, and it neither sets nor drops the keyspace
+abbrev pub is_unsafe_join : Command → Bool
+is_unsafe_join (UnsafeJoin node tokens) = true
+is_unsafe_join _ = false
+
+abbrev pub makes_movement_epoch : List ℕ → Command → Bool
+makes_movement_epoch name c = not (is_unsafe_join c) && not (changes_keyspace name c)
+
+-- the quorums before and after a command meet at every token, under each keyspace for which it makes a movement epoch;
+-- such a keyspace is there before and after, with one replication
+pub record MeetsAfter (before after : Image) (k : KeyspaceRow) : Type 0 where
+  pub stays : Contains after.keyspaces k
+  pub meet : (x : ℤ) → IsToken x → MeetAt before after k.replication x
+
+abbrev pub QuorumsMeetAcross : Image → Command → Type 0
+QuorumsMeetAcross image c = (k : KeyspaceRow) → Contains image.keyspaces k → makes_movement_epoch k.name c ≡ true
+    → MeetsAfter image (next_image image c) k
 
 -- a command that makes a keyspace has a replication for it
 abbrev pub HasReplication : Command → Type 0

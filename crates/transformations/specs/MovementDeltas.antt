@@ -1,6 +1,6 @@
 -- The deltas of movements: the nodes that a movement adds to the replicas of a token, and those that it takes away.
-use Rattle.std.specs.Prelude.{◌≡◌, ℕ, Bool, true, ◌&&◌, ℤ, List, [], ◌∷◌, Some, is_some, IfSome}
-use Rattle.std.specs.List.{All, AllByRecursion}
+use Rattle.std.specs.Prelude.{◌≡◌, ℕ, Bool, true, false, ◌&&◌, ℤ, List, [], ◌∷◌, Some, is_some, IfSome}
+use Rattle.std.specs.List.{All, AllByRecursion, Contains, list_any}
 use Rattle.cluster_terms.specs.Arc.{IsToken}
 use Rattle.cluster_terms.specs.Group.{place}
 use Rattle.cluster_terms.specs.IdSets.{without}
@@ -8,11 +8,12 @@ use Rattle.cluster_terms.specs.Replication.{groups_of}
 use Rattle.cluster_terms.specs.Row.{is_within, last_token, rows_between}
 use Rattle.cluster_terms.specs.declared.replication.Replication.{Replication}
 use Rattle.cluster_terms.specs.declared.row.TokenRange.{TokenRange}
-use Rattle.transformations.specs.History.{next_image}
+use Rattle.transformations.specs.History.{changes_keyspace, next_image}
 use Rattle.transformations.specs.Rings.{cuts, low_ring, replaced}
 use Rattle.transformations.specs.Movements.{movement_of}
 use Rattle.transformations.specs.declared.command.Command.{Command}
 use Rattle.transformations.specs.declared.image.Image.{Image}
+use Rattle.transformations.specs.declared.keyspace.KeyspaceRow.{KeyspaceRow}
 use Rattle.transformations.specs.declared.sequence.SeqRow.{SeqRow}
 
 -- the nodes that are placed at a token on the low ring, and those that are placed there with a movement applied to it
@@ -57,14 +58,20 @@ abbrev pub lives_through : Image → ℕ → List Command → Bool
 lives_through image n [] = is_some (movement_of image n)
 lives_through image n (c ∷ commands) = is_some (movement_of image n) && lives_through (next_image image c) n commands
 
--- a movement lives on in a later image: its node has a movement there, which moves the same pairs, the keyspaces are as
--- before, and at each token, under each keyspace, the movement there gains and loses the same
-pub record LivesOn (before after : Image) (s : SeqRow) : Type 0 where
+-- a keyspace is in a later image too, and under it, at each token, a movement there gains and loses what a movement
+-- before does
+pub record SameUnder (before after : Image) (k : KeyspaceRow) (s q : SeqRow) : Type 0 where
+  pub stays : Contains after.keyspaces k
+  pub deltas : (x : ℤ) → IsToken x → SameDeltas before after k.replication x s q
+
+-- a movement lives on in the image after some commands: its node has a movement there, which moves the same pairs, and
+-- gains and loses the same under each keyspace that none of the commands sets or drops
+pub record LivesOn (before after : Image) (commands : List Command) (s : SeqRow) : Type 0 where
   pub movement : SeqRow
   pub found : movement_of after s.node ≡ Some movement
   pub moves : MovesSame s movement
-  pub keyspaces : after.keyspaces ≡ before.keyspaces
-  pub deltas : (x : ℤ) → IsToken x → AllByRecursion (λ k. SameDeltas before after k.replication x s movement) before.keyspaces
+  pub deltas : (k : KeyspaceRow) → Contains before.keyspaces k → list_any (changes_keyspace k.name) commands ≡ false
+      → SameUnder before after k s movement
 
 -- a row stands for its tokens in the deltas of a movement: at each of them the same nodes are placed before the
 -- movement, and the same with it, as at its last token; and each row between cuts does so, for each movement

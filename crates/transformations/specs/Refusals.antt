@@ -1,29 +1,32 @@
 -- When a command is refused. The refusals, their order and the limits are by rules of this project.
-use Rattle.std.specs.Prelude.{◌≡◌, ℕ, Bool, true, false, ◌&&◌, not, if◌then◌else◌, ℤ, List, [], ◌∷◌, ◌++◌, map, length, Option, Some, None, is_some, option_map, option_and_then, find, nat_le, nat_lt, ◌==◌}
-use Rattle.std.specs.List.{list_any}
+use Rattle.std.specs.Prelude.{◌≡◌, ℕ, ◌<◌, Bool, true, false, ◌&&◌, not, if◌then◌else◌, ℤ, List, [], ◌∷◌, ◌++◌, map, length, Option, Some, None, is_some, option_map, option_and_then, find, nat_le, nat_lt, ◌==◌}
+use Rattle.std.specs.List.{All, AllPairs, list_any}
 use Rattle.std.specs.Ordering.{int_eq}
 use Rattle.std.specs.Set.{distinct_count}
 use Rattle.std.specs.Str.{bytes_eq}
+use Rattle.cluster_terms.specs.Arc.{IsToken}
 use Rattle.cluster_terms.specs.Ascending.{put}
 use Rattle.cluster_terms.specs.Group.{Group, nodes_of, node_count}
 use Rattle.cluster_terms.specs.NodeRow.{row_of}
 use Rattle.cluster_terms.specs.Replication.{groups_of}
 use Rattle.cluster_terms.specs.declared.node.NodeRow.{NodeRow}
+use Rattle.cluster_terms.specs.declared.replication.Replication.{Replication}
 use Rattle.cluster_terms.specs.declared.token.Pair.{Pair}
 use Rattle.cluster_terms.specs.declared.token.RightEnd.{RightEnd}
-use Rattle.transformations.specs.Orders.{by_node}
-use Rattle.transformations.specs.Ranges.{IsLockedBy, first_shared}
+use Rattle.transformations.specs.Orders.{by_name, by_node}
+use Rattle.transformations.specs.Ranges.{IsFirstShared, IsLockedBy, first_shared, in_both}
 use Rattle.transformations.specs.Rings.{widest}
 use Rattle.transformations.specs.States.{owns_tokens, node_state, node_tokens}
-use Rattle.transformations.specs.Movements.{join_of, move_of, leave_of, replace_of, movement_of, takes_part, is_next_step, others}
+use Rattle.transformations.specs.Movements.{join_of, move_of, leave_of, replace_of, movement_of, takes_part, is_next_step, others, same_kind}
 use Rattle.transformations.specs.declared.command.Command.{Command}
 use Rattle.transformations.specs.declared.command.Command.TheVariants.{Register, Unregister, UnsafeJoin, Keyspace, DropKeyspace, PrepareJoin, PrepareMove, PrepareLeave, PrepareReplace, Step, Cancel}
 use Rattle.transformations.specs.declared.image.Image.{Image}
 use Rattle.transformations.specs.declared.keyspace.KeyspaceRow.{KeyspaceRow}
 use Rattle.transformations.specs.declared.refusal.Refusal.{Refusal}
-use Rattle.transformations.specs.declared.refusal.Refusal.TheVariants.{NameTaken, NodesFull, NoNode, WrongState, InSequence, NoSequence, WrongStep, TokenTaken, NoTokens, TokensFull, NotOneToken, OtherRack, NotIdle, NoKeyspace, KeyspacesFull, TooFewNodes, Locked}
+use Rattle.transformations.specs.declared.refusal.Refusal.TheVariants.{NameTaken, NodesFull, NoNode, WrongState, InSequence, NoSequence, WrongStep, TokenTaken, NoTokens, TokensFull, NotOneToken, OtherRack, NotIdle, NoKeyspace, KeyspacesFull, TooFewNodes, Locked, KeyspaceLocked}
 use Rattle.transformations.specs.declared.sequence.Goal.{Goal}
 use Rattle.transformations.specs.declared.sequence.Kind.{Kind}
+use Rattle.transformations.specs.declared.sequence.Kind.TheVariants.{Leave}
 use Rattle.transformations.specs.declared.sequence.SeqRow.{SeqRow}
 use Rattle.transformations.specs.declared.state.NodeState.{NodeState}
 use Rattle.transformations.specs.declared.state.NodeState.TheVariants as state
@@ -133,11 +136,18 @@ other_rack image n gone =
 abbrev pub is_short : Image → ℕ → Group → Bool
 is_short image n g = is_some (g.rack_of n) && nat_le (node_count g (nodes_of image.tokens)) g.rf
 
-abbrev pub is_too_few : Image → ℕ → KeyspaceRow → Bool
-is_too_few image n k = list_any (is_short image n) (groups_of image.nodes k.replication)
+abbrev pub is_too_few : Image → ℕ → Replication → Bool
+is_too_few image n replication = list_any (is_short image n) (groups_of image.nodes replication)
 
 abbrev pub too_few_nodes : Image → ℕ → Option Refusal
-too_few_nodes image n = option_map (λ k. TooFewNodes k.name) (find (is_too_few image n) image.keyspaces)
+too_few_nodes image n = option_map (λ k. TooFewNodes k.name) (find (λ k. is_too_few image n k.replication) image.keyspaces)
+
+-- the same for the nodes of the leaves in flight, if this keyspace is to be set
+abbrev pub is_left_short : Image → Replication → SeqRow → Bool
+is_left_short image replication s = same_kind s.kind Leave && is_too_few image s.node replication
+
+abbrev pub too_few_left : Image → KeyspaceRow → Option Refusal
+too_few_left image k = refused_if (list_any (is_left_short image k.replication) image.sequences) (TooFewNodes k.name)
 
 -- there would be too many tokens
 abbrev pub tokens_with : Image → List ℤ → ℕ
@@ -175,7 +185,32 @@ locked_by image s q = option_map (Locked q.node) (first_shared image s q)
 unfoldable pub locked : Image → SeqRow → Option Refusal
 locked image s = first_of (map (locked_by image s) (others image.sequences s.node))
 
--- the first refusal of each command, apart from LOCKED, in the order of its refusals; a command's tokens ascend
+-- the row of a keyspace; and the image with a keyspace so set
+abbrev pub keyspace_row : List ℕ → Replication → KeyspaceRow
+keyspace_row name replication = record { name = name; replication = replication }
+
+abbrev pub with_keyspace : Image → KeyspaceRow → Image
+with_keyspace image k = record image { keyspaces = put by_name k image.keyspaces }
+
+-- the image with a keyspace alone
+abbrev pub alone : Image → KeyspaceRow → Image
+alone image k = record image { keyspaces = k ∷ [] }
+
+-- two movements overlap: their nodes are shown, and the right end of the first row that is in the ranges of both. Of
+-- several movements, the first that overlaps a later one is shown, with the first that it overlaps
+abbrev pub overlap_of : Image → SeqRow → SeqRow → Option Refusal
+overlap_of image s q = option_map (KeyspaceLocked s.node q.node) (first_shared image s q)
+
+abbrev pub first_overlap : Image → List SeqRow → Option Refusal
+first_overlap image [] = None
+first_overlap image (s ∷ later) = first_of (first_of (map (overlap_of image s) later) ∷ first_overlap image later ∷ [])
+
+-- movements would overlap if this keyspace were set
+unfoldable pub keyspace_locked : Image → KeyspaceRow → Option Refusal
+keyspace_locked image k = first_overlap (with_keyspace image k) image.sequences
+
+-- the first refusal of each command, apart from LOCKED and KEYSPACE-LOCKED, in the order of its refusals; a command's
+-- tokens ascend
 unfoldable pub early_refusal_of : Image → Command → Option Refusal
 early_refusal_of image (Register name dc rack) = first_of (name_taken image name ∷ nodes_full image ∷ [])
 early_refusal_of image (Unregister node) =
@@ -183,8 +218,9 @@ early_refusal_of image (Unregister node) =
 early_refusal_of image (UnsafeJoin node tokens) =
     first_of (no_node image node ∷ in_sequence image node ∷ wrong_state may_join image node ∷ not_idle image.sequences
     ∷ token_taken image tokens ∷ tokens_full image tokens ∷ [])
-early_refusal_of image (Keyspace name replication) = first_of (keyspaces_full image name ∷ not_idle image.sequences ∷ [])
-early_refusal_of image (DropKeyspace name) = first_of (no_keyspace image name ∷ not_idle image.sequences ∷ [])
+early_refusal_of image (Keyspace name replication) =
+    first_of (keyspaces_full image name ∷ too_few_left image (keyspace_row name replication) ∷ [])
+early_refusal_of image (DropKeyspace name) = no_keyspace image name
 early_refusal_of image (PrepareJoin node tokens) =
     first_of (no_node image node ∷ in_sequence image node ∷ wrong_state may_join image node
     ∷ token_taken image tokens ∷ tokens_full image tokens ∷ [])
@@ -212,9 +248,14 @@ prepared_by ring _ = None
 abbrev pub ranges_locked : Image → Command → Option Refusal
 ranges_locked image command = option_and_then (λ s. locked (with_movement image s) s) (prepared_by image.tokens command)
 
--- the first refusal of a command; LOCKED is the last
+-- with the keyspace that a command sets, movements would overlap
+abbrev pub locks_overlap : Image → Command → Option Refusal
+locks_overlap image (Keyspace name replication) = keyspace_locked image (keyspace_row name replication)
+locks_overlap image _ = None
+
+-- the first refusal of a command; LOCKED and KEYSPACE-LOCKED are the last
 unfoldable pub refusal_of : Image → Command → Option Refusal
-refusal_of image command = first_of (early_refusal_of image command ∷ ranges_locked image command ∷ [])
+refusal_of image command = first_of (early_refusal_of image command ∷ ranges_locked image command ∷ locks_overlap image command ∷ [])
 
 -- LOCKED shows this: the movement that the command prepares is locked by the movement of node n, in the image that has
 -- both
@@ -222,3 +263,16 @@ pub record IsLockedOf (image : Image) (command : Command) (n : ℕ) (right : Rig
   pub movement : SeqRow
   pub prepared : prepared_by image.tokens command ≡ Some movement
   pub shown : IsLockedBy (with_movement image movement) movement n right
+
+-- KEYSPACE-LOCKED shows this. With the keyspace so set, the movements of nodes n and o overlap, and the first row in the
+-- ranges of both under its replication ends at `right`. No movement of a node below n overlaps that of a greater node,
+-- and that of n overlaps none of a node between n and o
+pub record IsKeyspaceLocked (image : Image) (k : KeyspaceRow) (n o : ℕ) (right : RightEnd) : Type 0 where
+  pub one : SeqRow
+  pub other : SeqRow
+  pub first : movement_of image n ≡ Some one
+  pub second : movement_of image o ≡ Some other
+  pub greater : n < o
+  pub shared : IsFirstShared (alone image k) one other right
+  pub least : (x : ℤ) → IsToken x → AllPairs (λ s q. s.node < n → in_both (with_keyspace image k) s q x ≡ false) image.sequences
+  pub next : (x : ℤ) → IsToken x → All (λ q. n < q.node → q.node < o → in_both (with_keyspace image k) one q x ≡ false) image.sequences

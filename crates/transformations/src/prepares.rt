@@ -7,7 +7,7 @@ ghost use Rattle.std.specs.Option.{option_copied};
 ghost use Rattle.std.specs.Set.{is_member};
 ghost use Rattle.cluster_terms.specs.Group.{nodes_of};
 ghost use Rattle.transformations.specs.code.DatacenterGroups.{different_in, is_in_group, is_short_at};
-ghost use Rattle.transformations.specs.Refusals.{is_too_few, no_tokens, not_one_token, other_rack, same_place, too_few_nodes};
+ghost use Rattle.transformations.specs.Refusals.{is_left_short, is_too_few, keyspace_row, no_tokens, not_one_token, other_rack, same_place, too_few_left, too_few_nodes};
 ghost use Rattle.transformations.specs.Valid.{IsSound};
 
 use crate::image::Image;
@@ -15,6 +15,7 @@ use crate::keyspace::KeyspaceRow;
 use crate::node_search::row_among;
 use crate::refusal::Refusal;
 use crate::refusals::refused_if;
+use crate::sequence::{Kind, SeqRow};
 use crate::state::{has_pair, row_of};
 use cluster_terms::{Few, Memory, Name, NodeId, NodeRow, Pair, Replication, Rf, TryCopy};
 
@@ -130,13 +131,13 @@ fn is_short_in_any(image: &Image, n: NodeId, rows: &[(Name, Rf)]) -> bool
         .any(|row| is_short_in(image, n, Some(&row.0), row.1))
 }
 
-/// Whether, under a keyspace, `is_short_in` holds for any of its groups.
+/// Whether, under a replication, `is_short_in` holds for any of its groups.
 #[tactic(auto, using(crate::proofs::commands::DatacenterGroupLemmas::few_simple, crate::proofs::commands::DatacenterGroupLemmas::few_topology))]
-fn is_too_few(image: &Image, n: NodeId, row: &KeyspaceRow) -> bool
+fn is_too_few(image: &Image, n: NodeId, replication: &Replication) -> bool
     requires { IsSound image.now }
-    ensures { result ≡ is_too_few image.now n row.now }
+    ensures { result ≡ is_too_few image.now n replication.now }
 {
-    match &row.replication {
+    match replication {
         Replication::Simple(rf) => is_short_in(image, n, None, *rf),
         Replication::Topology(factors) => is_short_in_any(image, n, factors.rows()),
     }
@@ -145,10 +146,12 @@ fn is_too_few(image: &Image, n: NodeId, row: &KeyspaceRow) -> bool
 /// The first keyspace for which `is_too_few` holds.
 fn first_too_few(image: &Image, n: NodeId) -> Option<&KeyspaceRow>
     requires { IsSound image.now }
-    ensures { option_copied result ≡ find (is_too_few image.now n) image.now.keyspaces }
+    ensures { option_copied result ≡ find (λ k. is_too_few image.now n k.replication) image.now.keyspaces }
 {
     let keyspaces = image.keyspaces.as_slice();
-    keyspaces.iter().find(|row| is_too_few(image, n, row))
+    keyspaces
+        .iter()
+        .find(|row| is_too_few(image, n, &row.replication))
 }
 
 /// `TooFewNodes` with the first keyspace under which a group of the node has no more nodes with tokens than it is to
@@ -163,4 +166,40 @@ pub(crate) fn too_few_nodes(image: &Image, n: NodeId) -> Result<Option<Refusal>,
         return Ok(None);
     };
     Ok(Some(Refusal::TooFewNodes(row.name.copy()?)))
+}
+
+/// Whether a movement is a leave, and `is_too_few` holds for its node under a replication.
+fn is_left_short(image: &Image, replication: &Replication, row: &SeqRow) -> bool
+    requires { IsSound image.now }
+    ensures { result ≡ is_left_short image.now replication.now row.now }
+{
+    row.kind == Kind::Leave && is_too_few(image, row.node, replication)
+}
+
+/// Whether `is_left_short` holds for any movement in flight.
+fn is_any_left_short(image: &Image, replication: &Replication) -> bool
+    requires { IsSound image.now }
+    ensures { result ≡ list_any (is_left_short image.now replication.now) image.now.sequences }
+{
+    image
+        .sequences
+        .as_slice()
+        .iter()
+        .any(|row| is_left_short(image, replication, row))
+}
+
+/// `TooFewNodes` with this name, if a leave is in flight under whose node a group of this replication has no more nodes
+/// with tokens than it is to have replicas. The cost is that of `too_few_nodes` for one keyspace, for each leave.
+pub(crate) fn too_few_left(
+    image: &Image,
+    name: &Name,
+    replication: &Replication,
+) -> Result<Option<Refusal>, Memory>
+    requires { IsSound image.now }
+    ensures { IfOk result (λ found. found ≡ too_few_left image.now (keyspace_row name.now replication.now)) }
+{
+    if !is_any_left_short(image, replication) {
+        return Ok(None);
+    }
+    Ok(Some(Refusal::TooFewNodes(name.copy()?)))
 }

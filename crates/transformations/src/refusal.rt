@@ -29,14 +29,15 @@ pub enum Refusal {
     NotOneToken(u32),
     /// The node that is to be replaced is in this datacenter and rack, and the new node isn't.
     OtherRack(Name, Name),
-    /// A movement is in flight. This is the least node that has a movement.
+    /// A movement is in flight, so no tokens are given at once. This is the least node that has a movement.
     NotIdle(NodeId),
     /// No keyspace has the name.
     NoKeyspace,
     /// There are 64 keyspaces, and none of them has the name.
     KeyspacesFull,
-    /// Under the replication of this keyspace, the node's group has no more nodes with tokens than it is to have
-    /// replicas. It is the least such keyspace by name.
+    /// Under the replication of this keyspace, a group of the node that is to leave has no more nodes with tokens than
+    /// it is to have replicas. It is the least such keyspace by name. If a keyspace is to be set, it is this one, and
+    /// the node is that of a leave in flight.
     TooFewNodes(Name),
     /// The ranges of the new movement overlap those of this node's movement. It is the least such node. The right end
     /// is that of the first row between cuts in the ranges of both, under the replication of one keyspace.
@@ -45,4 +46,8 @@ pub enum Refusal {
     IdReused(u64),
     /// 65,536 epochs are committed.
     EpochsFull,
+    /// With the keyspace so set, the ranges of the movements of these two nodes would overlap. The first node is the
+    /// least one whose movement would overlap that of a greater node, and the second is the least such greater node.
+    /// The right end is that of the first row between cuts in the ranges of both, under the replication of the command.
+    KeyspaceLocked(NodeId, NodeId, RightEnd),
 }

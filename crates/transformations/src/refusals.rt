@@ -11,12 +11,12 @@ use crate::image::Image;
 use crate::movement_search::{is_next_step, movement_of, takes_part};
 use crate::node_search::row_among;
 use crate::pair_search::finds;
-use crate::prepares::{no_tokens, not_one_token, other_rack, too_few_nodes};
+use crate::prepares::{no_tokens, not_one_token, other_rack, too_few_left, too_few_nodes};
 use crate::refusal::Refusal;
 use crate::sequence::{Goal, Kind, SeqRow};
 use crate::state::{NodeState, state_of};
 use crate::token_count::{count_all, tokens_with};
-use cluster_terms::{Memory, Name, NodeId, Pair, Token};
+use cluster_terms::{Memory, Name, NodeId, Pair, Replication, Token};
 use std::alloc::Global;
 
 /// The greatest number of nodes in a cluster.
@@ -309,18 +309,21 @@ fn unregister(image: &Image, n: NodeId) -> Option<Refusal>
         .or_else(|| wrong_state(image, n, may_be_removed))
 }
 
-/// The first refusal of `Keyspace`.
-fn keyspace(image: &Image, name: &Name) -> Option<Refusal>
-    ensures { result ≡ first_of (keyspaces_full image.now name.now ∷ not_idle image.now.sequences ∷ []) }
+/// The first refusal of `Keyspace`, apart from `KeyspaceLocked`.
+#[tactic(auto, unfolding(crate::specs::Refusals::early_refusal_of))]
+fn keyspace(
+    image: &Image,
+    name: &Name,
+    replication: &Replication,
+) -> Result<Option<Refusal>, Memory>
+    requires { IsSound image.now }
+    ensures { IfOk result
+        (λ found. found ≡ early_refusal_of image.now (command.Keyspace name.now replication.now)) }
 {
-    keyspaces_full(image, name).or_else(|| not_idle(image.sequences.as_slice()))
-}
-
-/// The first refusal of `DropKeyspace`.
-fn drop_keyspace(image: &Image, name: &Name) -> Option<Refusal>
-    ensures { result ≡ first_of (no_keyspace image.now name.now ∷ not_idle image.now.sequences ∷ []) }
-{
-    no_keyspace(image, name).or_else(|| not_idle(image.sequences.as_slice()))
+    if let Some(refusal) = keyspaces_full(image, name) {
+        return Ok(Some(refusal));
+    }
+    too_few_left(image, name, replication)
 }
 
 /// The first refusal of `Cancel`.
@@ -428,9 +431,9 @@ fn prepare_replace(image: &Image, node: NodeId, gone: NodeId) -> Result<Option<R
     other_rack(image, node, gone)
 }
 
-/// The first refusal of a command in an image, apart from `Locked`, which comes last. Returns `None` if there is no
-/// such refusal. The refusals of a command have an order, and those after the first are not looked for. The image is
-/// sound, so its nodes and its tokens ascend.
+/// The first refusal of a command in an image, apart from `Locked` and `KeyspaceLocked`, which come last. Returns `None`
+/// if there is no such refusal. The refusals of a command have an order, and those after the first are not looked for.
+/// The image is sound, so its nodes and its tokens ascend.
 ///
 /// `Err` means that memory ran out while tokens were counted, or while the names of a refusal were copied. It
 /// also stands for the move of a node with 2^32 tokens or more, but a sound image has no such node.
@@ -441,7 +444,7 @@ fn prepare_replace(image: &Image, node: NodeId, gone: NodeId) -> Result<Option<R
 /// is taken is k binary searches in the ring, and k passes over the pairs that movements bring. All tokens are sorted
 /// and counted only if there may be more than 16,384. `PrepareLeave` goes over the pairs of the ring for each group of the
 /// node, until it has found one node more than the group is to have replicas; a pair's node costs a binary search unless
-/// it is found already.
+/// it is found already. `Keyspace` does the same for each leave in flight.
 #[tactic(auto, unfolding(crate::specs::Refusals::early_refusal_of))]
 pub fn early_refusal(
     alloc: Global,
@@ -455,8 +458,8 @@ pub fn early_refusal(
         Command::Register { name, .. } => Ok(register(image, name)),
         Command::Unregister { node } => Ok(unregister(image, *node)),
         Command::UnsafeJoin { node, tokens } => unsafe_join(alloc, image, *node, tokens.as_slice()),
-        Command::Keyspace { name, .. } => Ok(keyspace(image, name)),
-        Command::DropKeyspace { name } => Ok(drop_keyspace(image, name)),
+        Command::Keyspace { name, replication } => keyspace(image, name, replication),
+        Command::DropKeyspace { name } => Ok(no_keyspace(image, name)),
         Command::PrepareJoin { node, tokens } => {
             prepare_join(alloc, image, *node, tokens.as_slice())
         }

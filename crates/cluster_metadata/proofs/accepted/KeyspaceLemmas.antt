@@ -1,5 +1,5 @@
 -- A keyspace that has a replication already.
-use Rattle.std.proofs.Common.{◌≡◌, ℕ, ◌+◌, Bool, true, false, cond, List, [], ◌∷◌, find, option_map, Option, Some, None, refl, sym, ap, ◌∙◌, subst}
+use Rattle.std.proofs.Common.{◌≡◌, ℕ, ◌+◌, ◌<◌, Bool, true, false, not, filter, cond, List, [], ◌∷◌, find, option_map, Option, Some, None, refl, sym, ap, ◌∙◌, subst}
 use Rattle.std.proofs.lemmas.Cmp.{nat_list_cmp_total, on_total}
 use Rattle.std.proofs.lemmas.Option.{none-some}
 use Rattle.std.proofs.lemmas.Slice.Eq.{bytes_eq-Decides}
@@ -13,19 +13,25 @@ use Rattle.std.specs.declared.cmp.Ordering.TheVariants.{Less, Equal, Greater}
 use Rattle.cluster_terms.specs.Ascending.{put}
 use Rattle.cluster_terms.specs.declared.replication.Replication.{Replication}
 use Rattle.transformations.proofs.lists.ListLemmas.{all_found}
-use Rattle.transformations.specs.History.{next_image}
+use Rattle.transformations.proofs.histories.SoundLemmas.{sound_next}
+use Rattle.transformations.proofs.histories.ValidLemmas.{valid_next}
+use Rattle.transformations.specs.History.{most_epochs, next_image}
+use Rattle.transformations.specs.Refusals.{early_refusal_of, first_overlap, keyspace_locked, keyspace_row, refusal_of, with_keyspace}
 use Rattle.transformations.specs.Orders.{by_name}
 use Rattle.transformations.specs.Rings.{reads_at, writes_at}
-use Rattle.transformations.specs.Valid.{IsSound}
-use Rattle.transformations.specs.declared.command.Command.TheVariants.{Keyspace}
+use Rattle.transformations.specs.Valid.{IsSound, IsValid}
+use Rattle.transformations.specs.declared.command.Command.TheVariants.{DropKeyspace, Keyspace}
 use Rattle.transformations.specs.declared.image.Image.{Image}
 use Rattle.transformations.specs.declared.keyspace.KeyspaceRow.{KeyspaceRow}
-use Rattle.cluster_metadata.specs.code.Change.{IsChange, changed}
+use Rattle.cluster_metadata.proofs.locks.LockRefusals.{dropped_accepted, set_locked}
+use Rattle.cluster_metadata.proofs.locks.RenewedLocks.{overlap_later}
+use Rattle.cluster_metadata.specs.code.Change.{AreRenewed, BringsKeyspaces, IsChange, changed, rekeyed}
 use Rattle.cluster_metadata.specs.code.MapSteps.{BringsMaps}
 use Rattle.placement_maps.specs.code.ShownMaps.{AreMaps, IsMapOf}
 use Rattle.placement_maps.specs.Served.{keyspace_of}
 use Rattle.cluster_metadata.specs.declared.changes.change.Change.{Change}
-use Rattle.cluster_metadata.specs.declared.changes.change.Change.TheVariants.{Unchanged}
+use Rattle.cluster_metadata.specs.declared.changes.change.Change.TheVariants.{Keyspaces, Unchanged}
+use Rattle.cluster_metadata.specs.declared.movements.renewing.Renewed.{Renewed}
 use Rattle.placement_maps.specs.declared.map_change.MapChange.TheVariants.{Keep}
 use Rattle.range_placements.specs.declared.map_row.MapRow.{MapRow}
 
@@ -97,3 +103,50 @@ unchanged_maps image change is book are = subst (λ c. AreMaps (changed image c)
     each : (book : List MapRow) → AllByRecursion (IsMapOf image) book → AllByRecursion (IsMapOf (changed image Unchanged)) book
     each [] all = tt
     each (row ∷ book) all = ((all.0.0, all.0.1), each book all.1)
+
+-- ---- new keyspaces
+
+-- the change to the keyspaces of a command that sets one
+pub sets_keyspace : (image : Image) (name : List ℕ) (r : Replication) (rows : List KeyspaceRow) (change : Change) → rows ≡ put by_name (keyspace_row name r) image.keyspaces → BringsKeyspaces image rows change → IsChange image (Keyspace name r) change
+unfolding next_image
+sets_keyspace image name r rows (Keyspaces keyspaces renewed) same brings = record {
+  made = ap (rekeyed image) (brings.0 ∙ same);
+  nodes = tt;
+  follows = brings.1.rows;
+  plan = brings.1;
+  suits = tt;
+}
+sets_keyspace image name r rows _ same brings = absurd brings
+
+-- and of one that drops one
+pub drops_keyspace : (image : Image) (name : List ℕ) (rows : List KeyspaceRow) (renewed : Renewed) → rows ≡ filter (λ row. not (bytes_eq row.name name)) image.keyspaces → AreRenewed (rekeyed image rows) renewed → IsChange image (DropKeyspace name) (Keyspaces rows renewed)
+unfolding next_image
+drops_keyspace image name rows renewed same are = record {
+  made = ap (rekeyed image) same;
+  nodes = tt;
+  follows = are.rows;
+  plan = are;
+  suits = tt;
+}
+
+-- the image with these keyspaces is sound, and the first overlap of its movements is the refusal
+module _ (image : Image) (name : List ℕ) (r : Replication) (rows : List KeyspaceRow) (same : rows ≡ put by_name (keyspace_row name r) image.keyspaces) (early : early_refusal_of image (Keyspace name r) ≡ None) where
+  pub set_sound : IsSound image → image.epoch < most_epochs → IsSound (rekeyed image rows)
+  unfolding next_image
+  set_sound sound below_limit = subst (λ ks. IsSound (rekeyed image ks)) (sym same) (sound_next image (Keyspace name r) sound refl early below_limit)
+
+  pub set_refused : first_overlap (rekeyed image rows) image.sequences ≡ refusal_of image (Keyspace name r)
+  unfolding keyspace_locked
+  set_refused =
+      ap (λ ks. first_overlap (rekeyed image ks) image.sequences) same ∙ overlap_later (with_keyspace image (keyspace_row name r)) (image.epoch + 1) image.sequences
+      ∙ set_locked image name r early
+
+-- without movements none overlap
+pub idle_accepted : (image : Image) (name : List ℕ) (r : Replication) → early_refusal_of image (Keyspace name r) ≡ None → image.sequences ≡ [] → refusal_of image (Keyspace name r) ≡ None
+unfolding keyspace_locked
+idle_accepted image name r early idle = sym (set_locked image name r early) ∙ ap (first_overlap (with_keyspace image (keyspace_row name r))) idle
+
+pub drop_valid : (image : Image) (name : List ℕ) (rows : List KeyspaceRow) → rows ≡ filter (λ row. not (bytes_eq row.name name)) image.keyspaces → early_refusal_of image (DropKeyspace name) ≡ None → IsValid image → image.epoch < most_epochs → IsValid (rekeyed image rows)
+unfolding next_image
+drop_valid image name rows same early valid below_limit =
+    subst (λ ks. IsValid (rekeyed image ks)) (sym same) (valid_next image (DropKeyspace name) valid refl (dropped_accepted image name early) below_limit)

@@ -15,7 +15,7 @@ use Rattle.cluster_metadata.specs.declared.movements.running.Running.{Running}
 -- ---- lists
 
 -- an item that is taken out and another one that is put in its place
-put_back : {X : Type 0} (xs : List X) (i : ℕ) (x : X) → i < length xs → insert (remove xs i) i x ≡ set xs i x
+pub put_back : {X : Type 0} (xs : List X) (i : ℕ) (x : X) → i < length xs → insert (remove xs i) i x ≡ set xs i x
 put_back [] i x within = absurd (omega arith)
 put_back (y ∷ ys) zero x within = refl
 put_back (y ∷ ys) (suc i) x within = ap (λ l. y ∷ l) (put_back ys i x (omega arith))

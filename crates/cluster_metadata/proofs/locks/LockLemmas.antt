@@ -19,7 +19,7 @@ use Rattle.token_ring.specs.declared.range_book.LockRow.{LockRow}
 use Rattle.token_ring.specs.declared.range_book.RangeRow.{RangeRow}
 use Rattle.transformations.proofs.lists.ListLemmas.{all_weaker}
 use Rattle.transformations.specs.Ranges.{first_shared, in_both, in_ranges, is_shared}
-use Rattle.transformations.specs.Refusals.{first_of, locked, locked_by}
+use Rattle.transformations.specs.Refusals.{first_of, locked}
 use Rattle.transformations.specs.Rings.{cuts, widest}
 use Rattle.transformations.specs.Movements.{others}
 use Rattle.transformations.specs.declared.image.Image.{Image}
@@ -64,22 +64,26 @@ module _ (image : Image) (s q : SeqRow) (x : ℤ) (token : IsToken x) where
 -- ---- conflicts and refusals
 
 -- the refusal that shows a conflict
+abbrev shown_by : (ℕ → RightEnd → Refusal) → Option (ℕ × RightEnd) → Option Refusal
+shown_by refusal c = option_map (λ (at : ℕ × RightEnd). refusal at.0 at.1) c
+
 abbrev pub shown : Option (ℕ × RightEnd) → Option Refusal
-shown c = option_map (λ (at : ℕ × RightEnd). Locked at.0 at.1) c
+shown c = shown_by Locked c
 
-shown_with : (n : ℕ) (o : Option RightEnd) → shown (option_map (λ end. (n, end)) o) ≡ option_map (Locked n) o
-shown_with n None = refl
-shown_with n (Some end) = refl
+module _ (refusal : ℕ → RightEnd → Refusal) where
+  shown_with : (n : ℕ) (o : Option RightEnd) → shown_by refusal (option_map (λ end. (n, end)) o) ≡ option_map (refusal n) o
+  shown_with n None = refl
+  shown_with n (Some end) = refl
 
--- the first conflict is shown by the first refusal
-first_shown : (f : LockRow → Option (ℕ × RightEnd)) (rows : List LockRow) → shown (slice_get (filter_map f rows) 0) ≡ first_of (map (λ row. shown (f row)) rows)
-first_shown f [] = refl
-first_shown f (row ∷ rows) = by (f row) (first_shown f rows)
-  where
-    by : (o : Option (ℕ × RightEnd)) → shown (slice_get (filter_map f rows) 0) ≡ first_of (map (λ row. shown (f row)) rows)
-        → shown (slice_get (cons_option o (filter_map f rows)) 0) ≡ first_of (shown o ∷ map (λ row. shown (f row)) rows)
-    by None rest = rest
-    by (Some c) rest = refl
+  -- the first conflict is shown by the first refusal
+  first_shown : (f : LockRow → Option (ℕ × RightEnd)) (rows : List LockRow) → shown_by refusal (slice_get (filter_map f rows) 0) ≡ first_of (map (λ row. shown_by refusal (f row)) rows)
+  first_shown f [] = refl
+  first_shown f (row ∷ rows) = by (f row) (first_shown f rows)
+    where
+      by : (o : Option (ℕ × RightEnd)) → shown_by refusal (slice_get (filter_map f rows) 0) ≡ first_of (map (λ row. shown_by refusal (f row)) rows)
+          → shown_by refusal (slice_get (cons_option o (filter_map f rows)) 0) ≡ first_of (shown_by refusal o ∷ map (λ row. shown_by refusal (f row)) rows)
+      by None rest = rest
+      by (Some c) rest = refl
 
 -- ---- rows
 
@@ -104,23 +108,27 @@ module _ (image : Image) (up : AllByRecursion IsToken (cuts image)) where
       ap (option_map (λ (row : TokenRange). row.right)) (find_alike (share_row ours theirs) (is_shared image s q) (rows_between (cuts image)) (rows_alike s q ours theirs one other))
 
   -- and each conflict is the refusal of the movement that has the row
-  conflicts_alike : (s : SeqRow) (ours : List RangeRow) (movements : List SeqRow) (locks : List LockRow) → IsBook image s ours → AreLocks image movements locks
-      → map (λ row. shown (conflict_with ours (cuts image) row)) locks ≡ map (locked_by image s) movements
-  conflicts_alike s ours [] [] one are = refl
-  conflicts_alike s ours [] (lock ∷ locks) one are = absurd are
-  conflicts_alike s ours (q ∷ movements) [] one are = absurd are
-  conflicts_alike s ours (q ∷ movements) (lock ∷ locks) one are =
-      let here : shown (conflict_with ours (cuts image) lock) ≡ locked_by image s q =
-      shown_with lock.node (first_shared_end ours lock.ranges (cuts image)) ∙ (λ i. option_map (Locked (are.0.node i)) (shared_first s q ours lock.ranges one are.0.ranges i)) in
-      λ i. here i ∷ conflicts_alike s ours movements locks one are.1 i
+  conflicts_alike : (refusal : ℕ → RightEnd → Refusal) (s : SeqRow) (ours : List RangeRow) (movements : List SeqRow) (locks : List LockRow) → IsBook image s ours → AreLocks image movements locks
+      → map (λ row. shown_by refusal (conflict_with ours (cuts image) row)) locks ≡ map (λ (q : SeqRow). option_map (refusal q.node) (first_shared image s q)) movements
+  conflicts_alike refusal s ours [] [] one are = refl
+  conflicts_alike refusal s ours [] (lock ∷ locks) one are = absurd are
+  conflicts_alike refusal s ours (q ∷ movements) [] one are = absurd are
+  conflicts_alike refusal s ours (q ∷ movements) (lock ∷ locks) one are =
+      let here : shown_by refusal (conflict_with ours (cuts image) lock) ≡ option_map (refusal q.node) (first_shared image s q) =
+      shown_with refusal lock.node (first_shared_end ours lock.ranges (cuts image)) ∙ (λ i. option_map (refusal (are.0.node i)) (shared_first s q ours lock.ranges one are.0.ranges i)) in
+      λ i. here i ∷ conflicts_alike refusal s ours movements locks one are.1 i
+
+  -- so the first of the conflicts of some ranges is the first of the refusals
+  pub conflict_shown : (refusal : ℕ → RightEnd → Refusal) (s : SeqRow) (ours : List RangeRow) (movements : List SeqRow) (locks : List LockRow) → IsBook image s ours → AreLocks image movements locks
+      → option_map (λ (at : ℕ × RightEnd). refusal at.0 at.1) (conflict_of ours locks (cuts image)) ≡ first_of (map (λ (q : SeqRow). option_map (refusal q.node) (first_shared image s q)) movements)
+  conflict_shown refusal s ours movements locks one are = first_shown refusal (conflict_with ours (cuts image)) locks ∙ ap first_of (conflicts_alike refusal s ours movements locks one are)
 
 -- the conflict of a plan shows the refusal of its movement
 pub plan_locked : (image : Image) (s : SeqRow) (plan : Plan) → IsPlan image s plan → shown (conflict_of plan.ranges plan.wide plan.cuts) ≡ locked image s
 unfolding locked
 plan_locked image s plan is =
     let tokens : AllByRecursion IsToken (cuts image) = subst (λ ts. AllByRecursion IsToken ts) is.cuts is.tokens in
-    ap (λ ts. shown (conflict_of plan.ranges plan.wide ts)) is.cuts ∙ first_shown (conflict_with plan.ranges (cuts image)) plan.wide
-    ∙ ap first_of (conflicts_alike image tokens s plan.ranges (others image.sequences s.node) plan.wide is.ranges is.wide)
+    ap (λ ts. shown (conflict_of plan.ranges plan.wide ts)) is.cuts ∙ conflict_shown image tokens Locked s plan.ranges (others image.sequences s.node) plan.wide is.ranges is.wide
 
 -- the bounds of all ranges of a plan are its cuts
 pub locks_cut : (image : Image) (movements : List SeqRow) (locks : List LockRow) → AreLocks image movements locks → AllByRecursion (λ l. AllByRecursion (λ r. AreCutOut (cuts image) r.ranges) l.ranges) locks

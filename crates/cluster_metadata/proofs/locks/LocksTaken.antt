@@ -1,9 +1,14 @@
 -- The lock of a new movement: its node has no lock, no lock shares a token with it, and its plan's other ranges are
 -- wider.
-use Rattle.std.proofs.Common.{◌≡◌, ℕ, Bool, true, false, true≢false, ◌&&◌, ◌||◌, ◌==◌, ℤ, List, [], ◌∷◌, ◌++◌, map, nat_eq, Some, refl, sym, ap, ◌∙◌, subst, arith, zip}
+use Rattle.std.proofs.Common.{◌≡◌, ◌≢◌, ℕ, ◌<◌, Bool, true, false, true≢false, ◌&&◌, ◌||◌, ◌==◌, ℤ, List, [], ◌∷◌, ◌++◌, map, nat_eq, Some, refl, sym, ap, ◌∙◌, subst, arith, zip}
 use Rattle.std.proofs.lemmas.Bool.Decides.{Decides-eqb, nat_tests}
-use Rattle.std.specs.List.{AllByRecursion}
+use Rattle.std.proofs.lemmas.List.Elements.{All-from_recursion}
+use Rattle.std.proofs.lemmas.List.Kept.{AllPairs-cons}
+use Rattle.std.specs.List.{AllByRecursion, AllPairs}
 use Rattle.std.specs.List.Sorted.{IsStrictlySortedBy}
+use Rattle.std.specs.Ordering.{nat_cmp}
+use Rattle.std.specs.Set.{is_member}
+use Rattle.std.specs.declared.cmp.Ordering.TheVariants.{Less}
 use Rattle.cluster_terms.proofs.reach.ReachKept.{IsNarrowed, reached-kept}
 use Rattle.cluster_terms.specs.Arc.{IsToken}
 use Rattle.cluster_terms.specs.Ascending.{put}
@@ -39,12 +44,13 @@ use Rattle.transformations.specs.declared.sequence.SeqRow.{SeqRow}
 use Rattle.cluster_metadata.proofs.locks.LockLemmas.{common_is}
 use Rattle.cluster_metadata.proofs.locks.LocksKept.{lock_alike}
 use Rattle.cluster_metadata.proofs.in_flight.PrepareLemmas.{prepared_begun}
-use Rattle.cluster_metadata.specs.code.Change.{changed, plan_lock}
+use Rattle.cluster_metadata.proofs.locks.LockPlaces.{locks_named}
+use Rattle.cluster_metadata.specs.code.Change.{AreRenewed, changed, plan_lock, rekeyed}
 use Rattle.cluster_metadata.specs.code.Locking.{MayLock}
 use Rattle.sequence_plans.specs.Locks.{AreLocksOf, IsLockOf}
 use Rattle.cluster_metadata.specs.code.PermitParts.{IsPermitted}
 use Rattle.cluster_metadata.specs.declared.changes.change.Change.{Change}
-use Rattle.cluster_metadata.specs.declared.changes.change.Change.TheVariants.{Begun}
+use Rattle.cluster_metadata.specs.declared.changes.change.Change.TheVariants.{Keyspaces, Begun}
 
 -- ---- locks that share no token
 
@@ -84,6 +90,24 @@ still_locks before after (s ∷ rows) (l ∷ table) keyspaces kept are = (
   still_locks before after rows table keyspaces kept.1 are.1,
 )
 
+differs : (a b : ℕ) → nat_cmp a b ≡ Less → a ≡ b → ⊥
+differs a b less same = (let up : a < b = grind arith in omega (arith, up, same))
+
+-- the locks of movements are of different nodes
+once_locked : (image : Image) (rows : List SeqRow) (table : List LockRow) → IsStrictlySortedBy by_node rows → AreLocksOf image rows table → AllPairs (λ one other. one.node ≢ other.node) table
+unfolding IsStrictlySortedBy
+once_locked image [] [] up are = λ i j d before within. absurd (omega arith)
+once_locked image [] (l ∷ table) up are = absurd are
+once_locked image (s ∷ rows) [] up are = absurd are
+once_locked image (s ∷ rows) (l ∷ table) up are =
+    AllPairs-cons (λ (one other : LockRow). one.node ≢ other.node) l table (All-from_recursion (λ (o : LockRow). l.node ≢ o.node) table (later rows table up.0 are.1)) (once_locked image rows table up.1 are.1)
+  where
+    later : (rows : List SeqRow) (table : List LockRow) → AllByRecursion (λ r. by_node s r ≡ Less) rows → AreLocksOf image rows table → AllByRecursion (λ (o : LockRow). l.node ≢ o.node) table
+    later [] [] less are' = tt
+    later [] (o ∷ table) less are' = absurd are'
+    later (q ∷ rows) [] less are' = tt
+    later (q ∷ rows) (o ∷ table) less are' = (λ same. differs s.node q.node less.0 (sym are.0.node ∙ same ∙ are'.0.node), later rows table less.1 are'.1)
+
 pub may_lock : (image : Image) (c : Command) (change : Change) (table : List LockRow) → IsPermitted image c change → IsValid image → AreLocksOf image image.sequences table → MayLock table change
 may_lock image c (Begun at plan sequences) table permitted valid are =
     let j : SeqRow = plan.row in
@@ -97,6 +121,14 @@ may_lock image c (Begun at plan sequences) table permitted valid are =
       new = unnamed image j.node image.sequences table are (new_movement image c j valid.sound permitted.formed permitted.accepted is);
       apart = all_apart after j image.sequences (plan_lock plan) table own there
           (at_tokens (λ x s. in_both after j s x ≡ false) image.sequences (apart_begun image c j valid.sound permitted.formed permitted.accepted is));
+    }
+may_lock image c (Keyspaces keyspaces renewed) table permitted valid are =
+    let after : Image = rekeyed image keyspaces in
+    let brings : AreRenewed after renewed = permitted.makes.plan in
+    record {
+      names = λ n. ap (λ ns. is_member nat_eq ns n) (locks_named after image.sequences renewed.locks brings.locks ∙ sym (locks_named image image.sequences table are));
+      once = once_locked after image.sequences renewed.locks valid.sound.movements brings.locks;
+      apart = brings.apart;
     }
 may_lock image c _ table permitted valid are = tt
 

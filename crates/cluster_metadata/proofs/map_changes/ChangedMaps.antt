@@ -7,7 +7,7 @@ use Rattle.transformations.specs.Rings.{reads_at, writes_at}
 use Rattle.transformations.specs.declared.image.Image.{Image}
 use Rattle.transformations.specs.declared.keyspace.KeyspaceRow.{KeyspaceRow}
 use Rattle.placement_maps.specs.code.Arrangements.{arranged}
-use Rattle.cluster_metadata.specs.code.Change.{changed}
+use Rattle.cluster_metadata.specs.code.Change.{ChangesTo, changed}
 use Rattle.cluster_metadata.specs.code.MapSteps.{BringsMaps}
 use Rattle.placement_maps.specs.code.MapChanges.{maps_after}
 use Rattle.placement_maps.specs.code.ShownMaps.{AreMaps, AreMapsOf, IsMapOf}
@@ -24,19 +24,20 @@ pub made_from : (image : Image) (change : Change) (maps : MapChange) (own : List
 made_from image change maps own has are book was = subst (λ b. AreMaps (changed image change) (maps_after maps b)) (same_book image own book has was) are
 
 -- maps that are placed under new keyspaces
-pub keyspace_maps : (image : Image) (change : Change) (rows : List KeyspaceRow) (next : List MapRow) → change ≡ Keyspaces rows → AreMapsOf image (replications_of rows) next → AreMaps (changed image change) next
+pub keyspace_maps : (image : Image) (change : Change) (rows : List KeyspaceRow) (next : List MapRow) → ChangesTo rows change → AreMapsOf image (replications_of rows) next → AreMaps (changed image change) next
 unfolding reads_at writes_at
-keyspace_maps image change rows next is are = subst (λ c. AreMaps (changed image c) next) (sym is) (record { replications = are.replications; placements = each next are.placements })
+keyspace_maps image (Keyspaces keyspaces renewed) rows next same are = record { replications = are.replications ∙ ap replications_of (sym same); placements = each next are.placements }
   where
-    each : (book : List MapRow) → AllByRecursion (IsMapOf image) book → AllByRecursion (IsMapOf (changed image (Keyspaces rows))) book
+    each : (book : List MapRow) → AllByRecursion (IsMapOf image) book → AllByRecursion (IsMapOf (changed image (Keyspaces keyspaces renewed))) book
     each [] all = tt
     each (row ∷ book) all = ((all.0.0, all.0.1), each book all.1)
+keyspace_maps image _ rows next same are = absurd same
 
 -- where such maps are arranged of the image's own, the arrangement brings them
-pub arranged_maps : (image : Image) (change : Change) (rows : List KeyspaceRow) (own : List MapRow) (slots : List Slot) → change ≡ Keyspaces rows → AreMaps image own → AreMapsOf image (replications_of rows) (arranged slots own)
+pub arranged_maps : (image : Image) (change : Change) (rows : List KeyspaceRow) (own : List MapRow) (slots : List Slot) → ChangesTo rows change → AreMaps image own → AreMapsOf image (replications_of rows) (arranged slots own)
     → BringsMaps image change (Arranged slots)
-arranged_maps image change rows own slots is has are =
-    made_from image change (Arranged slots) own has (keyspace_maps image change rows (arranged slots own) is are)
+arranged_maps image change rows own slots same has are =
+    made_from image change (Arranged slots) own has (keyspace_maps image change rows (arranged slots own) same are)
 
 -- without keyspaces there are no maps, and new tokens bring none
 pub no_maps : (image : Image) (change : Change) (pairs : List Pair) → change ≡ Tokens pairs → image.keyspaces ≡ [] → BringsMaps image change Keep

@@ -1,5 +1,6 @@
 use crate::changes::left_row::LeftRow;
 use crate::changes::new_node::NewNode;
+use crate::movements::renewing::Renewed;
 use crate::on_heap::OnHeap;
 use cluster_terms::{NodeId, PairList};
 use placement_deltas::Plan;
@@ -20,8 +21,11 @@ pub enum Change {
     },
     /// The pairs of the new ring.
     Tokens(PairList),
-    /// The new keyspaces.
-    Keyspaces(KeyspaceRows),
+    /// The new keyspaces, and the plans and the locks that the movements in flight have under them.
+    Keyspaces {
+        keyspaces: KeyspaceRows,
+        renewed: Renewed,
+    },
     /// A movement begins: its plan, and the movements with the plan's row inserted at `at`.
     Begun {
         at: usize,

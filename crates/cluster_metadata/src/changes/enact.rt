@@ -8,7 +8,7 @@ ghost use Rattle.transformations.specs.Orders.{by_node};
 ghost use Rattle.transformations.specs.declared.sequence.Phase.{Phase};
 ghost use Rattle.transformations.specs.declared.sequence.Phase.TheVariants as phase;
 ghost use Rattle.transformations.specs.declared.sequence.SeqRow.{SeqRow as MovementRow};
-ghost use Rattle.cluster_metadata.specs.code.Change.{BringsNothing, FitsNodes, Follows, StandsAt, changed, grown_to, kept_plan, phased, plans_after};
+ghost use Rattle.cluster_metadata.specs.code.Change.{BringsNothing, FitsNodes, Follows, StandsAt, changed, grown_to, in_phase, kept_plan, phased, plans_after};
 ghost use Rattle.cluster_metadata.specs.Metadata.{directory_of};
 ghost use Rattle.cluster_metadata.specs.code.Locking.{IsFree, MayLock, locks_after};
 ghost use Rattle.cluster_metadata.specs.code.Change.{plan_lock};
@@ -18,15 +18,15 @@ ghost use Rattle.cluster_metadata.specs.code.Running.{IsRunning, movement_row, p
 use crate::changes::change::Change;
 use crate::changes::next_image::change_image;
 use crate::changes::node_changes::register;
+use crate::movements::renewing::parted;
 use crate::movements::running::Running;
-use cluster_terms::{Room, TokenList};
+use cluster_terms::Room;
 use locked_ranges::LockTable;
 use node_directory::Directory;
 use placement_deltas::Plan;
 use placement_maps::{MapBook, MapChange};
-use std::alloc::Global;
-use std::mem::{replace, swap};
-use token_ring::{LockRow, RangeBook};
+use std::mem::swap;
+use token_ring::LockRow;
 use transformations::{Image, SeqRow};
 
 /// Inserts the value of a movement. The vector has room for it.
@@ -54,18 +54,6 @@ fn move_over(running: &mut Vec<Running>, room: &mut Vec<Running>)
         Err(_) => unreachable!(),
     }
     swap(running, room);
-}
-
-/// The ranges of a plan, for the lock, and the plan without them. Its cuts are dropped too, since nothing needs them
-/// once its movement has begun.
-fn parted(alloc: Global, plan: Plan) -> (RangeBook, Plan)
-    ensures ranges { result.0 ≡ plan.ranges }
-    ensures plan { result.1 ≡ kept_plan plan }
-{
-    let mut plan = plan;
-    plan.cuts = TokenList::empty(alloc);
-    let ranges = replace(&mut plan.ranges, RangeBook::empty(alloc));
-    (ranges, plan)
 }
 
 /// Locks the ranges of a movement that begins, and inserts its value. The lock takes the same place in the table.
@@ -122,6 +110,22 @@ fn close_at(running: &mut Vec<Running>, locks: &mut LockTable, at: usize)
     locks.unlock(key);
 }
 
+/// Gives each movement in flight the plan at its position, from the last to the first. The plans have the rows of the
+/// movements at `Prepared`.
+fn renew_plans(running: &mut Vec<Running>, plans: Vec<Plan>)
+    requires { map (λ p. p.row) plans.items
+        ≡ map (λ m. in_phase phase.Prepared (plan_of m).row) running.old.items }
+    ensures plans { map plan_of running.new.items ≡ plans.items }
+    ensures rows { map movement_row running.new.items ≡ map movement_row running.old.items }
+{
+    let mut left = plans;
+    while let Some(plan) = left.pop() {
+        let at = left.len();
+        let movement = running.remove(at);
+        put(running, at, movement.renewed(plan));
+    }
+}
+
 /// Changes the placement maps.
 pub fn exchange(maps: &mut MapBook, change: MapChange)
     requires { ArePlacementMaps (maps_after change maps.old) }
@@ -137,7 +141,7 @@ pub fn exchange(maps: &mut MapBook, change: MapChange)
 }
 
 /// Makes a change in the directory of an image, in the values of its movements and in the table of their locks. The
-/// change brings neither a node nor a movement.
+/// change brings neither a node nor a movement nor a plan.
 #[tactic(auto, using(placement_maps::proofs::ArrangedMaps::map_remove))]
 fn change_parts(
     image: &Image,
@@ -170,13 +174,14 @@ fn change_parts(
             }
         }
         Change::Ended { at } => close_at(running, locks, *at),
-        Change::Unchanged | Change::Tokens(_) | Change::Keyspaces(_) => {}
-        Change::Registered(_) | Change::Begun { .. } => unreachable!(),
+        Change::Unchanged | Change::Tokens(_) => {}
+        Change::Registered(_) | Change::Keyspaces { .. } | Change::Begun { .. } => unreachable!(),
     }
 }
 
 /// Makes a change in an image, in its directory, in the values of its movements and in the table of their locks. If a
-/// movement begins, `room` is memory for the values, and `lock` is memory for the table of locks.
+/// movement begins, `room` is memory for the values, and `lock` is memory for the table of locks. New keyspaces bring new
+/// plans and locks for all movements.
 pub fn make(
     image: &mut Image,
     directory: &mut Directory,
@@ -216,6 +221,12 @@ pub fn make(
             let before = image.sequences.as_slice();
             begin(before, running, locks, &mut room, at, plan.take(), lock);
             image.sequences = sequences;
+            image.epoch += 1;
+        }
+        Change::Keyspaces { keyspaces, renewed } => {
+            renew_plans(running, renewed.plans);
+            locks.relock(renewed.locks);
+            image.keyspaces = keyspaces;
             image.epoch += 1;
         }
         change => {

@@ -7,6 +7,7 @@ ghost use Rattle.cluster_terms.specs.Row.{rows_between};
 ghost use Rattle.transformations.specs.Rings.{cuts_among};
 ghost use Rattle.transformations.specs.Valid.{IsValid};
 ghost use Rattle.cluster_metadata.specs.code.Change as spec;
+ghost use Rattle.cluster_metadata.specs.code.Change.{ChangesTo};
 ghost use Rattle.cluster_metadata.specs.code.MapSteps.{MapSteps};
 ghost use Rattle.cluster_metadata.specs.code.MapSteps.{BringsMaps};
 ghost use Rattle.placement_maps.specs.code.MapChanges.{maps_after};
@@ -68,7 +69,7 @@ fn maps_under(
     keyspaces: &KeyspaceRows,
     change: &Change,
 ) -> Result<MapChange, Memory>
-    requires change { change.now ≡ spec_change.Keyspaces keyspaces.now }
+    requires change { ChangesTo keyspaces.now change.now }
     requires valid { IsValid image.now }
     requires nodes { directory.now.rows ≡ image.now.nodes }
     requires maps { AreMaps image.now maps.now }
@@ -133,7 +134,9 @@ pub fn maps_for(
             Ok(MapChange::Keep)
         }
         Change::Tokens(tokens) => maps_on(alloc, image, directory, tokens, change),
-        Change::Keyspaces(rows) => maps_under(alloc, image, directory, maps, rows, change),
+        Change::Keyspaces { keyspaces, .. } => {
+            maps_under(alloc, image, directory, maps, keyspaces, change)
+        }
         Change::Begun {
             plan,
             sequences,

@@ -9,6 +9,7 @@ ghost use Rattle.cluster_metadata.specs.code.Nodes.{IsLeftRow, IsNew, with_node,
 
 use crate::changes::change::Change;
 use crate::changes::command_change::change_at_once;
+use crate::changes::keyspaces::{put_keyspace, remove_keyspace};
 use crate::changes::left_row::LeftRow;
 use crate::changes::new_node::NewNode;
 use crate::changes::node_changes::{add_row, remove_node};
@@ -72,7 +73,7 @@ pub fn change_image(alloc: Global, image: &mut Image, change: Change)
         Change::Registered(node) => add_node(image, node.take()),
         Change::Unregistered { node } => remove_node(&mut image.nodes, node),
         Change::Tokens(tokens) => image.tokens = tokens,
-        Change::Keyspaces(keyspaces) => image.keyspaces = keyspaces,
+        Change::Keyspaces { keyspaces, .. } => image.keyspaces = keyspaces,
         Change::Started { at } => bring_to(alloc, &mut image.sequences, at, Phase::Started),
         Change::Mid { at } => bring_to(alloc, &mut image.sequences, at, Phase::Mid),
         Change::Finished { at, left, tokens } => {
@@ -111,7 +112,16 @@ pub fn advance(alloc: Global, image: &mut Image, cmd: &Command) -> Result<(), Me
     if let Some(row) = row_prepared(alloc, image, cmd)? {
         return begin(image, row);
     }
-    let change = change_at_once(alloc, image, cmd)?;
-    change_image(alloc, image, change);
+    match cmd {
+        Command::Keyspace { name, replication } => {
+            put_keyspace(&mut image.keyspaces, name, replication)?;
+            image.epoch += 1;
+        }
+        Command::DropKeyspace { name } => {
+            remove_keyspace(&mut image.keyspaces, name);
+            image.epoch += 1;
+        }
+        _ => change_image(alloc, image, change_at_once(alloc, image, cmd)?),
+    }
     Ok(())
 }

@@ -12,6 +12,7 @@ ghost use Rattle.cluster_metadata.specs.ImageFaults.{IsCause};
 ghost use Rattle.cluster_metadata.specs.code.Overlaps.{FindsOverlap, overlap_of, overlapping_at};
 ghost use Rattle.sequence_plans.specs.Locks.{AreLocksOf};
 ghost use Rattle.cluster_metadata.specs.code.Locking.{AddsMovement, AreCutAt, AreLocked, lock_of};
+ghost use Rattle.cluster_metadata.specs.code.Change.{in_phase};
 ghost use Rattle.cluster_metadata.specs.code.Running.{HaveDeltas, IsRunning, phase_after, phase_of, plan_of, movement_row, moving_node};
 ghost use Rattle.placement_maps.specs.code.Turns.{undoing};
 ghost use Rattle.cluster_metadata.specs.declared.image_fault.ImageFault.TheVariants as fault;
@@ -30,8 +31,8 @@ use std::marker::Brand;
 use std::sync::ledger::{Blank, Ledger};
 use transformations::{BadImage, Image, Phase, SeqRow};
 
-/// A movement in flight, as a value of its phase. It holds the plan with which the movement was prepared, and the key
-/// to the lock of its ranges.
+/// A movement in flight, as a value of its phase. It holds the plan of the movement, and the key to the lock of its
+/// ranges.
 pub enum Running {
     Prepared(Seq<Prepared>),
     Started(Seq<Started>),
@@ -49,7 +50,7 @@ impl Running {
         Running::Prepared(Seq::begin(plan, key))
     }
 
-    /// The plan with which the movement was prepared.
+    /// The plan of the movement.
     pub fn plan(&self) -> &Plan
         ensures { result.now ≡ plan_of self.now }
     {
@@ -98,6 +99,19 @@ impl Running {
         }
     }
 
+    /// The value of a movement with a new plan of its row at `Prepared`. The phase stays.
+    pub fn renewed(self, plan: Plan) -> Running
+        requires { plan.row ≡ in_phase phase.Prepared (plan_of self).row }
+        ensures plan { plan_of result ≡ plan }
+        ensures phase { phase_of result ≡ phase_of self }
+    {
+        match self {
+            Running::Prepared(seq) => Running::Prepared(seq.renewed(plan)),
+            Running::Started(seq) => Running::Started(seq.renewed(plan)),
+            Running::Mid(seq) => Running::Mid(seq.renewed(plan)),
+        }
+    }
+
     /// Consumes the value of a movement at any phase, and gives back the key to its lock. The image doesn't change.
     pub fn close(self) -> LockKey
         ensures { result ≡ moving_node self }
@@ -111,7 +125,7 @@ impl Running {
 }
 
 /// The plan of a movement. Fails only if memory runs out.
-fn planned<L: Ledger>(
+pub fn planned<L: Ledger>(
     alloc: Global,
     image: &Image,
     directory: &Directory,

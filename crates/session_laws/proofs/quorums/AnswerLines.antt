@@ -23,7 +23,7 @@ use Rattle.transformations.specs.declared.refusal.Refusal.{Refusal}
 use Rattle.transformations.specs.declared.refusal.Refusal.TheVariants.{IdReused}
 use Rattle.transformations.specs.declared.sequence.SeqRow.{SeqRow}
 use Rattle.placement_maps.specs.Served.{keyspace_of}
-use Rattle.script_lang.proofs.SaidLemmas.{IsFormed}
+use Rattle.script_lang.proofs.SaidLemmas.{IsFormed, IsSaid, said_by}
 use Rattle.script_lang.specs.Grammar.{line_of}
 use Rattle.script_lang.specs.AnswerTexts.{epoch_text, kind_text, left_text, line, list_text, named_text, no_text, node_text, nodes_head, nodes_text, ok_text, pairs_text, phase_text, place_head, place_text, placed_text, refusal_text, right_text, placed_row_text, sequence_text, sets_text, state_text, tokens_text}
 use Rattle.script_lang.specs.declared.script_line.ScriptLine.{ScriptLine}
@@ -135,8 +135,8 @@ commit_lines (Ok epoch) names = ok_lines epoch
 commit_lines (Err r) names = no_lines (refusal_text r) (plain_refusal r names)
 
 -- the names that a refused commit shows
-committed_plain : (log : List Entry) (id : ℕ) (c : Command) → AllByRecursion IsFormed (commands_of log) → IfErr (commit_of log id c).answer HasPlainNames
-committed_plain log id c formed = by (entry_with_id log id)
+committed_plain : (log : List Entry) (id : ℕ) (c : Command) → AllByRecursion IsFormed (commands_of log) → IsFormed c → IfErr (commit_of log id c).answer HasPlainNames
+committed_plain log id c all formed = by (entry_with_id log id)
   where
     again : (e : Entry) (b : Bool) → IfErr (if b then Ok e.epoch else Err (IdReused e.epoch)) HasPlainNames
     again e true = tt
@@ -148,7 +148,7 @@ committed_plain log id c formed = by (entry_with_id log id)
 
     by : (o : Option Entry) → IfErr (commit_by log id c o).answer HasPlainNames
     by (Some e) = again e (same_command e.cmd c)
-    by None = decide (commit_refusal (commands_of log) c) (commit_plain (commands_of log) c formed)
+    by None = decide (commit_refusal (commands_of log) c) (commit_plain (commands_of log) c all formed)
 
 -- the reason that there is no image
 epoch_plain : (h : List Command) → is_plain (no_epoch h) ≡ true
@@ -246,22 +246,22 @@ local_query (Ok image) name dc t plain none = by (keyspace_of image name) none
     by None none = no_lines (codes "KEYSPACE") refl
     by (Some k) none = within k (datacenter_of (datacenters_of k.replication) dc) none
 
-other_said : (session : SessionState) → IsSession session → (said : Option ScriptLine) → shown_by session said ≡ None → AreLines IsOfNoQuorum (reply_to session said).text
-other_said session is None none = no_lines (codes "BAD-LINE") refl
-other_said session is (Some (Commit id c)) none = commit_lines (commit_of session.log id c).answer (committed_plain session.log id c is.history.formed)
-other_said session is (Some (Follower name)) none = follower_lines session name
-other_said session is (Some (Deliver name e)) none =
+other_said : (session : SessionState) → IsSession session → (said : Option ScriptLine) → IfSome said IsSaid → shown_by session said ≡ None → AreLines IsOfNoQuorum (reply_to session said).text
+other_said session is None formed none = no_lines (codes "BAD-LINE") refl
+other_said session is (Some (Commit id c)) formed none = commit_lines (commit_of session.log id c).answer (committed_plain session.log id c is.history.formed formed.1)
+other_said session is (Some (Follower name)) formed none = follower_lines session name
+other_said session is (Some (Deliver name e)) formed none =
     named_lines session (follower_named session.followers name) (λ f. deliver_to session name f (entry_at session.log e)) (λ f. deliver_lines session name f (entry_at session.log e))
-other_said session is (Some (Snapshot name e)) none =
+other_said session is (Some (Snapshot name e)) formed none =
     named_lines session (follower_named session.followers name) (λ f. snapshot_to session name f (image_at (commands_of session.log) e)) (λ f. snapshot_lines session name f e)
-other_said session is (Some (Place target name)) none = placed_query (image_of session target) name (target_plain session target is)
-other_said session is (Some (Nodes target)) none = nodes_query (image_of session target) (target_plain session target is)
-other_said session is (Some (Quorum target name t)) none = quorum_query (image_of session target) name t (target_plain session target is) none
-other_said session is (Some (Local target name dc t)) none = local_query (image_of session target) name dc t (target_plain session target is) none
+other_said session is (Some (Place target name)) formed none = placed_query (image_of session target) name (target_plain session target is)
+other_said session is (Some (Nodes target)) formed none = nodes_query (image_of session target) (target_plain session target is)
+other_said session is (Some (Quorum target name t)) formed none = quorum_query (image_of session target) name t (target_plain session target is) none
+other_said session is (Some (Local target name dc t)) formed none = local_query (image_of session target) name dc t (target_plain session target is) none
 
 pub other_lines : (session : SessionState) (bytes : List ℕ) → IsSession session → shown_by session (line_of bytes) ≡ None → AreLines IsOfNoQuorum (reply session bytes).text
 unfolding reply
-other_lines session bytes is none = other_said session is (line_of bytes) none
+other_lines session bytes is none = other_said session is (line_of bytes) (said_by bytes) none
 
 -- ---- answers that show quorums
 

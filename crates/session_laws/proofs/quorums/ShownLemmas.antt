@@ -1,14 +1,16 @@
 -- Quorums that are shown meet where they are asked for alike at adjacent epochs.
 use Rattle.std.proofs.Common.{◌≡◌, ℕ, ◌+◌, ◌≤◌, true, inl, inr, ℤ, List, [], ◌∷◌, take, find, length, Option, Some, None, option_map, option_and_then, refl, sym, ap, ◌∙◌, subst, arith, length-append}
-use Rattle.std.specs.List.{AllByRecursion, slice_get}
+use Rattle.std.specs.List.{AllByRecursion, Contains, slice_get}
 use Rattle.std.specs.Str.{bytes_eq}
 use Rattle.std.proofs.lemmas.List.{take-append-le}
 use Rattle.std.proofs.lemmas.List.Elements.{All-contains, All-from_recursion}
 use Rattle.std.proofs.lemmas.Option.{none-some}
+use Rattle.std.proofs.lemmas.Slice.Eq.{bytes_eq-Decides}
 use Rattle.cluster_terms.specs.Arc.{IsToken}
 use Rattle.cluster_terms.specs.Quorum.{Meet, Sets, datacenter_of}
 use Rattle.transformation_laws.proofs.histories.HistoryMeetings.{meet_at_epoch, meet_at_next}
-use Rattle.transformations.proofs.lists.ListLemmas.{all_found, all_weaker}
+use Rattle.transformations.proofs.histories.HistoryLemmas.{valid_at}
+use Rattle.transformations.proofs.lists.ListLemmas.{all_found, all_weaker, found_passes}
 use Rattle.transformations.specs.History.{empty_image, image_after, state_after}
 use Rattle.transformations.specs.Log.{commands_of}
 use Rattle.transformations.specs.Meeting.{HasReplication, MeetAt, QuorumsMeet, datacenters_of, makes_movement_epoch, local_sets_at, sets_at}
@@ -19,6 +21,7 @@ use Rattle.placement_maps.specs.Served.{keyspace_of}
 use Rattle.script_lang.proofs.SaidLemmas.{IsFormed, formed_replication, said_by}
 use Rattle.script_lang.specs.Grammar.{line_of}
 use Rattle.script_session.proofs.SessionLemmas.{GoesOnAs, IsFormedHistory, IsSession, after_lines, after_reply}
+use Rattle.session_laws.proofs.quorums.NamedKeyspaces.{contained_found, found_named}
 use Rattle.session_laws.proofs.quorums.ShownAnswers.{IsShownIn, found_sets, is_shown}
 use Rattle.script_session.specs.Machine.{SessionState, session_after, session_next}
 use Rattle.session_laws.specs.Shown.{AreAdjacent, AskAlike, Shown, ShownMeet, and_shown, sets_in, shown, shown_by}
@@ -73,16 +76,25 @@ keyspace_sets one other k t meet (Some dc) a b e f = by (datacenter_of (datacent
         same_sets (local_sets_at one k.replication g t) (local_sets_at other k.replication g t) a b
         (all_found (λ (f : List ℕ × ℕ). Meet (local_sets_at one k.replication f t) (local_sets_at other k.replication f t)) (λ f. bytes_eq f.0 dc) (datacenters_of k.replication) g found meet.local_quorums) e f
 
--- those of two images whose quorums meet, at the same question
-image_sets : (one other : Image) (name : List ℕ) (t : ℤ) (dc : Option (List ℕ)) (a b : Sets) → QuorumsMeet one other → other.keyspaces ≡ one.keyspaces → IsToken t
-    → found_sets one name t dc ≡ Some a → found_sets other name t dc ≡ Some b → Meet a b
-image_sets one other name t dc a b meet same token e f =
-    by (keyspace_of one name) refl e (ap (λ ks. option_and_then (sets_in other t dc) (find (λ (row : KeyspaceRow). bytes_eq row.name name) ks)) (sym same) ∙ f)
+-- those of one image, at the same question
+image_sets : (image : Image) (name : List ℕ) (t : ℤ) (dc : Option (List ℕ)) (a b : Sets) → QuorumsMeet image image → IsToken t → found_sets image name t dc ≡ Some a → found_sets image name t dc ≡ Some b → Meet a b
+image_sets image name t dc a b meet token e f = by (keyspace_of image name) refl e f
   where
-    by : (o : Option KeyspaceRow) → keyspace_of one name ≡ o → option_and_then (sets_in one t dc) o ≡ Some a → option_and_then (sets_in other t dc) o ≡ Some b → Meet a b
+    by : (o : Option KeyspaceRow) → keyspace_of image name ≡ o → option_and_then (sets_in image t dc) o ≡ Some a → option_and_then (sets_in image t dc) o ≡ Some b → Meet a b
     by None found e f = absurd (none-some a e)
     by (Some k) found e f =
-        keyspace_sets one other k t (all_found (λ (k : KeyspaceRow). MeetAt one other k.replication t) (λ row. bytes_eq row.name name) one.keyspaces k found (meet t token)) dc a b e f
+        keyspace_sets image image k t (all_found (λ (k : KeyspaceRow). MeetAt image image k.replication t) (λ row. bytes_eq row.name name) image.keyspaces k found (meet t token)) dc a b e f
+
+-- those of two images, if the quorums of both meet under the keyspace of this name
+next_sets : (one other : Image) (name : List ℕ) (t : ℤ) (dc : Option (List ℕ)) (a b : Sets) → ((k : KeyspaceRow) → keyspace_of one name ≡ Some k → (keyspace_of other name ≡ Some k) × MeetAt one other k.replication t)
+    → found_sets one name t dc ≡ Some a → found_sets other name t dc ≡ Some b → Meet a b
+next_sets one other name t dc a b meets e f = by (keyspace_of one name) refl e
+  where
+    by : (o : Option KeyspaceRow) → keyspace_of one name ≡ o → option_and_then (sets_in one t dc) o ≡ Some a → Meet a b
+    by None found e = absurd (none-some a e)
+    by (Some k) found e =
+        let there = meets k found in
+        keyspace_sets one other k t there.1 dc a b e (ap (option_and_then (sets_in other t dc)) (sym there.0) ∙ f)
 
 -- ---- the law
 
@@ -99,19 +111,27 @@ asked h p q one other alike = record {
   second = (λ i. found_sets (state_after h q.epoch) (alike.keyspace i) (alike.token i) (alike.datacenter i)) ∙ other.sets;
 }
 
+-- under a keyspace for which the next epoch is a movement epoch, its quorums meet those before
+named_meets : (h : List Command) (e : ℕ) (c : Command) (name : List ℕ) → IsFormedHistory h → slice_get h e ≡ Some c → makes_movement_epoch name c ≡ true → (t : ℤ) → IsToken t → (k : KeyspaceRow) → keyspace_of (state_after h e) name ≡ Some k
+    → (keyspace_of (state_after h (e + 1)) name ≡ Some k) × MeetAt (state_after h e) (state_after h (e + 1)) k.replication t
+named_meets h e c name is at moves t token k found =
+    let named : k.name ≡ name = (bytes_eq-Decides k.name name).0 (found_passes (λ (row : KeyspaceRow). bytes_eq row.name name) (state_after h e).keyspaces k found) in
+    let there : Contains (state_after h e).keyspaces k = contained_found (λ (row : KeyspaceRow). bytes_eq row.name name) (state_after h e).keyspaces k found in
+    let after = meet_at_next h e c is.history (replications h is) at k there (subst (λ n. makes_movement_epoch n c ≡ true) (sym named) moves) in
+    (found_named (state_after h (e + 1)) (valid_at h (e + 1) is.history).sound k after.stays name named, after.meet t token)
+
 meet_shown : (h : List Command) (p q : Shown) → IsFormedHistory h → IsAsked h p q → AreAdjacent h p q → Meet p.sets q.sets
 meet_shown h p q is a (inl same) =
-    image_sets (state_after h p.epoch) (state_after h p.epoch) p.keyspace p.token p.datacenter p.sets q.sets
-    (meet_at_epoch h p.epoch is.history (replications h is)) refl a.token a.first
+    image_sets (state_after h p.epoch) p.keyspace p.token p.datacenter p.sets q.sets (meet_at_epoch h p.epoch is.history (replications h is)) a.token a.first
     (ap (λ e. found_sets (state_after h e) p.keyspace p.token p.datacenter) same ∙ a.second)
 meet_shown h p q is a (inr next) = by (slice_get h p.epoch) refl next.1
   where
-    by : (o : Option Command) → slice_get h p.epoch ≡ o → option_map makes_movement_epoch o ≡ Some true → Meet p.sets q.sets
+    by : (o : Option Command) → slice_get h p.epoch ≡ o → option_map (makes_movement_epoch p.keyspace) o ≡ Some true → Meet p.sets q.sets
     by None at movement = absurd (none-some true movement)
     by (Some c) at movement =
-        let movement_true : makes_movement_epoch c ≡ true = cc in
-        let meets = meet_at_next h p.epoch c is.history (replications h is) at movement_true in
-        image_sets (state_after h p.epoch) (state_after h (p.epoch + 1)) p.keyspace p.token p.datacenter p.sets q.sets meets.quorums meets.keyspaces a.token a.first
+        let movement_true : makes_movement_epoch p.keyspace c ≡ true = cc in
+        next_sets (state_after h p.epoch) (state_after h (p.epoch + 1)) p.keyspace p.token p.datacenter p.sets q.sets
+        (named_meets h p.epoch c p.keyspace is at movement_true p.token a.token) a.first
         (ap (λ e. found_sets (state_after h e) p.keyspace p.token p.datacenter) (sym next.0) ∙ a.second)
 
 pub shown_meet : (session : SessionState) → IsSession session → (lines : List (List ℕ)) → ShownMeet (commands_of (session_after session lines).log) (shown session lines)

@@ -1,6 +1,6 @@
 -- The names of the images that lines lead to hold no line feed, and neither do the refusals that show them.
 use Rattle.std.proofs.Common.{◌≡◌, ℕ, zero, suc, Bool, true, false, not, ◌&&◌, ◌==◌, ℤ, is_some, nat_lt, List, [], ◌∷◌, map, find, take, length, Option, Some, None, option_map, option_and_then, if◌then◌else◌, nat_le, refl}
-use Rattle.std.specs.List.{AllByRecursion}
+use Rattle.std.specs.List.{AllByRecursion, list_any}
 use Rattle.std.specs.Option.{IfSome}
 use Rattle.std.specs.Str.{bytes_eq}
 use Rattle.cluster_terms.proofs.lists.AscendingLemmas.{All-put}
@@ -19,7 +19,7 @@ use Rattle.transformations.specs.declared.command.Command.TheVariants.{Register,
 use Rattle.transformations.specs.declared.image.Image.{Image}
 use Rattle.transformations.specs.declared.keyspace.KeyspaceRow.{KeyspaceRow}
 use Rattle.transformations.specs.declared.refusal.Refusal.{Refusal}
-use Rattle.transformations.specs.declared.refusal.Refusal.TheVariants.{NameTaken, InSequence, TokenTaken, TooFewNodes, Locked, EpochsFull}
+use Rattle.transformations.specs.declared.refusal.Refusal.TheVariants.{NameTaken, InSequence, TokenTaken, TooFewNodes, Locked, EpochsFull, KeyspaceLocked}
 use Rattle.transformations.specs.declared.sequence.Goal.{Goal}
 use Rattle.transformations.specs.declared.sequence.Goal.TheVariants as goal
 use Rattle.transformations.specs.declared.sequence.Kind.{Kind}
@@ -151,36 +151,38 @@ module _ (image : Image) (is : IsPlainImage image) where
           each_chained (spec.unless_near left) HasPlainNames (λ near. refused (not (spec.same_place near left)) _ (row.dc, row.rack)) (row_of image.nodes n)
 
   of_few : (n : ℕ) → IfSome (spec.too_few_nodes image n) HasPlainNames
-  of_few n = by (find (spec.is_too_few image n) image.keyspaces) refl
+  of_few n = by (find (λ (k : KeyspaceRow). spec.is_too_few image n k.replication) image.keyspaces) refl
     where
-      by : (o : Option KeyspaceRow) → find (spec.is_too_few image n) image.keyspaces ≡ o → IfSome (option_map (λ (k : KeyspaceRow). TooFewNodes k.name) o) HasPlainNames
+      by : (o : Option KeyspaceRow) → find (λ (k : KeyspaceRow). spec.is_too_few image n k.replication) image.keyspaces ≡ o → IfSome (option_map (λ (k : KeyspaceRow). TooFewNodes k.name) o) HasPlainNames
       by None e = tt
-      by (Some k) e = all_found (λ (k : KeyspaceRow). is_plain k.name ≡ true) (spec.is_too_few image n) image.keyspaces k e is.keyspaces
+      by (Some k) e = all_found (λ (k : KeyspaceRow). is_plain k.name ≡ true) (λ (k : KeyspaceRow). spec.is_too_few image n k.replication) image.keyspaces k e is.keyspaces
 
-  early_plain : (c : Command) → IfSome (spec.early_refusal_of image c) HasPlainNames
+  early_plain : (c : Command) → IsFormed c → IfSome (spec.early_refusal_of image c) HasPlainNames
   unfolding spec.early_refusal_of
-  early_plain (Register name dc rack) =
+  early_plain (Register name dc rack) formed =
       first_plain (spec.name_taken image name ∷ spec.nodes_full image ∷ []) (of_name name, (refused (nat_le spec.most_nodes (length image.nodes)) _ tt, tt))
-  early_plain (Unregister n) = first_plain (spec.no_node image n ∷ spec.in_sequence image n ∷ spec.wrong_state spec.may_be_removed image n ∷ []) (of_node n, (of_sequence n, (of_state spec.may_be_removed n, tt)))
-  early_plain (UnsafeJoin n ts) =
+  early_plain (Unregister n) formed = first_plain (spec.no_node image n ∷ spec.in_sequence image n ∷ spec.wrong_state spec.may_be_removed image n ∷ []) (of_node n, (of_sequence n, (of_state spec.may_be_removed n, tt)))
+  early_plain (UnsafeJoin n ts) formed =
       first_plain (spec.no_node image n ∷ spec.in_sequence image n ∷ spec.wrong_state spec.may_join image n ∷ spec.not_idle image.sequences ∷ spec.token_taken image ts ∷ spec.tokens_full image ts ∷ [])
       (of_node n, (of_sequence n, (of_state spec.may_join n, (of_idle image.sequences, (of_tokens ts, (of_full ts, tt))))))
-  early_plain (Keyspace name r) = first_plain (spec.keyspaces_full image name ∷ spec.not_idle image.sequences ∷ []) (refused (nat_le spec.most_keyspaces (length image.keyspaces) && not (spec.has_keyspace image name)) _ tt, (of_idle image.sequences, tt))
-  early_plain (DropKeyspace name) = first_plain (spec.no_keyspace image name ∷ spec.not_idle image.sequences ∷ []) (refused (not (spec.has_keyspace image name)) _ tt, (of_idle image.sequences, tt))
-  early_plain (PrepareJoin n ts) =
+  early_plain (Keyspace name r) formed =
+      first_plain (spec.keyspaces_full image name ∷ spec.too_few_left image (spec.keyspace_row name r) ∷ [])
+      (refused (nat_le spec.most_keyspaces (length image.keyspaces) && not (spec.has_keyspace image name)) _ tt, (refused (list_any (spec.is_left_short image r) image.sequences) _ (plain_name name formed.0), tt))
+  early_plain (DropKeyspace name) formed = refused (not (spec.has_keyspace image name)) _ tt
+  early_plain (PrepareJoin n ts) formed =
       first_plain (spec.no_node image n ∷ spec.in_sequence image n ∷ spec.wrong_state spec.may_join image n ∷ spec.token_taken image ts ∷ spec.tokens_full image ts ∷ [])
       (of_node n, (of_sequence n, (of_state spec.may_join n, (of_tokens ts, (of_full ts, tt)))))
-  early_plain (PrepareMove n t) =
+  early_plain (PrepareMove n t) formed =
       first_plain (spec.no_node image n ∷ spec.in_sequence image n ∷ spec.wrong_state spec.may_move_or_leave image n ∷ spec.not_one_token image n ∷ spec.token_taken image (t ∷ []) ∷ spec.tokens_full image (t ∷ []) ∷ [])
       (of_node n, (of_sequence n, (of_state spec.may_move_or_leave n, (refused (not (length (node_tokens image n) == 1)) _ tt, (of_tokens (t ∷ []), (of_full (t ∷ []), tt))))))
-  early_plain (PrepareLeave n) =
+  early_plain (PrepareLeave n) formed =
       first_plain (spec.no_node image n ∷ spec.in_sequence image n ∷ spec.wrong_state spec.may_move_or_leave image n ∷ spec.too_few_nodes image n ∷ [])
       (of_node n, (of_sequence n, (of_state spec.may_move_or_leave n, (of_few n, tt))))
-  early_plain (PrepareReplace n gone) =
+  early_plain (PrepareReplace n gone) formed =
       first_plain (spec.no_node image n ∷ spec.no_node image gone ∷ spec.in_sequence image n ∷ spec.in_sequence image gone ∷ spec.wrong_state spec.may_join image n ∷ spec.no_tokens image gone ∷ spec.other_rack image n gone ∷ [])
       (of_node n, (of_node gone, (of_sequence n, (of_sequence gone, (of_state spec.may_join n, (refused (not (owns_tokens image gone)) _ tt, (of_rack n gone, tt)))))))
-  early_plain (Cancel n) = first_plain (spec.no_node image n ∷ spec.no_sequence image n ∷ []) (of_node n, (of_movement n, tt))
-  early_plain (Step g k n) = first_plain (spec.no_node image n ∷ spec.no_sequence image n ∷ spec.wrong_step g k image n ∷ []) (of_node n, (of_movement n, (of_step g k n, tt)))
+  early_plain (Cancel n) formed = first_plain (spec.no_node image n ∷ spec.no_sequence image n ∷ []) (of_node n, (of_movement n, tt))
+  early_plain (Step g k n) formed = first_plain (spec.no_node image n ∷ spec.no_sequence image n ∷ spec.wrong_step g k image n ∷ []) (of_node n, (of_movement n, (of_step g k n, tt)))
 
   of_locked : (ring : Image) (s : SeqRow) → IfSome (spec.locked ring s) HasPlainNames
   unfolding spec.locked
@@ -192,11 +194,36 @@ module _ (image : Image) (is : IsPlainImage image) where
   locked_plain : (c : Command) → IfSome (spec.ranges_locked image c) HasPlainNames
   locked_plain c = each_chained (λ s. spec.locked (spec.with_movement image s) s) HasPlainNames (λ s. of_locked (spec.with_movement image s) s) (spec.prepared_by image.tokens c)
 
-  pub refusal_plain : (c : Command) → IfSome (spec.refusal_of image c) HasPlainNames
+  -- the movements that would overlap are shown by their nodes
+  of_overlap : (later : Image) (ss : List SeqRow) → IfSome (spec.first_overlap later ss) HasPlainNames
+  of_overlap later [] = tt
+  of_overlap later (s ∷ ss) =
+      first_plain (spec.first_of (map (spec.overlap_of later s) ss) ∷ spec.first_overlap later ss ∷ []) (
+        first_plain (map (spec.overlap_of later s) ss)
+            (all_map (λ (o : Option Refusal). IfSome o HasPlainNames) (spec.overlap_of later s) ss
+            (all_each (λ (q : SeqRow). IfSome (spec.overlap_of later s q) HasPlainNames) (λ q. each_mapped (KeyspaceLocked s.node q.node) HasPlainNames (λ end. tt) (first_shared later s q)) ss)),
+        (of_overlap later ss, tt),
+      )
+
+  overlap_plain : (c : Command) → IfSome (spec.locks_overlap image c) HasPlainNames
+  unfolding spec.keyspace_locked
+  overlap_plain (Keyspace name r) = of_overlap (spec.with_keyspace image (spec.keyspace_row name r)) image.sequences
+  overlap_plain (Register name dc rack) = tt
+  overlap_plain (Unregister n) = tt
+  overlap_plain (UnsafeJoin n ts) = tt
+  overlap_plain (DropKeyspace name) = tt
+  overlap_plain (PrepareJoin n ts) = tt
+  overlap_plain (PrepareMove n t) = tt
+  overlap_plain (PrepareLeave n) = tt
+  overlap_plain (PrepareReplace n gone) = tt
+  overlap_plain (Step g k n) = tt
+  overlap_plain (Cancel n) = tt
+
+  pub refusal_plain : (c : Command) → IsFormed c → IfSome (spec.refusal_of image c) HasPlainNames
   unfolding spec.refusal_of
-  refusal_plain c = first_plain (spec.early_refusal_of image c ∷ spec.ranges_locked image c ∷ []) (early_plain c, (locked_plain c, tt))
+  refusal_plain c formed = first_plain (spec.early_refusal_of image c ∷ spec.ranges_locked image c ∷ spec.locks_overlap image c ∷ []) (early_plain c formed, (locked_plain c, (overlap_plain c, tt)))
 
 -- of a commit after a history
-pub commit_plain : (h : List Command) (c : Command) → AllByRecursion IsFormed h → IfSome (commit_refusal h c) HasPlainNames
-commit_plain h c all =
-    either HasPlainNames (nat_le most_epochs (length h)) (Some EpochsFull) (spec.refusal_of (image_after empty_image h) c) tt (refusal_plain (image_after empty_image h) (plain_last empty_image h all plain_empty) c)
+pub commit_plain : (h : List Command) (c : Command) → AllByRecursion IsFormed h → IsFormed c → IfSome (commit_refusal h c) HasPlainNames
+commit_plain h c all formed =
+    either HasPlainNames (nat_le most_epochs (length h)) (Some EpochsFull) (spec.refusal_of (image_after empty_image h) c) tt (refusal_plain (image_after empty_image h) (plain_last empty_image h all plain_empty) c formed)

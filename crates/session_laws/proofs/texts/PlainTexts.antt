@@ -10,7 +10,7 @@ use Rattle.cluster_terms.specs.declared.token.Pair.{Pair}
 use Rattle.cluster_terms.specs.declared.token.RightEnd.{RightEnd}
 use Rattle.cluster_terms.specs.declared.token.RightEnd.TheVariants.{At, Max}
 use Rattle.transformations.specs.declared.refusal.Refusal.{Refusal}
-use Rattle.transformations.specs.declared.refusal.Refusal.TheVariants.{NameTaken, NodesFull, NoNode, WrongState, InSequence, NoSequence, WrongStep, TokenTaken, NoTokens, TokensFull, NotOneToken, OtherRack, NotIdle, NoKeyspace, KeyspacesFull, TooFewNodes, Locked, IdReused, EpochsFull}
+use Rattle.transformations.specs.declared.refusal.Refusal.TheVariants.{NameTaken, NodesFull, NoNode, WrongState, InSequence, NoSequence, WrongStep, TokenTaken, NoTokens, TokensFull, NotOneToken, OtherRack, NotIdle, NoKeyspace, KeyspacesFull, TooFewNodes, Locked, IdReused, EpochsFull, KeyspaceLocked}
 use Rattle.transformations.specs.declared.sequence.Kind.{Kind}
 use Rattle.transformations.specs.declared.sequence.Kind.TheVariants as kind
 use Rattle.transformations.specs.declared.sequence.Phase.{Phase}
@@ -174,3 +174,5 @@ plain_refusal (TooFewNodes k) names = names
 plain_refusal (Locked n end) names = plain_joined (decimal n) (codes " ") (right_text end) (plain_decimal n) refl (plain_right end)
 plain_refusal (IdReused e) names = plain_decimal e
 plain_refusal EpochsFull names = refl
+plain_refusal (KeyspaceLocked n o end) names =
+    plain_joined (decimal n) (codes " ") (decimal o ++ codes " " ++ right_text end) (plain_decimal n) refl (plain_joined (decimal o) (codes " ") (right_text end) (plain_decimal o) refl (plain_right end))

@@ -113,21 +113,21 @@ pub const ON_FOUR: [Script; 5] = [
             commit 22 prepare-join 1 170\n\
             commit 23 register g dc1 r2\n\
             commit 24 unregister 7\n\
-            nodes @14\n",
+            nodes @16\n",
         "OK 12\n\
             NO NAME-TAKEN 1\n\
             NO NODE-STATE JOINED\n\
             NO IN-SEQUENCE 5\n\
             NO NOT-IDLE 5\n\
-            NO NOT-IDLE 5\n\
-            NO NOT-IDLE 5\n\
+            OK 13\n\
+            OK 14\n\
             NO NO-KEYSPACE\n\
             NO TOKEN-TAKEN 150\n\
             NO IN-SEQUENCE 5\n\
             NO NODE-STATE JOINED\n\
-            OK 13\n\
-            OK 14\n\
-            NODES 14 6 1\n\
+            OK 15\n\
+            OK 16\n\
+            NODES 16 6 1\n\
             1 a dc1 r1 JOINED 0\n\
             2 b dc1 r1 JOINED 100\n\
             3 c dc1 r1 JOINED 200\n\
@@ -413,7 +413,7 @@ pub const FROM_NOTHING: [Script; 5] = [
             OK 31\n\
             NO LOCKED 11 60\n\
             NO LOCKED 11 0\n\
-            NO NOT-IDLE 11\n",
+            OK 32\n",
     ),
     (
         "joins of two datacenters",

@@ -312,25 +312,25 @@ pub const ON_FOUR: [Script; 3] = [
             commit 26 unsafe-join 5 500 400\n\
             commit 27 prepare-move 5 600\n\
             commit 28 prepare-move 2 50\n\
-            nodes @16\n",
+            nodes @17\n",
         "OK 12\n\
             NO NAME-TAKEN 1\n\
             NO NODE-STATE JOINED\n\
             NO IN-SEQUENCE 5\n\
             NO NOT-IDLE 5\n\
-            NO NOT-IDLE 5\n\
+            OK 13\n\
             NO TOKEN-TAKEN 150\n\
             NO NODE-STATE REGISTERED\n\
             NO IN-SEQUENCE 5\n\
-            OK 13\n\
-            NO NO-TOKENS\n\
             OK 14\n\
+            NO NO-TOKENS\n\
+            OK 15\n\
             NO OTHER-RACK dc1 r1\n\
             NO NO-KEYSPACE\n\
-            OK 15\n\
-            NO NOT-ONE-TOKEN 2\n\
             OK 16\n\
-            NODES 16 7 1\n\
+            NO NOT-ONE-TOKEN 2\n\
+            OK 17\n\
+            NODES 17 7 1\n\
             1 a dc1 r1 JOINED 0\n\
             2 b dc1 r1 JOINED 100\n\
             3 c dc1 r1 JOINED 200\n\

@@ -369,25 +369,25 @@ pub const ON_EIGHT: [Script; 8] = [
             commit 40 drop-keyspace ks\n",
         "OK 20\n\
             NO NOT-IDLE 3\n\
-            NO NOT-IDLE 3\n\
-            NO NOT-IDLE 3\n\
-            NO NOT-IDLE 3\n\
-            NO NO-KEYSPACE\n\
             OK 21\n\
             OK 22\n\
-            NO NOT-IDLE 5\n\
-            NO NOT-IDLE 5\n\
-            NO NOT-IDLE 5\n\
             OK 23\n\
+            NO NO-KEYSPACE\n\
             OK 24\n\
-            NO NOT-IDLE 10\n\
-            NO NOT-IDLE 10\n\
-            NO NOT-IDLE 10\n\
             OK 25\n\
+            NO NOT-IDLE 5\n\
             OK 26\n\
-            NO NOT-IDLE 9\n\
             OK 27\n\
-            OK 28\n",
+            OK 28\n\
+            OK 29\n\
+            NO NOT-IDLE 10\n\
+            OK 30\n\
+            OK 31\n\
+            OK 32\n\
+            OK 33\n\
+            NO NOT-IDLE 9\n\
+            OK 34\n\
+            NO NO-KEYSPACE\n",
     ),
     (
         "nodes come and go beside a movement",

@@ -1,6 +1,5 @@
 -- Handing over the lines of files: what the rest comes to, the whole comes to.
-use Rattle.std.proofs.Common.{◌≡◌, ◌≢◌, ℕ, zero, suc, ◌+◌, Bool, not, List, [], ◌∷◌, ◌++◌, length, Option, None, Some, Result, Ok, Err, IfOk, OnOk, sym, ap, ◌∙◌, subst, arith}
-use Rattle.std.specs.Str.{bytes_eq}
+use Rattle.std.proofs.Common.{◌≡◌, ◌≢◌, ℕ, zero, suc, ◌+◌, List, [], ◌∷◌, ◌++◌, length, Option, None, Some, Result, Ok, Err, IfOk, OnOk, sym, ap, ◌∙◌, subst, arith}
 use Rattle.tcm_edges.specs.Files.{Files, file_of, loaded_of}
 use Rattle.tcm_session.specs.Limits.{input_limit}
 use Rattle.script_session.specs.Lines.{HasNoFeed, whole_lines}
@@ -180,8 +179,3 @@ pub ends_before : (o : Option Ending) (names : List (List ℕ)) (files : Option 
 ends_before o names files after ending some hands =
     let off : files_replayed 1 nothing_replayed names hands.seen ≡ Err ending = subst (λ x. LeadsTo x (files_replayed 1 nothing_replayed names hands.seen) after) some hands.leads in
     record { seen = hands.seen; held = hands.held; is = sym (ap ending_of off) }
-
--- ---- names of files
-
-abbrev pub IsNamed : List ℕ → Bool
-IsNamed name = not (bytes_eq name [])

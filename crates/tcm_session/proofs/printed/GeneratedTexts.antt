@@ -37,10 +37,10 @@ answer_lines : (kinds : List AnswerKind) → AreLines IsOfNoQuorum (answers_text
 unfolding answers_text
 answer_lines kinds =
     let accepted = length (filter is_accepted kinds) in
-    AreLines-append IsOfNoQuorum (count_line (codes "LINES ") (length kinds) ++ count_line (codes "OK ") accepted) (refused_lines kinds 1 19)
+    AreLines-append IsOfNoQuorum (count_line (codes "LINES ") (length kinds) ++ count_line (codes "OK ") accepted) (refused_lines kinds 1 20)
     (AreLines-append IsOfNoQuorum (count_line (codes "LINES ") (length kinds)) (count_line (codes "OK ") accepted) (count_of_lines (length kinds))
     (other_line (codes "OK " ++ decimal accepted) (plain_decimal accepted) (λ e. omega arith) (λ e. omega arith)))
-    (refusal_lines kinds 1 19)
+    (refusal_lines kinds 1 20)
 
 count_lines : (g : Generation) → AreLines IsOfNoQuorum (counts_text g)
 unfolding counts_text

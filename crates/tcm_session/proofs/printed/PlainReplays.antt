@@ -64,7 +64,7 @@ record IsPlainStep (step : Handed) : Type 0 where
 plain_advanced : (waiting : List Entry) (image : Image) → IsPlainImage image → AllByRecursion (λ (e : Entry). IsFormed e.cmd) waiting → IsPlainStep (advanced image waiting)
 plain_advanced [] image is all = record { after = record { image = is; waiting = tt }; answer = tt }
 plain_advanced (entry ∷ waiting) image is all = by (is_next image entry)
-    (of_refusal (refusal_of image entry.cmd) (refusal_plain image is entry.cmd) (plain_advanced waiting (next_image image entry.cmd) (next_plain image entry.cmd all.0 is) all.1))
+    (of_refusal (refusal_of image entry.cmd) (refusal_plain image is entry.cmd all.0) (plain_advanced waiting (next_image image entry.cmd) (next_plain image entry.cmd all.0 is) all.1))
   where
     applied : Handed
     applied = advanced (next_image image entry.cmd) waiting

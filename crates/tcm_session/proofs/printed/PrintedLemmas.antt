@@ -1,5 +1,5 @@
 -- The lines that a run prints, and the quorums in them.
-use Rattle.std.proofs.Common.{if◌then◌else◌, ◌≡◌, ◌≢◌, ℕ, Bool, true, false, List, [], Option, Some, None, Result, Ok, Err, length, nat_le, codes, refl, sym, ◌∙◌, subst, drop, arith, cond}
+use Rattle.std.proofs.Common.{if◌then◌else◌, ◌≡◌, ◌≢◌, ℕ, Bool, true, false, List, [], Option, Some, None, Result, Ok, Err, length, nat_le, codes, refl, sym, ap, ◌∙◌, subst, drop, arith, cond}
 use Rattle.std.proofs.KnownBytes.{starts_with_rest}
 use Rattle.tcm_edges.specs.Files.{Files, file_of, loaded_of}
 use Rattle.tcm_edges.specs.declared.store.Loaded.{Loaded}
@@ -7,11 +7,14 @@ use Rattle.tcm_edges.specs.declared.store.Loaded.TheVariants as loaded
 use Rattle.transformations.specs.declared.entry.Entry.{Entry}
 use Rattle.script_lang.specs.AnswerTexts.{no_text}
 use Rattle.tcm_session.specs.declared.ending.Ending.{Ending}
-use Rattle.generated_scripts.specs.Generated.{gen_numbers}
 use Rattle.tcm_session.specs.Left.{LeavesFiles}
 use Rattle.script_session.specs.LogFiles.{cut_to_lines, log_of, refused_line_text}
 use Rattle.script_session.specs.Machine.{answers, no_epoch, session_over}
-use Rattle.tcm_session.specs.Outcome.{Outcome, Start, commit_outcome, ended_outcome, gen_end, input_limit, is_commit, is_replay, large_outcome, last_end, log_file, named_log, other_end, outcome, outcome_from, outcome_loaded, printed_by, replayed_files, script_outcome, too_large_text, unread_outcome, usage_text, whole_outcome}
+use Rattle.tcm_session.specs.Commit.{Start, commit_outcome, large_outcome, outcome_from, outcome_loaded, script_outcome, whole_outcome}
+use Rattle.tcm_session.specs.Gen.{gen_ending}
+use Rattle.tcm_session.specs.Outcome.{Outcome, ended_outcome, input_limit, printed_by, too_large_text, unread_outcome}
+use Rattle.tcm_session.specs.Outcomes.{outcome, usage_end}
+use Rattle.tcm_session.specs.Request.{Commit, CommitTo, Gen, Replay, Request, Snapshot, named_log}
 use Rattle.tcm_session.specs.Run.{IsFinal, IsRun}
 use Rattle.tcm_session.specs.code.Runs.{IsEnd, RunsSeen}
 use Rattle.session_laws.specs.Shown.{IsOfNoQuorum, shown}
@@ -21,7 +24,7 @@ use Rattle.session_laws.proofs.FileLogs.{refused_lines, session_file}
 use Rattle.script_session.proofs.SessionLemmas.{IsSession, session_empty}
 use Rattle.tcm_session.specs.files.ReplayPrefix.{ReportsPrefix, taken_of_files}
 use Rattle.tcm_session.specs.files.Replay.{replay_ending}
-use Rattle.tcm_session.specs.files.StateLine.{file_ending, log_ending, snapshot_ending, snapshot_words, state_ending}
+use Rattle.tcm_session.specs.files.StateLine.{file_ending, log_ending, snapshot_ending, state_ending}
 use Rattle.session_laws.proofs.texts.PlainSnapshots.{snapshot_is_line}
 use Rattle.transformations.specs.History.{state_after}
 use Rattle.transformations.specs.Log.{commands_of}
@@ -31,7 +34,6 @@ use Rattle.tcm_session.proofs.printed.GeneratedTexts.{summary_lines}
 use Rattle.tcm_session.proofs.printed.PlainReplays.{replay_lines, too_large_lines}
 use Rattle.tcm_session.proofs.log_files.ReplayReports.{refuses_no_line, reports_prefix}
 use Rattle.tcm_session.proofs.runs.RunLemmas.{final_end}
-use Rattle.session_laws.proofs.quorums.ShownAnswers.{texts}
 use Rattle.session_laws.proofs.quorums.ShownLemmas.{shown_meet}
 use Rattle.session_laws.proofs.TakenLines.{followers_show}
 use Rattle.session_laws.proofs.texts.WholeLines.{AreLines, AreLines-append, AreLines-front, AreLines-nil, AreLines-weaker}
@@ -68,12 +70,8 @@ of_commit : (file : Option (List ℕ)) (all : Files) (input : List ℕ) → IsPl
 of_commit None all input = of_script (record { log = []; file = None; files = all }) input session_empty
 of_commit (Some name) all input = of_loaded name all (loaded_of (file_of all name) input_limit) input
 
-usage_lines : AreLines IsOfNoQuorum usage_text
+usage_lines : AreLines IsOfNoQuorum usage_end.text
 usage_lines = other_line (codes "usage: tcm commit [LOG] | replay FILE.. | snapshot LOG E | gen START N") refl (λ e. omega arith) (λ e. omega arith)
-
-gen_lines : (numbers : Option (ℕ × ℕ)) → AreLines IsOfNoQuorum (gen_end numbers).text
-gen_lines None = usage_lines
-gen_lines (Some (start, rounds)) = summary_lines start rounds
 
 state_lines : (e : ℕ) (log : List Entry) → (state_ending e log).status ≢ 7 → AreLines IsOfNoQuorum (state_ending e log).text
 state_lines e log = by (nat_le e (length log))
@@ -101,25 +99,17 @@ snapshot_lines name e seen = by (loaded_of (file_of (seen 0) name) input_limit)
     by (loaded.TooLarge size) other = too_large_lines
     by (loaded.Bytes file) other = log_lines e file (log_of file) refl other
 
-of_other : (words : List (List ℕ)) (seen : ℕ → Files) → IsPlainOutcome (ended_outcome (other_end words seen) (seen 0))
-of_other words seen = of_unread (other_end words seen).status (other_end words seen).text (seen 0) (by (is_replay words))
-  where
-    last : (o : Option (List ℕ × ℕ)) → (last_end words seen o).status ≢ 7 → AreLines IsOfNoQuorum (last_end words seen o).text
-    last None other = gen_lines (gen_numbers words)
-    last (Some named) other = snapshot_lines named.0 named.1 seen other
+of_ended : (ending : Ending) (all : Files) → (ending.status ≢ 7 → AreLines IsOfNoQuorum ending.text) → IsPlainOutcome (ended_outcome ending all)
+of_ended ending all lines = of_unread ending.status ending.text all lines
 
-    by : (b : Bool) → (cond b (replay_ending (replayed_files words) seen) (last_end words seen (snapshot_words words))).status ≢ 7
-        → AreLines IsOfNoQuorum (cond b (replay_ending (replayed_files words) seen) (last_end words seen (snapshot_words words))).text
-    by true other = replay_lines (replayed_files words) seen other
-    by false other = last (snapshot_words words) other
-
-plain_outcome : (words : List (List ℕ)) (seen : ℕ → Files) (input : List ℕ) → IsPlainOutcome (outcome words seen input)
+plain_outcome : (request : Option Request) (seen : ℕ → Files) (input : List ℕ) → IsPlainOutcome (outcome request seen input)
 unfolding outcome
-plain_outcome words seen input = by (is_commit words)
-  where
-    by : (b : Bool) → IsPlainOutcome (cond b (commit_outcome (log_file words) (seen 0) input) (ended_outcome (other_end words seen) (seen 0)))
-    by true = of_commit (log_file words) (seen 0) input
-    by false = of_other words seen
+plain_outcome (Some Commit) seen input = of_commit None (seen 0) input
+plain_outcome (Some (CommitTo log)) seen input = of_commit (Some log) (seen 0) input
+plain_outcome (Some (Replay files)) seen input = of_ended (replay_ending files seen) (seen 0) (replay_lines files seen)
+plain_outcome (Some (Snapshot log epoch)) seen input = of_ended (snapshot_ending log epoch seen) (seen 0) (snapshot_lines log epoch seen)
+plain_outcome (Some (Gen start rounds)) seen input = of_ended (gen_ending start rounds) (seen 0) (λ _. summary_lines start rounds)
+plain_outcome None seen input = of_ended usage_end (seen 0) (λ _. usage_lines)
 
 printed_lines : (o : Outcome) → o.status ≢ 7 → IsPlainOutcome o → AreLines (IsTold (shown (session_over o.log) o.lines)) (printed_by o)
 printed_lines o other plain =
@@ -133,21 +123,27 @@ printed_lines o other plain =
 final_at : (n status : ℕ) → status ≡ n → IsEnd n → IsFinal status
 final_at n status e is = (final_end status (subst IsEnd (sym e) is)).1
 
-pub is_run : {S : Type 0} (words : List (List ℕ)) (left : S → Option (List ℕ)) (input input' : S) (w w' : Option (List ℕ)) (f f' : Option Files) (status : ℕ)
-    → RunsSeen (outcome words) (LeavesFiles (named_log words) f f') left input input' w w' f f' status → IsRun words left input input' w w' f f' status
-is_run words left input input' w w' f f' status on =
-    let o = outcome words on.seen on.runs.given in
-    let plain = plain_outcome words on.seen on.runs.given in
+of_replay : (request : Option Request) (names : List (List ℕ)) → request ≡ Some (Replay names) → (seen : ℕ → Files) (input : List ℕ) → outcome request seen input ≡ ended_outcome (replay_ending names seen) (seen 0)
+unfolding outcome
+of_replay request names is seen input = ap (λ r. outcome r seen input) is
+
+pub is_run : {S : Type 0} (request : Option Request) (left : S → Option (List ℕ)) (input input' : S) (w w' : Option (List ℕ)) (f f' : Option Files) (status : ℕ)
+    → RunsSeen (outcome request) (LeavesFiles (named_log request) f f') left input input' w w' f f' status → IsRun request left input input' w w' f f' status
+is_run request left input input' w w' f f' status on =
+    let o = outcome request on.seen on.runs.given in
+    let plain = plain_outcome request on.seen on.runs.given in
     record {
       given = record { input = on.runs.given; seen = on.seen; told_input = on.runs.told; told_files = on.held };
       comes = on.runs.comes;
       reads = on.runs.reads;
-      replays = λ is log of all. record {
-        unrefused = λ three. refuses_no_line words on.seen on.runs.given log is of all (sym (on.runs.comes.status (final_at 3 status three refl)) ∙ three);
-        reports = λ zero. let final = final_at 0 status zero refl in
-            subst (ReportsPrefix log (taken_of_files (replayed_files words) on.seen)) (sym (on.runs.comes.whole final))
-            (reports_prefix words on.seen on.runs.given log is of all (sym (on.runs.comes.status final) ∙ zero));
-      };
+      replays = λ names is log of all.
+          let same = of_replay request names is on.seen on.runs.given in
+          let ended : (n : ℕ) → status ≡ n → IsEnd n → (replay_ending names on.seen).status ≡ n =
+          λ n e end. sym (on.runs.comes.status (final_at n status e end) ∙ ap (λ (x : Outcome). x.status) same) ∙ e in
+          record {
+            unrefused = λ three. refuses_no_line names on.seen log of all (ended 3 three refl);
+            reports = λ zero. subst (ReportsPrefix log (taken_of_files names on.seen)) (sym (on.runs.comes.whole (final_at 0 status zero refl) ∙ ap printed_by same)) (reports_prefix names on.seen log of all (ended 0 zero refl));
+          };
       quorums = λ other. record {
         texts = AreLines-front (IsTold (shown (session_over o.log) o.lines)) (printed_by o) on.runs.comes.printed (drop (length on.runs.comes.printed) (printed_by o))
             (starts_with_rest (printed_by o) on.runs.comes.printed on.runs.comes.prefix) (printed_lines o other plain);

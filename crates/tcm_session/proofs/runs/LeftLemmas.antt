@@ -8,7 +8,8 @@ use Rattle.script_session.specs.Lines.{open_line}
 use Rattle.tcm_session.specs.code.Loading.{IsCut}
 use Rattle.script_session.specs.LogFiles.{cut_to_lines, lines_part, log_of, without_open}
 use Rattle.script_session.specs.Machine.{session_over}
-use Rattle.tcm_session.specs.Outcome.{Outcome, named_log, outcome_from}
+use Rattle.tcm_session.specs.Commit.{outcome_from}
+use Rattle.tcm_session.specs.Outcome.{Outcome}
 use Rattle.tcm_session.specs.code.Stops.{Adds, IsKeptOrCut, LeavesLoaded, LeavesScript}
 use Rattle.transformations.specs.declared.entry.Entry.{Entry}
 use Rattle.session_laws.proofs.LinesLemmas.{lines_whole}
@@ -135,10 +136,3 @@ pub files_loaded : (name file : List ℕ) (files files' : Option Files) (limit :
     → LeavesFiles (Some name) files files' o printed ended
 files_loaded name file None files' limit load o printed ended left = (tt, tt)
 files_loaded name file (Some all) files' limit load o printed ended left = left (found_bytes (Some all) name file limit load)
-
--- the log file that words name
-pub named_files : (words : List (List ℕ)) (file : Option (List ℕ)) (files files' : Option Files) → named_log words ≡ file → (o : Outcome) (printed : List ℕ) (ended : ℕ) → LeavesFiles file files files' o printed ended
-    → LeavesFiles (named_log words) files files' o printed ended
-named_files words file files files' same o printed ended left = subst (λ n. LeavesFiles n files files' o printed ended) (sym same) left
-
--- ---- the replacement of a file

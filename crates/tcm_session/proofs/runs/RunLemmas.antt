@@ -1,5 +1,5 @@
 -- From the parts of a run to what it prints, reads and leaves.
-use Rattle.std.proofs.Common.{◌≡◌, ℕ, ◌+◌, ◌<◌, ◌≤◌, ◌≢◌, IsErrAnd, IfErr, IfOk, inl, inr, ◌⊎◌, if◌then◌else◌, ◌||◌, ◌==◌, List, [], ◌++◌, length, Option, None, Some, IfSome, Result, Ok, Err, true, false, true≢false, refl, sym, ap, ◌∙◌, subst, length-append, arith}
+use Rattle.std.proofs.Common.{◌≡◌, ℕ, ◌+◌, ◌<◌, ◌≤◌, ◌≢◌, IsErrAnd, IfErr, IfOk, inl, inr, ◌⊎◌, ◌||◌, ◌==◌, List, [], ◌++◌, length, Option, None, Some, IfSome, Result, Ok, Err, true, false, true≢false, refl, sym, ap, ◌∙◌, subst, length-append, arith}
 use Rattle.std.specs.Io.KnownBytes.{Appends, Consumes}
 use Rattle.std.proofs.KnownBytes.{Appends-nil, Appends-trans, Consumes-nil, Keeps-refl}
 use Rattle.std.proofs.lemmas.Bool.{eq-eqb}
@@ -18,13 +18,16 @@ use Rattle.tcm_session.specs.Left.{StopsNext}
 use Rattle.script_session.specs.Lines.{whole_lines}
 use Rattle.script_session.specs.LogFiles.{Gains, cut_to_lines, entry_lines, log_of, refused_line_text}
 use Rattle.script_session.specs.Machine.{answers, entries_added, session_over}
-use Rattle.tcm_session.specs.Outcome.{Outcome, Start, commit_outcome, input_limit, is_commit, log_file, named_log, outcome, outcome_from, outcome_loaded, printed_by, script_outcome, unread_outcome}
+use Rattle.tcm_session.specs.Commit.{Start, commit_outcome, outcome_from, outcome_loaded, script_outcome}
+use Rattle.tcm_session.specs.Outcome.{Outcome, input_limit, printed_by, unread_outcome}
+use Rattle.tcm_session.specs.Outcomes.{outcome}
+use Rattle.tcm_session.specs.Request.{Request}
 use Rattle.tcm_session.specs.Run.{ComesSurely, ComesTo, HasStatus, IsFinal, IsRun, IsStatus, ReadsFor, more_if}
 use Rattle.tcm_session.specs.code.Runs.{IsEnd, MayHold, ReadsTo, RunsFor, RunsOn, RunsSeen, Standing, StopsAt, Writes}
 use Rattle.tcm_session.specs.code.Stops.{LeavesScript, Stopped}
 use Rattle.tcm_session.specs.declared.run_fault.RunFault.{RunFault}
 use Rattle.tcm_session.specs.declared.run_fault.RunFault.TheVariants as fault
-use Rattle.tcm_session.specs.declared.program.Status.{Status}
+use Rattle.tcm_session.specs.declared.status.Status.{Status}
 use Rattle.script_session.specs.declared.refused_line.RefusedLine.{RefusedLine}
 use Rattle.tcm_session.specs.declared.scripts.pieces.ReadEnd.{ReadEnd}
 use Rattle.tcm_session.specs.declared.scripts.pieces.ReadEnd.TheVariants as end
@@ -33,7 +36,7 @@ use Rattle.tcm_session.proofs.inputs.BegunLines.{IsBegun-nil}
 use Rattle.tcm_session.proofs.inputs.ReadLemmas.{StopsAt-none}
 use Rattle.tcm_session.proofs.log_files.ReplayLemmas.{seen_held}
 use Rattle.tcm_session.proofs.runs.RunCauses.{not_source}
-use Rattle.tcm_session.proofs.runs.RunOutcomes.{StopsOn, answered_stopped, at_start, begins_stopped, ended, ended_stopped, held_gained, of_commit, rest_of, script_log, script_reads, told_rest}
+use Rattle.tcm_session.proofs.runs.RunOutcomes.{StopsOn, answered_stopped, at_start, begins_stopped, ended, ended_stopped, held_gained, rest_of, script_log, script_reads, told_rest}
 use Rattle.tcm_session.proofs.runs.StopLemmas.{stops_begin}
 
 -- ---- what a run comes to
@@ -387,17 +390,14 @@ module _ {S : Type 0} (Left : Outcome → List ℕ → ℕ → Type 0) (left : S
       let held = behind_held files [] None in
       record { all = all; held = held; runs = runs all held }
 
-  -- the words
-  pub runs_commit : (Left' : Outcome → List ℕ → ℕ → Type 0) (words : List (List ℕ)) (file : Option (List ℕ)) (files f' : Option Files) (status : ℕ) → is_commit words ≡ true → log_file words ≡ file
-      → ((o : Outcome) (printed : List ℕ) (ended : ℕ) → Left o printed ended → Left' o printed ended)
-      → RunsOn (commit_outcome file) Left left input input' w w' files f' status → RunsSeen (outcome words) Left' left input input' w w' files f' status
-  runs_commit Left' words file files f' status e named step on =
-      let seen : ℕ → Files = λ _. on.all in
-      let same : commit_outcome file on.all ≡ outcome words seen = (λ i given. sym (of_commit words e seen given ∙ ap (λ f. commit_outcome f on.all given) named) i) in
+  -- it is asked for
+  pub runs_commit : (Left' : Outcome → List ℕ → ℕ → Type 0) (file : Option (List ℕ)) (files f' : Option Files) (status : ℕ) → ((o : Outcome) (printed : List ℕ) (ended : ℕ) → Left o printed ended → Left' o printed ended)
+      → RunsOn (commit_outcome file) Left left input input' w w' files f' status → RunsSeen (λ seen. commit_outcome file (seen 0)) Left' left input input' w w' files f' status
+  runs_commit Left' file files f' status step on =
       record {
-        seen = seen;
+        seen = λ _. on.all;
         held = seen_held files on.all on.held;
-        runs = subst (λ o. RunsFor o Left' left input input' w w' f' status) same (runs_left (commit_outcome file on.all) Left Left' left input input' w w' f' status step on.runs);
+        runs = runs_left (commit_outcome file on.all) Left Left' left input input' w w' f' status step on.runs;
       }
 
 -- the fault of a load is none of the source
@@ -410,11 +410,6 @@ pub runs_err_on : {S : Type 0} (outcome_of : Files → List ℕ → Outcome) (Le
     → RunsOn outcome_of Left left input input' w w' f f' (fault_status e) → RunsOn outcome_of Left left input input' w w' f f' (status_by r)
 runs_err_on outcome_of Left left input input' w w' f f' r e is on =
     record { all = on.all; held = on.held; runs = runs_err (outcome_of on.all) Left left input input' w w' f' r e is on.runs }
-
--- ---- the words that were found
-
-pub named_file : (words : List (List ℕ)) (file : Option (List ℕ)) → is_commit words ≡ true → log_file words ≡ file → named_log words ≡ file
-named_file words file e is = ap (λ b. if b then log_file words else None) e ∙ is
 
 -- ---- over objects that never fail
 
@@ -429,12 +424,12 @@ ends_surely status has =
       | inr other ↦ inr (record { memory = other.1; source = uncounted status 4 has.source; sink = uncounted status 5 has.sink; store = uncounted status 6 has.store })
     ]
 
-pub comes_surely : {S : Type 0} (words : List (List ℕ)) (left : S → Option (List ℕ)) (input input' : S) (bytes w w' : List ℕ) (all all' : Files) (status : ℕ) → left input ≡ Some bytes
-    → IsRun words left input input' (Some w) (Some w') (Some all) (Some all') status → (status ≡ 1) ⊎ IsFinal status → (status ≡ 1) ⊎ ComesSurely (outcome words (λ _. all) bytes) w w' all' status
-comes_surely words left input input' bytes w w' all all' status is run (inl one) = inl one
-comes_surely words left input input' bytes w w' all all' status is run (inr final) =
+pub comes_surely : {S : Type 0} (request : Option Request) (left : S → Option (List ℕ)) (input input' : S) (bytes w w' : List ℕ) (all all' : Files) (status : ℕ) → left input ≡ Some bytes
+    → IsRun request left input input' (Some w) (Some w') (Some all) (Some all') status → (status ≡ 1) ⊎ IsFinal status → (status ≡ 1) ⊎ ComesSurely (outcome request (λ _. all) bytes) w w' all' status
+comes_surely request left input input' bytes w w' all all' status is run (inl one) = inl one
+comes_surely request left input input' bytes w w' all all' status is run (inr final) =
     let given : bytes ≡ run.given.input = subst (λ l. IfSome l (λ b. b ≡ run.given.input)) is run.given.told_input in
-    let same : outcome words run.given.seen run.given.input ≡ outcome words (λ _. all) bytes = (λ i. outcome words (λ n. run.given.told_files n i) (sym given i)) in
+    let same : outcome request run.given.seen run.given.input ≡ outcome request (λ _. all) bytes = (λ i. outcome request (λ n. run.given.told_files n i) (sym given i)) in
     inr (record {
       status = run.comes.status final ∙ ap (λ (o : Outcome). o.status) same;
       printed = subst (λ t. Appends (Some w) (Some w') t) (run.comes.whole final ∙ ap printed_by same) run.comes.wrote;

@@ -10,9 +10,8 @@ use Rattle.tcm_session.specs.Left.{StopsIn, StopsNext, next_added, next_text}
 use Rattle.script_session.specs.Lines.{whole_lines, open_line, if_any, script_lines}
 use Rattle.script_session.specs.LogFiles.{Gains, entry_lines, with_added}
 use Rattle.script_session.specs.Machine.{SessionState, answers, entries_added, reply, session_after, session_over}
-use Rattle.tcm_session.specs.files.Replay.{replay_ending}
-use Rattle.tcm_session.specs.Outcome.{Outcome, Start, commit_outcome, ended_outcome, files_with, input_limit, is_commit, is_replay, large_outcome, last_end, log_file, other_end, outcome, printed_by, replayed_files, script_outcome, too_large_text, whole_outcome}
-use Rattle.tcm_session.specs.files.StateLine.{snapshot_words}
+use Rattle.tcm_session.specs.Commit.{Start, files_with, large_outcome, script_outcome, whole_outcome}
+use Rattle.tcm_session.specs.Outcome.{Outcome, input_limit, printed_by, too_large_text}
 use Rattle.tcm_session.specs.code.Runs.{MayHold, ReadsTo, Standing, StopsAt, standing}
 use Rattle.tcm_session.specs.code.Stops.{Stopped, StopsThere}
 use Rattle.tcm_session.specs.declared.run_fault.RunFault.{RunFault}
@@ -270,20 +269,3 @@ ended_stopped P start ending l l' w w' f f' at' reads is never stopped =
 pub held_gained : (name : Option (List ℕ)) (text : List ℕ) (old new : Option Files) (all : Files) → MayHold old all → Gains name text old new → MayHold new (with_added name text all)
 held_gained name text None new all held gained = subst (λ f. MayHold f (with_added name text all)) (sym gained) tt
 held_gained name text (Some these) new all held gained = subst (λ f. MayHold f (with_added name text all)) (sym gained) (ap (with_added name text) held)
-
--- ---- the outcome by the words
-
-module _ (words : List (List ℕ)) where
-  pub of_commit : is_commit words ≡ true → (seen : ℕ → Files) (input : List ℕ) → outcome words seen input ≡ commit_outcome (log_file words) (seen 0) input
-  unfolding outcome
-  of_commit e seen input = ap (λ b. cond b (commit_outcome (log_file words) (seen 0) input) (ended_outcome (other_end words seen) (seen 0))) e
-
-  pub of_others : is_commit words ≡ false → (seen : ℕ → Files) (input : List ℕ) → outcome words seen input ≡ ended_outcome (other_end words seen) (seen 0)
-  unfolding outcome
-  of_others e seen input = ap (λ b. cond b (commit_outcome (log_file words) (seen 0) input) (ended_outcome (other_end words seen) (seen 0))) e
-
-  pub of_replay : is_replay words ≡ true → (seen : ℕ → Files) → other_end words seen ≡ replay_ending (replayed_files words) seen
-  of_replay e seen = ap (λ b. cond b (replay_ending (replayed_files words) seen) (last_end words seen (snapshot_words words))) e
-
-  pub of_last : is_replay words ≡ false → (seen : ℕ → Files) → other_end words seen ≡ last_end words seen (snapshot_words words)
-  of_last e seen = ap (λ b. cond b (replay_ending (replayed_files words) seen) (last_end words seen (snapshot_words words))) e

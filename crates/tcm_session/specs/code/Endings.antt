@@ -1,9 +1,9 @@
--- The words of `commit` and `replay`, the text that is written after a script was read, and the statuses.
-use Rattle.std.specs.Prelude.{◌≡◌, ℕ, true, false, List, [], Option, None, Some, Result, Ok, Err}
+-- The text that is written after a script was read, and the statuses.
+use Rattle.std.specs.Prelude.{ℕ, List, [], Result, Ok, Err}
 use Rattle.script_session.specs.Lines.{if_any}
 use Rattle.script_session.specs.Machine.{SessionState, answers}
-use Rattle.tcm_session.specs.Outcome.{is_commit, is_replay, log_file, replayed_files, too_large_text}
-use Rattle.tcm_session.specs.declared.program.Status.{Status}
+use Rattle.tcm_session.specs.Limits.{too_large_text}
+use Rattle.tcm_session.specs.declared.status.Status.{Status}
 use Rattle.tcm_session.specs.declared.scripts.pieces.ReadEnd.{ReadEnd}
 use Rattle.tcm_session.specs.declared.scripts.pieces.ReadEnd.TheVariants as end
 use Rattle.tcm_session.specs.declared.run_fault.RunFault.{RunFault}
@@ -34,13 +34,3 @@ fault_status fault.Store = 6
 abbrev pub status_by : Result Status RunFault → ℕ
 status_by (Ok status) = status.0
 status_by (Err fault) = fault_status fault
-
--- words that are `commit`, alone or with the log file that they name; or other words
-abbrev pub IsCommitOf : List (List ℕ) → Option (Option (List ℕ)) → Type 0
-IsCommitOf words None = is_commit words ≡ false
-IsCommitOf words (Some file) = (is_commit words ≡ true) × (log_file words ≡ file)
-
--- words that are `replay` with the files that they name; or other words
-abbrev pub IsReplayOf : List (List ℕ) → Option (List (List ℕ)) → Type 0
-IsReplayOf words None = is_replay words ≡ false
-IsReplayOf words (Some names) = (is_replay words ≡ true) × (replayed_files words ≡ names)

@@ -1,20 +1,15 @@
 -- The parts of a replay, and of other runs that read no input.
-use Rattle.std.specs.Prelude.{◌≡◌, ℕ, ◌+◌, ◌^◌, ◌≤◌, List, length, Option, None, Some, Result, Ok, Err, OnOk, IfOk}
-use Rattle.std.specs.Io.KnownBytes.{Appends}
+use Rattle.std.specs.Prelude.{◌≡◌, ℕ, ◌+◌, ◌^◌, ◌≤◌, List, length, Option, None, Some, Result, Ok, Err}
 use Rattle.tcm_edges.specs.Files.{Files, IsLoad}
-use Rattle.tcm_edges.specs.Owed.{WritesPrefix}
 use Rattle.tcm_edges.specs.declared.store.Loaded.{Loaded}
 use Rattle.tcm_edges.specs.declared.store.Loaded.TheVariants as loaded
 use Rattle.follower_log.specs.declared.fault.FollowerFault.{FollowerFault}
 use Rattle.follower_log.specs.declared.fault.FollowerFault.TheVariants as follower_fault
 use Rattle.follower_log.specs.declared.took.Took.{Took}
 use Rattle.tcm_session.specs.Limits.{input_limit}
-use Rattle.tcm_session.specs.Outcome.{Outcome}
 use Rattle.tcm_session.specs.files.Replay.{files_replayed, loaded_replayed, nothing_replayed}
 use Rattle.tcm_session.specs.Run.{AreSeen}
 use Rattle.tcm_session.specs.declared.ending.Ending.{Ending}
-use Rattle.tcm_session.specs.declared.run_fault.RunFault.{RunFault}
-use Rattle.tcm_session.specs.declared.program.Status.{Status}
 use Rattle.tcm_session.specs.declared.files.replay.Replay.{Replay}
 
 -- what was handed over leads to a replay, or to the value that ends it
@@ -60,15 +55,3 @@ pub record EndsSo (end_by : (ℕ → Files) → Ending) (ending : Ending) (files
   pub seen : ℕ → Files
   pub held : AreSeen files seen
   pub is : ending ≡ end_by seen
-
--- an outcome that reads no input: its text is written, or a prefix of it
-pub record WritesLast (o : Outcome) (written written' : Option (List ℕ)) (result : Result Status RunFault) : Type 0 where
-  pub whole : OnOk result (Appends written written' o.last)
-  pub part : WritesPrefix written written' o.last
-  pub status : IfOk result (λ status. status.0 ≡ o.status)
-
--- a run that reads no input: it writes the text of its outcome, by the files that its loads find
-pub record WritesSeen (outcome_by : (ℕ → Files) → Outcome) (files : Option Files) (written written' : Option (List ℕ)) (result : Result Status RunFault) : Type 0 where
-  pub seen : ℕ → Files
-  pub held : AreSeen files seen
-  pub writes : WritesLast (outcome_by seen) written written' result

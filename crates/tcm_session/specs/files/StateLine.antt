@@ -1,6 +1,5 @@
 -- The state of a log in a file at an epoch, which `snapshot LOG E` prints as its one line.
-use Rattle.std.specs.Prelude.{ℕ, ◌^◌, ◌&&◌, not, if◌then◌else◌, List, [], ◌∷◌, length, nat_le, codes, Option, None, option_map, Result, Ok, Err}
-use Rattle.std.specs.Str.{bytes_eq}
+use Rattle.std.specs.Prelude.{ℕ, if◌then◌else◌, List, length, nat_le, Result, Ok, Err}
 use Rattle.tcm_edges.specs.Files.{Files, file_of, loaded_of}
 use Rattle.tcm_edges.specs.declared.store.Loaded.{Loaded}
 use Rattle.tcm_edges.specs.declared.store.Loaded.TheVariants as loaded
@@ -8,7 +7,6 @@ use Rattle.transformations.specs.History.{state_after}
 use Rattle.transformations.specs.Log.{commands_of}
 use Rattle.transformations.specs.declared.entry.Entry.{Entry}
 use Rattle.wire_json.specs.SnapshotTexts.{snapshot_line}
-use Rattle.script_lang.specs.Grammar.{number_below}
 use Rattle.script_lang.specs.AnswerTexts.{no_text}
 use Rattle.tcm_session.specs.Limits.{input_limit}
 use Rattle.tcm_session.specs.files.FileEnds.{absent_end, refused_end, too_large_end}
@@ -16,14 +14,6 @@ use Rattle.script_session.specs.LogFiles.{log_of}
 use Rattle.script_session.specs.Machine.{no_epoch}
 use Rattle.tcm_session.specs.declared.ending.Ending.{Ending}
 use Rattle.script_session.specs.declared.refused_line.RefusedLine.{RefusedLine}
-
--- the file and the epoch, if the words are `snapshot LOG E`
-unfoldable pub snapshot_words : List (List ℕ) → Option (List ℕ × ℕ)
-snapshot_words (word ∷ file ∷ epoch ∷ []) =
-    if bytes_eq word (codes "snapshot") && not (bytes_eq file [])
-    then option_map (λ e. (file, e)) (number_below (2 ^ 64) epoch)
-    else None
-snapshot_words _ = None
 
 -- the state of a log at an epoch, if the log has reached it
 abbrev pub state_ending : ℕ → List Entry → Ending

@@ -1,6 +1,6 @@
 //! The state of a log in a file at an epoch, as its one line.
 
-ghost use Rattle.std.specs.Prelude.{◌≡◌, map, option_map, string_bytes, IfOk};
+ghost use Rattle.std.specs.Prelude.{◌≡◌, IfOk};
 ghost use Rattle.tcm_session.specs.Counts.{counts};
 ghost use Rattle.tcm_session.specs.code.RunFaults.{counts_by};
 ghost use Rattle.script_session.specs.LogFiles.{log_of};
@@ -12,26 +12,10 @@ use crate::files::log_file::{LogFault, open_log};
 use crate::limits::FILE_LIMIT;
 use crate::run_fault::RunFault;
 use cluster_terms::Memory;
-use script_lang::number_of;
 use script_session::Session;
 use std::alloc::Global;
 use tcm_edges::{Loaded, Store};
 use wire_json::snapshot_line;
-
-/// The file and the epoch if the words are `snapshot LOG E`. Returns `None` for other words.
-#[tactic(auto, unfolding(crate::specs::files::StateLine::snapshot_words))]
-pub fn snapshot_words(words: &[String]) -> Option<(&str, u64)>
-    ensures { option_map (λ named. (named.0.now, named.1)) result
-        ≡ spec.snapshot_words (map string_bytes words.now) }
-{
-    match words {
-        [word, file, epoch] if word.as_str() == "snapshot" && !file.is_empty() => {
-            let epoch = number_of(epoch.as_str().as_bytes())?;
-            Some((file.as_str(), epoch))
-        }
-        _ => None,
-    }
-}
 
 /// The end at the state of the session's log at an epoch. Fails only if memory runs out.
 fn at_epoch(alloc: Global, session: &Session, epoch: u64) -> Result<Ending, Memory>

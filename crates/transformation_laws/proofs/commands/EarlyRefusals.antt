@@ -1,13 +1,14 @@
--- The refusal of a command as LOCKED: none of the refusals before it shows a lock, so it is that of the movement's
--- ranges.
-use Rattle.std.proofs.Common.{◌≡◌, ℕ, Bool, true, false, true≢false, not, ◌&&◌, ◌==◌, ℤ, List, [], ◌∷◌, find, length, Option, Some, None, option_map, option_and_then, nat_le, nat_lt, is_some, refl, sym, ap, ◌∙◌, arith}
+-- The refusals of commands as LOCKED and KEYSPACE-LOCKED: none of the refusals before them shows a lock, so they are those
+-- of the ranges of a movement and of a keyspace.
+use Rattle.std.proofs.Common.{◌≡◌, ℕ, Bool, true, false, true≢false, not, ◌&&◌, ◌==◌, ℤ, List, [], ◌∷◌, find, length, map, Option, Some, None, option_map, option_and_then, nat_le, nat_lt, is_some, ◌⊎◌, inl, inr, refl, sym, ap, ◌∙◌, arith}
 use Rattle.std.proofs.lemmas.List.Sorted.{Contains-permutation}
 use Rattle.std.proofs.lemmas.Option.{none-some}
-use Rattle.std.specs.List.{AllByRecursion, Contains}
+use Rattle.std.specs.List.{AllByRecursion, Contains, list_any}
 use Rattle.std.specs.Str.{bytes_eq}
 use Rattle.cluster_terms.specs.Ascending.{put}
 use Rattle.cluster_terms.specs.NodeRow.{row_of}
 use Rattle.cluster_terms.specs.declared.node.NodeRow.{NodeRow}
+use Rattle.cluster_terms.specs.declared.replication.Replication.{Replication}
 use Rattle.cluster_terms.specs.declared.token.RightEnd.{RightEnd}
 use Rattle.transformation_laws.proofs.ranges.LockedLemmas.{is_locked_by}
 use Rattle.transformations.proofs.movements.MovementLemmas.{sequences_put}
@@ -15,7 +16,8 @@ use Rattle.transformations.proofs.movements.BeginLemmas.{begin_new, may_begin}
 use Rattle.transformations.proofs.histories.SoundLemmas.{sound_prepared}
 use Rattle.transformations.specs.History.{is_command}
 use Rattle.transformations.specs.Orders.{by_node}
-use Rattle.transformations.specs.Refusals.{IsLockedOf, early_refusal_of, first_of, has_keyspace, in_sequence, is_registered, is_taken, is_too_few, keyspaces_full, locked, may_be_removed, may_join, may_move_or_leave, most_keyspaces, most_nodes, most_tokens, name_taken, no_keyspace, no_node, no_sequence, no_tokens, nodes_full, not_idle, not_one_token, other_rack, prepared_by, ranges_locked, refusal_of, refused_if, same_place, token_taken, tokens_full, tokens_with, too_few_nodes, unless_allowed, unless_near, unless_next, with_movement, wrong_state, wrong_step}
+use Rattle.transformations.specs.Ranges.{first_shared}
+use Rattle.transformations.specs.Refusals.{IsLockedOf, early_refusal_of, first_of, first_overlap, has_keyspace, in_sequence, is_left_short, is_registered, is_taken, is_too_few, keyspace_locked, keyspace_row, keyspaces_full, locked, locks_overlap, may_be_removed, may_join, may_move_or_leave, most_keyspaces, most_nodes, most_tokens, name_taken, no_node, no_sequence, no_tokens, nodes_full, not_idle, not_one_token, other_rack, overlap_of, prepared_by, ranges_locked, refusal_of, refused_if, same_place, token_taken, tokens_full, tokens_with, too_few_left, too_few_nodes, unless_allowed, unless_near, unless_next, with_keyspace, with_movement, wrong_state, wrong_step}
 use Rattle.transformations.specs.States.{node_state, node_tokens, owns_tokens}
 use Rattle.transformations.specs.Movements.{is_next_step, movement_of, takes_part}
 use Rattle.transformations.specs.Valid.{IsSound}
@@ -24,7 +26,7 @@ use Rattle.transformations.specs.declared.command.Command.TheVariants.{Register,
 use Rattle.transformations.specs.declared.image.Image.{Image}
 use Rattle.transformations.specs.declared.keyspace.KeyspaceRow.{KeyspaceRow}
 use Rattle.transformations.specs.declared.refusal.Refusal.{Refusal}
-use Rattle.transformations.specs.declared.refusal.Refusal.TheVariants.{NameTaken, NodesFull, NoNode, WrongState, InSequence, NoSequence, WrongStep, TokenTaken, NoTokens, TokensFull, NotOneToken, OtherRack, NoKeyspace, KeyspacesFull, TooFewNodes, Locked}
+use Rattle.transformations.specs.declared.refusal.Refusal.TheVariants.{NameTaken, NodesFull, NoNode, WrongState, InSequence, NoSequence, WrongStep, TokenTaken, NoTokens, TokensFull, NotOneToken, OtherRack, NoKeyspace, KeyspacesFull, KeyspaceLocked, TooFewNodes, Locked}
 use Rattle.transformations.specs.declared.sequence.Goal.{Goal}
 use Rattle.transformations.specs.declared.sequence.Kind.{Kind}
 use Rattle.transformations.specs.declared.sequence.SeqRow.{SeqRow}
@@ -33,6 +35,7 @@ use Rattle.transformations.specs.declared.state.NodeState.{NodeState}
 -- whether a refusal, if there is one, shows a lock
 abbrev shows_lock : Option Refusal → Bool
 shows_lock (Some (Locked n right)) = true
+shows_lock (Some (KeyspaceLocked n o right)) = true
 shows_lock _ = false
 
 -- ---- what shows none
@@ -80,7 +83,7 @@ module _ (image : Image) where
   one_plain n = plain_if (not (length (node_tokens image n) == 1)) (NotOneToken (length (node_tokens image n))) refl
 
   few_plain : (n : ℕ) → shows_lock (too_few_nodes image n) ≡ false
-  few_plain n = plain_map (λ k. TooFewNodes k.name) (λ (k : KeyspaceRow). refl) (find (is_too_few image n) image.keyspaces)
+  few_plain n = plain_map (λ k. TooFewNodes k.name) (λ (k : KeyspaceRow). refl) (find (λ (k : KeyspaceRow). is_too_few image n k.replication) image.keyspaces)
 
   rack_plain : (n gone : ℕ) → shows_lock (other_rack image n gone) ≡ false
   rack_plain n gone =
@@ -104,10 +107,9 @@ module _ (image : Image) where
       plain_first (no_node image n ∷ in_sequence image n ∷ wrong_state may_join image n ∷ not_idle image.sequences ∷ token_taken image tokens ∷ tokens_full image tokens ∷ [])
       (node_plain n, (sequence_plain n, (state_plain may_join n, (idle_plain image.sequences, (taken_plain tokens, (full_plain tokens, tt))))))
   early_plain (Keyspace name replication) =
-      plain_first (keyspaces_full image name ∷ not_idle image.sequences ∷ [])
-      (plain_if (nat_le most_keyspaces (length image.keyspaces) && not (has_keyspace image name)) KeyspacesFull refl, (idle_plain image.sequences, tt))
-  early_plain (DropKeyspace name) =
-      plain_first (no_keyspace image name ∷ not_idle image.sequences ∷ []) (plain_if (not (has_keyspace image name)) NoKeyspace refl, (idle_plain image.sequences, tt))
+      plain_first (keyspaces_full image name ∷ too_few_left image (keyspace_row name replication) ∷ [])
+      (plain_if (nat_le most_keyspaces (length image.keyspaces) && not (has_keyspace image name)) KeyspacesFull refl, (plain_if (list_any (is_left_short image replication) image.sequences) (TooFewNodes name) refl, tt))
+  early_plain (DropKeyspace name) = plain_if (not (has_keyspace image name)) NoKeyspace refl
   early_plain (PrepareJoin n tokens) =
       plain_first (no_node image n ∷ in_sequence image n ∷ wrong_state may_join image n ∷ token_taken image tokens ∷ tokens_full image tokens ∷ [])
       (node_plain n, (sequence_plain n, (state_plain may_join n, (taken_plain tokens, (full_plain tokens, tt)))))
@@ -123,6 +125,50 @@ module _ (image : Image) where
   early_plain (Cancel n) = plain_first (no_node image n ∷ no_sequence image n ∷ []) (node_plain n, (no_sequence_plain n, tt))
   early_plain (Step goal kind n) =
       plain_first (no_node image n ∷ no_sequence image n ∷ wrong_step goal kind image n ∷ []) (node_plain n, (no_sequence_plain n, (step_plain goal kind n, tt)))
+
+-- ---- the refusals that show a lock
+
+-- the first refusal of two
+either : (a b : Option Refusal) (r : Refusal) → first_of (a ∷ b ∷ []) ≡ Some r → (a ≡ Some r) ⊎ (b ≡ Some r)
+either (Some q) b r is = inl is
+either None (Some q) r is = inr is
+either None None r is = absurd (none-some r is)
+
+-- that of a keyspace shows two nodes
+two_nodes : (image : Image) (n : ℕ) (right : RightEnd) (s : SeqRow) (later : List SeqRow) → first_of (map (overlap_of image s) later) ≡ Some (Locked n right) → ⊥
+two_nodes image n right s [] is = none-some (Locked n right) is
+two_nodes image n right s (q ∷ later) is = by (first_shared image s q) is (two_nodes image n right s later)
+  where
+    by : (o : Option RightEnd) → first_of (option_map (KeyspaceLocked s.node q.node) o ∷ map (overlap_of image s) later) ≡ Some (Locked n right)
+        → (first_of (map (overlap_of image s) later) ≡ Some (Locked n right) → ⊥) → ⊥
+    by None is rest = rest is
+    by (Some end) is rest = cc
+
+pair_shown : (image : Image) (n : ℕ) (right : RightEnd) (sequences : List SeqRow) → first_overlap image sequences ≡ Some (Locked n right) → ⊥
+pair_shown image n right [] is = none-some (Locked n right) is
+pair_shown image n right (s ∷ later) is = by (either (first_of (map (overlap_of image s) later)) (first_overlap image later) (Locked n right) is) (pair_shown image n right later)
+  where
+    by : (first_of (map (overlap_of image s) later) ≡ Some (Locked n right)) ⊎ (first_overlap image later ≡ Some (Locked n right)) → (first_overlap image later ≡ Some (Locked n right) → ⊥) → ⊥
+    by (inl first) rest = two_nodes image n right s later first
+    by (inr more) rest = rest more
+
+keyspace_shown : (image : Image) (c : Command) (n : ℕ) (right : RightEnd) → locks_overlap image c ≡ Some (Locked n right) → ⊥
+unfolding keyspace_locked
+keyspace_shown image (Keyspace name replication) n right is = pair_shown (with_keyspace image (keyspace_row name replication)) n right image.sequences is
+keyspace_shown image _ n right is = none-some (Locked n right) is
+
+-- a refusal that shows a lock isn't an early one: it is that of the ranges of a movement, or that of a keyspace
+record IsLate (image : Image) (c : Command) (r : Refusal) : Type 0 where
+  early : early_refusal_of image c ≡ None
+  shown : (ranges_locked image c ≡ Some r) ⊎ (locks_overlap image c ≡ Some r)
+
+late : (image : Image) (c : Command) (r : Refusal) → shows_lock (Some r) ≡ true → refusal_of image c ≡ Some r → IsLate image c r
+unfolding refusal_of
+late image c r lock is = by (early_refusal_of image c) refl (early_plain image c) is
+  where
+    by : (o : Option Refusal) → early_refusal_of image c ≡ o → shows_lock o ≡ false → first_of (o ∷ ranges_locked image c ∷ locks_overlap image c ∷ []) ≡ Some r → IsLate image c r
+    by None early plain is = record { early = early; shown = either (ranges_locked image c) (locks_overlap image c) r is }
+    by (Some q) early plain is = absurd (true≢false (sym lock ∙ sym (ap shows_lock is) ∙ plain))
 
 -- ---- a command that is refused as LOCKED
 
@@ -140,13 +186,19 @@ module _ (image : Image) (c : Command) (n : ℕ) (right : RightEnd) (h : IsSound
           record { movement = s; prepared = prepares; shown = is_locked_by (with_movement image s) s n right (sound_prepared image c s h formed early prepares) there is }
 
   pub refused_as_locked : refusal_of image c ≡ Some (Locked n right) → IsLockedOf image c n right
-  unfolding refusal_of
-  refused_as_locked is = by (early_refusal_of image c) refl (early_plain image c) is
+  refused_as_locked is = (let l = late image c (Locked n right) refl is in by l.early l.shown)
     where
-      alone : (o : Option Refusal) → first_of (None ∷ o ∷ []) ≡ o
-      alone None = refl
-      alone (Some r) = refl
+      by : early_refusal_of image c ≡ None → (ranges_locked image c ≡ Some (Locked n right)) ⊎ (locks_overlap image c ≡ Some (Locked n right)) → IsLockedOf image c n right
+      by early (inl ranges) = ranges_shown early ranges
+      by early (inr keyspace) = absurd (keyspace_shown image c n right keyspace)
 
-      by : (o : Option Refusal) → early_refusal_of image c ≡ o → shows_lock o ≡ false → first_of (o ∷ ranges_locked image c ∷ []) ≡ Some (Locked n right) → IsLockedOf image c n right
-      by None early plain is = ranges_shown early (sym (alone (ranges_locked image c)) ∙ is)
-      by (Some r) early plain is = absurd (true≢false (sym (ap shows_lock is) ∙ plain))
+-- ---- a command that is refused as KEYSPACE-LOCKED
+
+pub refused_as_keyspace_locked : (image : Image) (name : List ℕ) (replication : Replication) (n o : ℕ) (right : RightEnd) → refusal_of image (Keyspace name replication) ≡ Some (KeyspaceLocked n o right)
+    → keyspace_locked image (keyspace_row name replication) ≡ Some (KeyspaceLocked n o right)
+refused_as_keyspace_locked image name replication n o right is = by (late image (Keyspace name replication) (KeyspaceLocked n o right) refl is).shown
+  where
+    by : (ranges_locked image (Keyspace name replication) ≡ Some (KeyspaceLocked n o right)) ⊎ (locks_overlap image (Keyspace name replication) ≡ Some (KeyspaceLocked n o right))
+        → keyspace_locked image (keyspace_row name replication) ≡ Some (KeyspaceLocked n o right)
+    by (inl ranges) = absurd (none-some (KeyspaceLocked n o right) ranges)
+    by (inr keyspace) = keyspace

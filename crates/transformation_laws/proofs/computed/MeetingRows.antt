@@ -9,7 +9,7 @@ use Rattle.transformation_laws.proofs.computed.Rows.{dc1_node, joining_image, on
 use Rattle.transformations.specs.History.{next_image}
 use Rattle.transformations.specs.Meeting.{makes_movement_epoch, local_sets_at, sets_at}
 use Rattle.transformations.specs.Rings.{reads_at, writes_at}
-use Rattle.transformations.specs.declared.command.Command.TheVariants.{Cancel, DropKeyspace, Register, Step, UnsafeJoin}
+use Rattle.transformations.specs.declared.command.Command.TheVariants.{Cancel, DropKeyspace, Keyspace, Register, Step, UnsafeJoin}
 use Rattle.transformations.specs.declared.image.Image.{Image}
 use Rattle.transformations.specs.declared.sequence.Goal.TheVariants as goal
 use Rattle.transformations.specs.declared.sequence.Kind.TheVariants.{Join}
@@ -66,12 +66,15 @@ quorums_named_twice = refl
 
 -- ---- what makes a movement epoch
 
-pub movements : (makes_movement_epoch (Register (codes "f") (codes "dc1") (codes "r1")) ≡ true)
-    × (makes_movement_epoch (Step goal.Mid Join 5) ≡ true)
-    × (makes_movement_epoch (Cancel 5) ≡ true)
-    × (makes_movement_epoch (UnsafeJoin 2 (pos 100 ∷ [])) ≡ false)
-    × (makes_movement_epoch (DropKeyspace (codes "ks")) ≡ false)
-movements = (refl, refl, refl, refl, refl)
+pub movements : (makes_movement_epoch (codes "ks") (Register (codes "f") (codes "dc1") (codes "r1")) ≡ true)
+    × (makes_movement_epoch (codes "ks") (Step goal.Mid Join 5) ≡ true)
+    × (makes_movement_epoch (codes "ks") (Cancel 5) ≡ true)
+    × (makes_movement_epoch (codes "ks") (UnsafeJoin 2 (pos 100 ∷ [])) ≡ false)
+    × (makes_movement_epoch (codes "ks") (Keyspace (codes "ks") (Simple 3)) ≡ false)
+    × (makes_movement_epoch (codes "ks") (Keyspace (codes "kt") (Simple 3)) ≡ true)
+    × (makes_movement_epoch (codes "ks") (DropKeyspace (codes "ks")) ≡ false)
+    × (makes_movement_epoch (codes "ks") (DropKeyspace (codes "kt")) ≡ true)
+movements = (refl, refl, refl, refl, refl, refl, refl, refl)
 
 -- tokens that are given at once part the quorums before from those after
 abbrev pub unjoined_image : Image

@@ -11,16 +11,16 @@ use Rattle.cluster_terms.specs.declared.token.Pair.{Pair}
 use Rattle.cluster_terms.specs.declared.token.RightEnd.TheVariants.{At, Max}
 use Rattle.transformations.specs.History.{next_image, state_after, IsHistory}
 use Rattle.transformations.specs.Ranges.{in_ranges}
-use Rattle.transformations.specs.Refusals.{refusal_of, early_refusal_of, locked}
+use Rattle.transformations.specs.Refusals.{refusal_of, early_refusal_of, keyspace_locked, locked}
 use Rattle.transformations.specs.Rings.{reads_at, writes_at, cuts}
 use Rattle.transformations.specs.States.{node_state, state_of_row}
 use Rattle.transformations.specs.declared.command.Command.{Command}
 use Rattle.transformations.specs.declared.command.Command.TheVariants.{Register, Unregister, UnsafeJoin, Keyspace, DropKeyspace, PrepareJoin, Step}
 use Rattle.transformations.specs.declared.image.Image.{Image}
 use Rattle.transformations.specs.declared.keyspace.KeyspaceRow.{KeyspaceRow}
-use Rattle.transformations.specs.declared.refusal.Refusal.TheVariants.{NameTaken, NoNode, WrongState, TokenTaken, NoKeyspace, InSequence, NoSequence, WrongStep, NotIdle, Locked}
+use Rattle.transformations.specs.declared.refusal.Refusal.TheVariants.{NameTaken, NoNode, WrongState, TokenTaken, NoKeyspace, InSequence, NoSequence, WrongStep, NotIdle, TooFewNodes, Locked, KeyspaceLocked}
 use Rattle.transformations.specs.declared.sequence.Goal.TheVariants as goal
-use Rattle.transformations.specs.declared.sequence.Kind.TheVariants.{Join, Move}
+use Rattle.transformations.specs.declared.sequence.Kind.TheVariants.{Join, Leave, Move}
 use Rattle.transformations.specs.declared.sequence.Phase.{Phase}
 use Rattle.transformations.specs.declared.sequence.Phase.TheVariants.{Prepared, Started, Mid}
 use Rattle.transformations.specs.declared.sequence.SeqRow.{SeqRow}
@@ -184,7 +184,7 @@ one_node_history = Register (codes "a") (codes "dc1") (codes "r1") ∷ UnsafeJoi
 
 -- they are accepted one after another, and make it
 pub one_node_after : IsHistory one_node_history × (state_after one_node_history 3 ≡ one_node_image)
-unfolding next_image refusal_of early_refusal_of state_of_row
+unfolding next_image refusal_of early_refusal_of keyspace_locked state_of_row
 one_node_after = (refl, refl)
 
 -- the commands that make the cluster of four nodes
@@ -198,7 +198,7 @@ four_nodes_history = register_in_r1 (codes "a") ∷ register_in_r1 (codes "b") �
 
 -- they are accepted one after another, and make it
 pub four_nodes_after : IsHistory four_nodes_history × (state_after four_nodes_history 11 ≡ four_nodes_image)
-unfolding next_image refusal_of early_refusal_of state_of_row
+unfolding next_image refusal_of early_refusal_of keyspace_locked state_of_row
 four_nodes_after = (refl, refl)
 
 -- a node of the cluster has the name that is to be registered
@@ -288,15 +288,26 @@ pub wrong_steps : (refusal_of (joining_image 13 Started) (Step goal.Finish Join 
 unfolding refusal_of early_refusal_of
 wrong_steps = (refl, refl, refl, refl, refl, refl)
 
--- while a node joins, it is left alone, and the ring and the keyspaces stay as they are
+-- while a node joins, it is left alone, and no tokens are given at once; keyspaces are set and dropped
 pub while_joining : (refusal_of (joining_image 12 Prepared) (Unregister 5) ≡ Some (InSequence 5))
     × (refusal_of (joining_image 12 Prepared) (UnsafeJoin 6 (pos 150 ∷ [])) ≡ Some (NotIdle 5))
-    × (refusal_of (joining_image 12 Prepared) (Keyspace (codes "k2") (Simple 1)) ≡ Some (NotIdle 5))
-    × (refusal_of (joining_image 12 Prepared) (DropKeyspace (codes "ks")) ≡ Some (NotIdle 5))
+    × (refusal_of (joining_image 12 Prepared) (Keyspace (codes "k2") (Simple 1)) ≡ None)
+    × (refusal_of (joining_image 12 Prepared) (DropKeyspace (codes "ks")) ≡ None)
     × (refusal_of (joining_image 12 Prepared) (DropKeyspace (codes "zz")) ≡ Some NoKeyspace)
     × (refusal_of (joining_image 12 Prepared) (Unregister 6) ≡ None)
-unfolding refusal_of early_refusal_of state_of_row
+unfolding refusal_of early_refusal_of keyspace_locked state_of_row
 while_joining = (refl, refl, refl, refl, refl, refl)
+
+-- while a node leaves, no keyspace asks for as many replicas as there are nodes
+abbrev pub leaving_image : Image
+leaving_image =
+    let leave : SeqRow = record { node = 2; kind = Leave; out_pairs = pair (pos 100) 2 ∷ []; in_pairs = []; phase = Prepared } in
+    record four_nodes_image { epoch = 12; sequences = leave ∷ [] }
+
+pub while_leaving : (refusal_of leaving_image (Keyspace (codes "kt") (Simple 3)) ≡ None)
+    × (refusal_of leaving_image (Keyspace (codes "kt") (Simple 4)) ≡ Some (TooFewNodes (codes "kt")))
+unfolding refusal_of early_refusal_of keyspace_locked
+while_leaving = (refl, refl)
 
 -- ---- joins at the same time
 
@@ -347,3 +358,16 @@ far_image = record four_nodes_image { keyspaces = keyspace (codes "ks") (Simple 
 pub join_apart : refusal_of far_image (PrepareJoin 6 (pos 50 ∷ [])) ≡ None
 unfolding refusal_of early_refusal_of locked in_ranges reaches state_of_row
 join_apart = refl
+
+-- the join at 150 and one at 50, with the same keyspace
+abbrev pub two_joins_image : Image
+two_joins_image =
+    let join : SeqRow = record { node = 6; kind = Join; out_pairs = []; in_pairs = pair (pos 50) 6 ∷ []; phase = Prepared } in
+    record far_image { sequences = far_image.sequences ++ join ∷ [] }
+
+-- a keyspace is refused under which they would overlap, whether it is new or not
+pub keyspaces_of_two_joins : (refusal_of two_joins_image (Keyspace (codes "k2") (Simple 1)) ≡ None)
+    × (refusal_of two_joins_image (Keyspace (codes "k2") (Simple 2)) ≡ Some (KeyspaceLocked 5 6 (At (pos 50))))
+    × (refusal_of two_joins_image (Keyspace (codes "ks") (Simple 3)) ≡ Some (KeyspaceLocked 5 6 (At (pos 0))))
+unfolding refusal_of early_refusal_of keyspace_locked in_ranges reaches
+keyspaces_of_two_joins = (refl, refl, refl)

@@ -1,6 +1,5 @@
 -- The cuts follow the movements that begin and end.
-use Rattle.std.proofs.Common.{◌≡◌, ℕ, ◌+◌, Bool, true, false, ◌&&◌, ◌||◌, if◌then◌else◌, ◌==◌, ℤ, pos, ◌+ℤ◌, ◌≤ℤ◌, List, ◌++◌, filter, find, map, Some, None, refl, sym, ap, ◌∙◌, subst, arith}
-use Rattle.std.proofs.lemmas.Bool.{false≢true}
+use Rattle.std.proofs.Common.{◌≡◌, ℕ, ◌+◌, Bool, true, false, true≢false, ◌&&◌, ◌||◌, if◌then◌else◌, ◌==◌, ℤ, pos, ◌+ℤ◌, ◌≤ℤ◌, List, ◌++◌, filter, find, map, Some, None, refl, sym, ap, ◌∙◌, subst, arith}
 use Rattle.std.proofs.lemmas.Cmp.{int_cmp_total}
 use Rattle.std.proofs.lemmas.Int.{ints}
 use Rattle.std.proofs.lemmas.List.Kept.{IsStrictlySortedBy-filter}
@@ -22,7 +21,7 @@ use Rattle.transformations.proofs.ranges.RangesKept.{own_found}
 use Rattle.transformations.proofs.ranges.RowsServed.{cuts_ascend, reads-between, writes-between}
 use Rattle.transformations.specs.CutSteps.{CutsChange, CutsFollow, LosesCuts, SameAcross, unless_mid}
 use Rattle.transformations.specs.History.{begun, is_command, next_image}
-use Rattle.transformations.specs.Meeting.{makes_movement_epoch}
+use Rattle.transformations.specs.Meeting.{is_unsafe_join}
 use Rattle.transformations.specs.Orders.{by_node}
 use Rattle.transformations.specs.Ranges.{moved_by}
 use Rattle.transformations.specs.Refusals.{prepared_by, refusal_of}
@@ -148,13 +147,13 @@ cancels image n h s moves =
     by found true = cuts_at_phase image Started s.node (image.epoch + 1)
     by found false = given_up_cuts image h s found (image.epoch + 1)
 
-pub cuts_followed : (image : Image) (c : Command) → IsSound image → is_command c ≡ true → refusal_of image c ≡ None → makes_movement_epoch c ≡ true → CutsFollow image c
+pub cuts_followed : (image : Image) (c : Command) → IsSound image → is_command c ≡ true → refusal_of image c ≡ None → is_unsafe_join c ≡ false → CutsFollow image c
 unfolding next_image
 cuts_followed image (Register name dc rack) h right none is = refl
 cuts_followed image (Unregister n) h right none is = refl
-cuts_followed image (UnsafeJoin n tokens) h right none is = absurd (false≢true is)
-cuts_followed image (Keyspace name replication) h right none is = absurd (false≢true is)
-cuts_followed image (DropKeyspace name) h right none is = absurd (false≢true is)
+cuts_followed image (UnsafeJoin n tokens) h right none is = absurd (true≢false is)
+cuts_followed image (Keyspace name replication) h right none is = refl
+cuts_followed image (DropKeyspace name) h right none is = refl
 cuts_followed image (PrepareJoin n tokens) h right none is = begins image (PrepareJoin n tokens) (join_of n tokens) h right none refl
 cuts_followed image (PrepareMove n t) h right none is = begins image (PrepareMove n t) (move_of image.tokens n t) h right none refl
 cuts_followed image (PrepareLeave n) h right none is = begins image (PrepareLeave n) (leave_of image.tokens n) h right none refl

@@ -1,15 +1,16 @@
--- The commands that make movement epochs change what is read and written by their deltas.
-use Rattle.std.proofs.Common.{◌≡◌, ℕ, ◌+◌, Bool, true, false, not, ◌&&◌, if◌then◌else◌, ◌==◌, nat_eq, ℤ, List, [], ◌∷◌, ◌++◌, filter, find, map, Some, None, refl, sym, ap, ◌∙◌, subst, arith}
+-- Commands change what is read and written by their deltas, under each keyspace for which they make a movement epoch.
+use Rattle.std.proofs.Common.{◌≡◌, ℕ, ◌+◌, Bool, true, false, true≢false, not, ◌&&◌, if◌then◌else◌, ◌==◌, nat_eq, ℤ, List, [], ◌∷◌, ◌++◌, filter, find, map, Some, None, refl, sym, ap, ◌∙◌, subst, arith}
 use Rattle.std.proofs.Math.Bool.{and_comm}
-use Rattle.std.proofs.lemmas.Bool.{false≢true}
+use Rattle.std.proofs.lemmas.Bool.{and_parts, false≢true}
 use Rattle.std.proofs.lemmas.Bool.Decides.{nat_tests}
 use Rattle.std.specs.Cmp.{unsigned_tied}
 use Rattle.std.specs.List.{AllByRecursion, IsDistinct}
 use Rattle.std.specs.Ordering.{eq_by_cmp, nat_cmp}
+use Rattle.std.specs.Str.{bytes_eq}
 use Rattle.cluster_terms.proofs.placement.PlacedNodes.{placed_nodes}
 use Rattle.cluster_terms.proofs.quorums.QuorumLemmas.{Ascend}
 use Rattle.cluster_terms.specs.Arc.{IsToken}
-use Rattle.cluster_terms.specs.Ascending.{put_all}
+use Rattle.cluster_terms.specs.Ascending.{put, put_all}
 use Rattle.cluster_terms.specs.Group.{place}
 use Rattle.cluster_terms.specs.NodeRow.{row_of}
 use Rattle.cluster_terms.specs.Replication.{groups_of}
@@ -33,11 +34,11 @@ use Rattle.transformations.proofs.ranges.RangesKept.{apart_at, own_found}
 use Rattle.transformations.proofs.ranges.RowsServed.{ring_part}
 use Rattle.transformations.specs.DeltaSteps.{AreChanged, ChangesByDeltas, PlacementDelta, cancel_delta, delta_of_command, delta_of_movement, no_changes, step_delta}
 use Rattle.transformations.specs.MovementDeltas.{gained_at, lost_at}
-use Rattle.transformations.specs.History.{begun, is_command, next_image}
-use Rattle.transformations.specs.Meeting.{makes_movement_epoch}
-use Rattle.transformations.specs.Orders.{by_node}
+use Rattle.transformations.specs.History.{begun, changes_keyspace, is_command, next_image}
+use Rattle.transformations.specs.Meeting.{is_unsafe_join, makes_movement_epoch}
+use Rattle.transformations.specs.Orders.{by_name, by_node}
 use Rattle.transformations.specs.Ranges.{in_ranges}
-use Rattle.transformations.specs.Refusals.{early_refusal_of, prepared_by, refusal_of}
+use Rattle.transformations.specs.Refusals.{early_refusal_of, keyspace_row, prepared_by, refusal_of}
 use Rattle.transformations.specs.Rings.{has_started, incoming, is_mid, outgoing, reads_at, replaced, ring_at, widest, writes_at}
 use Rattle.transformations.specs.Movements.{at_phase, finished, join_of, leave_of, move_of, movement_of, others, replace_of, same_phase, sequences_after_cancel}
 use Rattle.transformations.specs.Valid.{IsSound, IsValid}
@@ -52,7 +53,7 @@ use Rattle.transformations.specs.declared.sequence.Phase.{Phase}
 use Rattle.transformations.specs.declared.sequence.Phase.TheVariants.{Prepared, Started, Mid}
 use Rattle.transformations.specs.declared.sequence.SeqRow.{SeqRow}
 
--- ---- other nodes, and one more movement
+-- ---- other nodes, other keyspaces, and one more movement
 
 module _ (image : Image) (epoch next : ℕ) (nodes : List NodeRow) (rows : HaveRows image nodes (widest image)) where
   abbrev with_nodes : Image
@@ -70,6 +71,10 @@ module _ (image : Image) (epoch next : ℕ) (nodes : List NodeRow) (rows : HaveR
   rows_changed : (r : Replication) (x : ℤ) → AreChanged image with_nodes r x no_changes
   unfolding reads_at writes_at
   rows_changed r x = none_changed image with_nodes r x (ring_rows r x is_mid) (λ i. put_all nat_cmp (low_rows r x i) (ring_rows r x has_started i))
+
+keyspaces_changed : (image : Image) (epoch : ℕ) (keyspaces : List KeyspaceRow) (r : Replication) (x : ℤ) → AreChanged image (record image { epoch = epoch; keyspaces = keyspaces }) r x no_changes
+unfolding reads_at writes_at
+keyspaces_changed image epoch keyspaces r x = none_changed image (record image { epoch = epoch; keyspaces = keyspaces }) r x refl refl
 
 module _ (image : Image) (j : SeqRow) (new : AllByRecursion (λ (s : SeqRow). (s.node == j.node) ≡ false) image.sequences) (is : j.phase ≡ Prepared) where
   untied : (n m : ℕ) → (m == n) ≡ false → eq_by_cmp nat_cmp n m ≡ false
@@ -169,11 +174,18 @@ each_apart image h s found x token P each =
     image.keyspaces
     (distinct_each (λ a b (k : KeyspaceRow). in_ranges image k.replication a x && in_ranges image k.replication b x) image.sequences image.keyspaces (apart_at image h x token))
 
+-- what a command changes under each keyspace of the image
+abbrev IsChangedAt : Image → Command → ℤ → KeyspaceRow → Type 0
+IsChangedAt image c x k = AreChanged image (next_image image c) k.replication x (delta_of_command image c k.replication x)
+
+abbrev ChangesEach : Image → Command → Type 0
+ChangesEach image c = (x : ℤ) → IsToken x → AllByRecursion (IsChangedAt image c x) image.keyspaces
+
 -- a command that changes nothing
 each_none : (image : Image) (c : Command) → ((r : Replication) (x : ℤ) → AreChanged image (next_image image c) r x no_changes) → ((r : Replication) (x : ℤ) → delta_of_command image c r x ≡ no_changes)
-    → ChangesByDeltas image c
+    → ChangesEach image c
 each_none image c changed none = λ x token.
-    all_each (λ (k : KeyspaceRow). AreChanged image (next_image image c) k.replication x (delta_of_command image c k.replication x))
+    all_each (IsChangedAt image c x)
     (λ k. subst (AreChanged image (next_image image c) k.replication x) (sym (none k.replication x)) (changed k.replication x)) image.keyspaces
 
 prepares : (image : Image) (c : Command) (j : SeqRow) → IsSound image → is_command c ≡ true → refusal_of image c ≡ None → prepared_by image.tokens c ≡ Some j → j.phase ≡ Prepared
@@ -191,7 +203,7 @@ module _ (image : Image) (h : IsValid image) (n : ℕ) (s : SeqRow) (moves : mov
       each_apart image h s own.1 x token (λ r. AreChanged image after r x (delta_of_movement delta image r x (movement_of image n)))
       (λ r apart. subst (λ o. AreChanged image after r x (delta_of_movement delta image r x o)) (sym moves) (changed r x own.0 own.1 apart))
 
-changes_step : (image : Image) (g : Goal) (kind : Kind) (n : ℕ) → IsValid image → early_refusal_of image (Step g kind n) ≡ None → ChangesByDeltas image (Step g kind n)
+changes_step : (image : Image) (g : Goal) (kind : Kind) (n : ℕ) → IsValid image → early_refusal_of image (Step g kind n) ≡ None → ChangesEach image (Step g kind n)
 unfolding next_image
 changes_step image goal.Start kind n h none =
     let m = step_moves image goal.Start kind n none in
@@ -212,7 +224,7 @@ changes_step image goal.Finish kind n h none =
     (λ r x node found apart. subst (λ o. AreChanged image (let after : Image = finished image o in record after { epoch = image.epoch + 1 }) r x (step_delta goal.Finish (gained_at image r s x) (lost_at image r s x))) (sym m.found)
     (finish_changed image h.sound s found (image.epoch + 1) r x apart (step_phase image goal.Finish kind n none s m.found)))
 
-changes_cancel : (image : Image) (n : ℕ) → IsValid image → early_refusal_of image (Cancel n) ≡ None → ChangesByDeltas image (Cancel n)
+changes_cancel : (image : Image) (n : ℕ) → IsValid image → early_refusal_of image (Cancel n) ≡ None → ChangesEach image (Cancel n)
 unfolding next_image
 changes_cancel image n h none =
     let m = cancel_moves image n none in
@@ -222,21 +234,34 @@ changes_cancel image n h none =
     (subst (λ k. AreChanged image (record image { epoch = image.epoch + 1; sequences = sequences_after_cancel image.sequences k (Some s) }) r x (cancel_delta s.phase (gained_at image r s x) (lost_at image r s x))) node
     (cancel_changed image h.sound s found (image.epoch + 1) r x apart)))
 
-pub changes_by_deltas : (image : Image) (c : Command) → IsValid image → is_command c ≡ true → refusal_of image c ≡ None → makes_movement_epoch c ≡ true → ChangesByDeltas image c
+changes_each : (image : Image) (c : Command) → IsValid image → is_command c ≡ true → refusal_of image c ≡ None → is_unsafe_join c ≡ false → ChangesEach image c
 unfolding next_image
-changes_by_deltas image (Register name dc rack) h right none is =
+changes_each image (Register name dc rack) h right none is =
     let row : NodeRow = record { id = image.next; name = name; dc = dc; rack = rack; left = false } in
     each_none image (Register name dc rack) (rows_changed image (image.epoch + 1) (image.next + 1) (image.nodes ++ row ∷ []) (standing_rows image (row ∷ []) h.sound)) (λ r x. refl)
-changes_by_deltas image (Unregister n) h right none is =
+changes_each image (Unregister n) h right none is =
     let nodes : List NodeRow = filter (λ (row : NodeRow). not (row.id == n)) image.nodes in
     each_none image (Unregister n) (rows_changed image (image.epoch + 1) image.next nodes (remaining_rows image n h.sound (early_accepted image (Unregister n) none))) (λ r x. refl)
-changes_by_deltas image (UnsafeJoin n tokens) h right none is = absurd (false≢true is)
-changes_by_deltas image (Keyspace name replication) h right none is = absurd (false≢true is)
-changes_by_deltas image (DropKeyspace name) h right none is = absurd (false≢true is)
-changes_by_deltas image (PrepareJoin n tokens) h right none is = each_none image (PrepareJoin n tokens) (prepares image (PrepareJoin n tokens) (join_of n tokens) h.sound right none refl refl) (λ r x. refl)
-changes_by_deltas image (PrepareMove n t) h right none is = each_none image (PrepareMove n t) (prepares image (PrepareMove n t) (move_of image.tokens n t) h.sound right none refl refl) (λ r x. refl)
-changes_by_deltas image (PrepareLeave n) h right none is = each_none image (PrepareLeave n) (prepares image (PrepareLeave n) (leave_of image.tokens n) h.sound right none refl refl) (λ r x. refl)
-changes_by_deltas image (PrepareReplace n gone) h right none is =
+changes_each image (UnsafeJoin n tokens) h right none is = absurd (true≢false is)
+changes_each image (Keyspace name replication) h right none is =
+    each_none image (Keyspace name replication) (keyspaces_changed image (image.epoch + 1) (put by_name (keyspace_row name replication) image.keyspaces)) (λ r x. refl)
+changes_each image (DropKeyspace name) h right none is =
+    each_none image (DropKeyspace name) (keyspaces_changed image (image.epoch + 1) (filter (λ (row : KeyspaceRow). not (bytes_eq row.name name)) image.keyspaces)) (λ r x. refl)
+changes_each image (PrepareJoin n tokens) h right none is = each_none image (PrepareJoin n tokens) (prepares image (PrepareJoin n tokens) (join_of n tokens) h.sound right none refl refl) (λ r x. refl)
+changes_each image (PrepareMove n t) h right none is = each_none image (PrepareMove n t) (prepares image (PrepareMove n t) (move_of image.tokens n t) h.sound right none refl refl) (λ r x. refl)
+changes_each image (PrepareLeave n) h right none is = each_none image (PrepareLeave n) (prepares image (PrepareLeave n) (leave_of image.tokens n) h.sound right none refl refl) (λ r x. refl)
+changes_each image (PrepareReplace n gone) h right none is =
     each_none image (PrepareReplace n gone) (prepares image (PrepareReplace n gone) (replace_of image.tokens n gone) h.sound right none refl refl) (λ r x. refl)
-changes_by_deltas image (Step g kind n) h right none is = changes_step image g kind n h (early_accepted image (Step g kind n) none)
-changes_by_deltas image (Cancel n) h right none is = changes_cancel image n h (early_accepted image (Cancel n) none)
+changes_each image (Step g kind n) h right none is = changes_step image g kind n h (early_accepted image (Step g kind n) none)
+changes_each image (Cancel n) h right none is = changes_cancel image n h (early_accepted image (Cancel n) none)
+
+pub changes_by_deltas : (image : Image) (c : Command) → IsValid image → is_command c ≡ true → refusal_of image c ≡ None → ChangesByDeltas image c
+changes_by_deltas image c h right none = λ x token. by x token (is_unsafe_join c) refl
+  where
+    no_epoch : (k : KeyspaceRow) → is_unsafe_join c ≡ true → makes_movement_epoch k.name c ≡ true → ⊥
+    no_epoch k gives moves = false≢true (sym (ap not gives) ∙ (and_parts (not (is_unsafe_join c)) (not (changes_keyspace k.name c)) moves).0)
+
+    by : (x : ℤ) → IsToken x → (b : Bool) → is_unsafe_join c ≡ b → AllByRecursion (λ (k : KeyspaceRow). makes_movement_epoch k.name c ≡ true → IsChangedAt image c x k) image.keyspaces
+    by x token true gives = all_each (λ (k : KeyspaceRow). makes_movement_epoch k.name c ≡ true → IsChangedAt image c x k) (λ k moves. absurd (no_epoch k gives moves)) image.keyspaces
+    by x token false gives =
+        all_weaker (IsChangedAt image c x) (λ (k : KeyspaceRow). makes_movement_epoch k.name c ≡ true → IsChangedAt image c x k) (λ k changed moves. changed) image.keyspaces (changes_each image c h right none gives x token)

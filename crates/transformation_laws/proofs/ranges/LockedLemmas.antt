@@ -16,15 +16,16 @@ use Rattle.transformations.proofs.ranges.PreparedLemmas.{unlocked}
 use Rattle.transformations.proofs.ranges.MovementRanges.{IsWithinWidest, moved_within, none_shared, shared_found}
 use Rattle.transformations.specs.Orders.{by_node}
 use Rattle.transformations.specs.Ranges.{IsFirstShared, IsLockedBy, first_shared, in_both, is_shared}
-use Rattle.transformations.specs.Refusals.{first_of, locked, locked_by}
+use Rattle.transformations.specs.Refusals.{first_of, locked}
 use Rattle.transformations.specs.Rings.{cuts}
 use Rattle.transformations.specs.Movements.{others}
 use Rattle.transformations.specs.Valid.{IsSound}
 use Rattle.transformations.specs.declared.image.Image.{Image}
+use Rattle.transformations.specs.declared.refusal.Refusal.{Refusal}
 use Rattle.transformations.specs.declared.refusal.Refusal.TheVariants.{Locked}
 use Rattle.transformations.specs.declared.sequence.SeqRow.{SeqRow}
 
-within_of : (image : Image) (s : SeqRow) → IsSound image → Contains image.sequences s → IsWithinWidest image s
+pub within_of : (image : Image) (s : SeqRow) → IsSound image → Contains image.sequences s → IsWithinWidest image s
 within_of image s h there = All-contains (IsWithinWidest image) image.sequences s (All-from_recursion (IsWithinWidest image) image.sequences (moved_within image h)) there
 
 -- two movements of a sound image overlap nowhere where no row between cuts is found
@@ -74,23 +75,28 @@ is_first_shared image s q right some = by (find (is_shared image s q) (rows_betw
         let f = found_first (is_shared image s q) (rows_between (cuts image)) row found in
         record { before = f.before; row = row; after = f.after; rows = f.split; ends = cc; shared = f.passes; none_before = f.none_before }
 
-module _ (image : Image) (s : SeqRow) (n : ℕ) (right : RightEnd) where
-  -- the first of some movements that overlaps it is of the node that is shown, and the row is the first of both
-  first_locked : (movements : List SeqRow) → first_of (map (locked_by image s) movements) ≡ Some (Locked n right) → Any (λ q. (q.node ≡ n) × (first_shared image s q ≡ Some right)) movements
-  first_locked [] is = absurd (none-some (Locked n right) is)
-  first_locked (q ∷ movements) is = by (first_shared image s q) refl is (first_locked movements)
+-- a refusal that shows the node of a movement and a right end, for the first of some movements with a row in the ranges of
+-- both
+module _ (image : Image) (s : SeqRow) (shows : ℕ → RightEnd → Refusal) (tells : (m k : ℕ) (e f : RightEnd) → shows m e ≡ shows k f → (m ≡ k) × (e ≡ f)) (n : ℕ) (right : RightEnd) where
+  abbrev shown : SeqRow → Option Refusal
+  shown q = option_map (shows q.node) (first_shared image s q)
+
+  -- the movement is of the node that is shown, and the row is the first of both
+  pub first_shown : (movements : List SeqRow) → first_of (map shown movements) ≡ Some (shows n right) → Any (λ q. (q.node ≡ n) × (first_shared image s q ≡ Some right)) movements
+  first_shown [] is = absurd (none-some (shows n right) is)
+  first_shown (q ∷ movements) is = by (first_shared image s q) refl is (first_shown movements)
     where
-      by : (o : Option RightEnd) → first_shared image s q ≡ o → first_of (option_map (Locked q.node) o ∷ map (locked_by image s) movements) ≡ Some (Locked n right)
-          → (first_of (map (locked_by image s) movements) ≡ Some (Locked n right) → Any (λ q. (q.node ≡ n) × (first_shared image s q ≡ Some right)) movements)
+      by : (o : Option RightEnd) → first_shared image s q ≡ o → first_of (option_map (shows q.node) o ∷ map shown movements) ≡ Some (shows n right)
+          → (first_of (map shown movements) ≡ Some (shows n right) → Any (λ q. (q.node ≡ n) × (first_shared image s q ≡ Some right)) movements)
           → Any (λ q. (q.node ≡ n) × (first_shared image s q ≡ Some right)) (q ∷ movements)
       by None found is rest = (let r = rest is in (suc r.0, r.1, omega (arith, r.2), r.3, r.4))
       by (Some end) found is rest =
-          let node : q.node ≡ n = cc in
-          let same : end ≡ right = cc in
-          (0, q, omega arith, refl, (node, found ∙ ap (λ e. Some e) same))
+          let same : shows q.node end ≡ shows n right = cc in
+          let parts = tells q.node n end right same in
+          (0, q, omega arith, refl, (parts.0, found ∙ ap (λ e. Some e) parts.1))
 
-  -- where movements ascend by node, those of lesser nodes overlap it nowhere
-  lesser_free : (movements : List SeqRow) → IsStrictlySortedBy by_node movements → first_of (map (locked_by image s) movements) ≡ Some (Locked n right)
+  -- where movements ascend by node, those of lesser nodes share no row
+  pub lesser_free : (movements : List SeqRow) → IsStrictlySortedBy by_node movements → first_of (map shown movements) ≡ Some (shows n right)
       → AllByRecursion (λ q. q.node < n → first_shared image s q ≡ None) movements
   unfolding IsStrictlySortedBy
   lesser_free [] up is = tt
@@ -99,20 +105,27 @@ module _ (image : Image) (s : SeqRow) (n : ℕ) (right : RightEnd) where
       later : (m k : ℕ) → nat_cmp m k ≡ Less → m ≡ n → k < n → ⊥
       later m k above node less = grind (arith, nat_tests)
 
-      by : (o : Option RightEnd) → first_shared image s q ≡ o → first_of (option_map (Locked q.node) o ∷ map (locked_by image s) movements) ≡ Some (Locked n right)
-          → (first_of (map (locked_by image s) movements) ≡ Some (Locked n right) → AllByRecursion (λ q. q.node < n → first_shared image s q ≡ None) movements)
+      by : (o : Option RightEnd) → first_shared image s q ≡ o → first_of (option_map (shows q.node) o ∷ map shown movements) ≡ Some (shows n right)
+          → (first_of (map shown movements) ≡ Some (shows n right) → AllByRecursion (λ q. q.node < n → first_shared image s q ≡ None) movements)
           → (q.node < n → first_shared image s q ≡ None) × AllByRecursion (λ q. q.node < n → first_shared image s q ≡ None) movements
       by None found is rest = (λ less. found, rest is)
       by (Some end) found is rest =
-          let node : q.node ≡ n = cc in (
+          let same : shows q.node end ≡ shows n right = cc in
+          let node : q.node ≡ n = (tells q.node n end right same).0 in (
             λ less. absurd (omega arith),
             all_weaker (λ (r : SeqRow). by_node q r ≡ Less) (λ (r : SeqRow). r.node < n → first_shared image s r ≡ None) (λ r above less. absurd (later q.node r.node above node less)) movements up.0,
           )
 
+-- ---- LOCKED
+
+tells_locked : (m k : ℕ) (e f : RightEnd) → Locked m e ≡ Locked k f → (m ≡ k) × (e ≡ f)
+tells_locked m k e f same = (let nodes : m ≡ k = cc in let ends : e ≡ f = cc in (nodes, ends))
+
+module _ (image : Image) (s : SeqRow) (n : ℕ) (right : RightEnd) where
   -- a movement that is locked overlaps one of the others, that of the node that is shown
   locked_first : locked image s ≡ Some (Locked n right) → Any (λ q. (q.node ≡ n) × (first_shared image s q ≡ Some right)) (others image.sequences s.node)
   unfolding locked
-  locked_first is = first_locked (others image.sequences s.node) is
+  locked_first is = first_shown image s Locked tells_locked n right (others image.sequences s.node) is
 
   pub locked_overlaps : locked image s ≡ Some (Locked n right) → Any (λ q. (q.node ≡ n) × (in_both image s q (last_token right) ≡ true)) (others image.sequences s.node)
   locked_overlaps is = (let a = locked_first is in (a.0, a.1, a.2, a.3, (a.4.0, shared_found image s a.1 right a.4.1)))
@@ -126,7 +139,7 @@ module _ (image : Image) (s : SeqRow) (n : ℕ) (right : RightEnd) where
       All-from_recursion (λ (q : SeqRow). q.node < n → in_both image s q x ≡ false) rest
       (all_both (IsWithinWidest image) (λ (q : SeqRow). q.node < n → first_shared image s q ≡ None) (λ (q : SeqRow). q.node < n → in_both image s q x ≡ false)
       (λ q other free less. none_shared image s q (within_of image s h there) other (free less) x token) rest (within_others image s h)
-      (lesser_free rest (part_sorted by_node (part_filter (λ (q : SeqRow). not (q.node == s.node)) image.sequences) h.movements) is))
+      (lesser_free image s Locked tells_locked n right rest (part_sorted by_node (part_filter (λ (q : SeqRow). not (q.node == s.node)) image.sequences) h.movements) is))
 
   pub is_locked_by : IsSound image → Contains image.sequences s → locked image s ≡ Some (Locked n right) → IsLockedBy image s n right
   is_locked_by h there is = record {

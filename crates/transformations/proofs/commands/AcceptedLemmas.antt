@@ -8,12 +8,12 @@ use Rattle.cluster_terms.specs.NodeRow.{row_of}
 use Rattle.cluster_terms.specs.declared.node.NodeRow.{NodeRow}
 use Rattle.cluster_terms.specs.declared.token.Pair.{Pair}
 use Rattle.transformations.proofs.lists.ListLemmas.{all_weaker, any_false, found_passes, none_found}
-use Rattle.transformations.specs.Refusals.{first_of, may_move_or_leave, has_keyspace, may_join, may_be_removed, is_taken, keyspaces_full, in_sequence, most_keyspaces, most_nodes, most_tokens, name_taken, no_keyspace, no_node, nodes_full, no_tokens, not_idle, not_one_token, other_rack, ranges_locked, early_refusal_of, refusal_of, refused_if, token_taken, tokens_full, tokens_with, too_few_nodes, unless_allowed, wrong_state}
+use Rattle.transformations.specs.Refusals.{first_of, may_move_or_leave, has_keyspace, may_join, may_be_removed, is_taken, keyspace_locked, keyspace_row, keyspaces_full, in_sequence, locks_overlap, most_keyspaces, most_nodes, most_tokens, name_taken, no_node, nodes_full, no_tokens, not_idle, not_one_token, other_rack, ranges_locked, early_refusal_of, refusal_of, refused_if, token_taken, tokens_full, tokens_with, too_few_left, too_few_nodes, unless_allowed, wrong_state}
 use Rattle.transformations.specs.States.{owns_tokens, node_tokens, started_of, state_by, state_in, state_of_row}
 use Rattle.transformations.specs.Movements.{takes_part}
 use Rattle.transformations.specs.Valid.{IsOwned, is_standing, stands}
 use Rattle.transformations.specs.declared.command.Command.{Command}
-use Rattle.transformations.specs.declared.command.Command.TheVariants.{Register, Unregister, UnsafeJoin, Keyspace, DropKeyspace, PrepareJoin, PrepareMove, PrepareLeave, PrepareReplace}
+use Rattle.transformations.specs.declared.command.Command.TheVariants.{Register, Unregister, UnsafeJoin, Keyspace, PrepareJoin, PrepareMove, PrepareLeave, PrepareReplace}
 use Rattle.transformations.specs.declared.image.Image.{Image}
 use Rattle.transformations.specs.declared.refusal.Refusal.{Refusal}
 use Rattle.transformations.specs.declared.refusal.Refusal.TheVariants.{InSequence, KeyspacesFull, NameTaken, NoNode, NodesFull, NoTokens, NotIdle, NotOneToken, TokensFull, TokenTaken, WrongState}
@@ -199,14 +199,20 @@ new image tokens free below_limit =
 
 -- ---- commands
 
--- a command that isn't refused has no early refusal, and the ranges of the movement that it prepares aren't locked
-pub early_accepted : (image : Image) (c : Command) → refusal_of image c ≡ None → early_refusal_of image c ≡ None
+-- a command that isn't refused has no early refusal, the ranges of the movement that it prepares aren't locked, and with
+-- the keyspace that it sets no movements overlap
+none_refused : (image : Image) (c : Command) → refusal_of image c ≡ None → AllByRecursion (λ (r : Option Refusal). r ≡ None) (early_refusal_of image c ∷ ranges_locked image c ∷ locks_overlap image c ∷ [])
 unfolding refusal_of
-early_accepted image c h = (first_none (early_refusal_of image c) (ranges_locked image c ∷ []) h).0
+none_refused image c h = none_of (early_refusal_of image c ∷ ranges_locked image c ∷ locks_overlap image c ∷ []) h
+
+pub early_accepted : (image : Image) (c : Command) → refusal_of image c ≡ None → early_refusal_of image c ≡ None
+early_accepted image c h = (none_refused image c h).0
 
 pub ranges_accepted : (image : Image) (c : Command) → refusal_of image c ≡ None → ranges_locked image c ≡ None
-unfolding refusal_of
-ranges_accepted image c h = (first_none (ranges_locked image c) [] (first_none (early_refusal_of image c) (ranges_locked image c ∷ []) h).1).0
+ranges_accepted image c h = (none_refused image c h).1.0
+
+pub keyspace_unlocked : (image : Image) (name : List ℕ) (replication : Replication) → refusal_of image (Keyspace name replication) ≡ None → keyspace_locked image (keyspace_row name replication) ≡ None
+keyspace_unlocked image name replication h = (none_refused image (Keyspace name replication) h).1.1.0
 
 pub register_accepted : (image : Image) (name dc rack : List ℕ) → early_refusal_of image (Register name dc rack) ≡ None
     → AllByRecursion (λ (row : NodeRow). bytes_eq row.name name ≡ false) image.nodes × (length image.nodes < most_nodes)
@@ -247,23 +253,11 @@ unsafe_join_idle image n tokens h =
     let a = none_of (no_node image n ∷ in_sequence image n ∷ wrong_state may_join image n ∷ not_idle image.sequences ∷ token_taken image tokens ∷ tokens_full image tokens ∷ []) h in
     idle_sequences image.sequences a.1.1.1.0
 
-pub keyspace_idle : (image : Image) (name : List ℕ) (replication : Replication) → early_refusal_of image (Keyspace name replication) ≡ None → image.sequences ≡ []
-unfolding early_refusal_of
-keyspace_idle image name replication h =
-    let a = first_none (keyspaces_full image name) (not_idle image.sequences ∷ []) h in
-    idle_sequences image.sequences (first_none (not_idle image.sequences) [] a.1).0
-
-pub drop_keyspace_idle : (image : Image) (name : List ℕ) → early_refusal_of image (DropKeyspace name) ≡ None → image.sequences ≡ []
-unfolding early_refusal_of
-drop_keyspace_idle image name h =
-    let a = first_none (no_keyspace image name) (not_idle image.sequences ∷ []) h in
-    idle_sequences image.sequences (first_none (not_idle image.sequences) [] a.1).0
-
 pub keyspace_accepted : (image : Image) (name : List ℕ) (replication : Replication) → early_refusal_of image (Keyspace name replication) ≡ None
     → (length image.keyspaces < most_keyspaces) ⊎ (has_keyspace image name ≡ true)
 unfolding early_refusal_of
 keyspace_accepted image name replication h =
-    let a = first_none (keyspaces_full image name) (not_idle image.sequences ∷ []) h in
+    let a = first_none (keyspaces_full image name) (too_few_left image (keyspace_row name replication) ∷ []) h in
     let test = test_false (nat_le most_keyspaces (length image.keyspaces) && not (has_keyspace image name)) KeyspacesFull a.0 in
     by (has_keyspace image name) refl test
   where

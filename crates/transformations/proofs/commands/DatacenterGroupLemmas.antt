@@ -11,6 +11,7 @@ use Rattle.std.specs.Set.{is_member, distinct_count}
 use Rattle.cluster_terms.proofs.lists.DistinctCounts.{distinct_count-new, distinct_count-old, distinct_count-within, is_member-alike, is_member-push}
 use Rattle.cluster_terms.specs.Group.{nodes_of}
 use Rattle.cluster_terms.specs.Replication.{datacenter_group, groups_of}
+use Rattle.cluster_terms.specs.declared.replication.Replication.{Replication}
 use Rattle.cluster_terms.specs.declared.replication.Replication.TheVariants.{Simple, Topology}
 use Rattle.cluster_terms.specs.declared.token.Pair.{Pair}
 use Rattle.transformations.specs.code.DatacenterGroups.{is_short_at}
@@ -88,12 +89,12 @@ nodes_up_to pairs i p within is = map_more (λ (q : Pair). q.node) pairs i p wit
 pub nodes_after : (pairs : List Pair) (i : ℕ) → nodes_of pairs ≡ nodes_of (take i pairs) ++ nodes_of (drop i pairs)
 nodes_after pairs i = ap nodes_of (sym (take-append-drop i pairs)) ∙ map-append (λ (q : Pair). q.node) (take i pairs) (drop i pairs)
 
--- ---- the groups of a keyspace
+-- ---- the groups of a replication
 
 module _ (image : Image) (n : ℕ) where
   -- the group of all nodes
-  pub few_simple : (k : KeyspaceRow) (rf : ℕ) → k.replication ≡ Simple rf → is_short_at image n None rf ≡ is_too_few image n k
-  few_simple k rf is = sym (ap (λ r. list_any (is_short image n) (groups_of image.nodes r)) is ∙ or-false (is_short_at image n None rf))
+  pub few_simple : (r : Replication) (rf : ℕ) → r ≡ Simple rf → is_short_at image n None rf ≡ is_too_few image n r
+  few_simple r rf is = sym (ap (λ r. list_any (is_short image n) (groups_of image.nodes r)) is ∙ or-false (is_short_at image n None rf))
 
   any_datacenter : (factors : List (List ℕ × ℕ)) → list_any (is_short image n) (map (datacenter_group image.nodes) factors)
       ≡ list_any (λ (f : List ℕ × ℕ). is_short_at image n (Some f.0) f.1) factors
@@ -101,15 +102,15 @@ module _ (image : Image) (n : ℕ) where
   any_datacenter (f ∷ factors) = ap (λ b. is_short_at image n (Some f.0) f.1 || b) (any_datacenter factors)
 
   -- the groups of datacenters
-  pub few_topology : (k : KeyspaceRow) (factors : List (List ℕ × ℕ)) → k.replication ≡ Topology factors
-      → list_any (λ (f : List ℕ × ℕ). is_short_at image n (Some f.0) f.1) factors ≡ is_too_few image n k
-  few_topology k factors is = sym (ap (λ r. list_any (is_short image n) (groups_of image.nodes r)) is ∙ any_datacenter factors)
+  pub few_topology : (r : Replication) (factors : List (List ℕ × ℕ)) → r ≡ Topology factors
+      → list_any (λ (f : List ℕ × ℕ). is_short_at image n (Some f.0) f.1) factors ≡ is_too_few image n r
+  few_topology r factors is = sym (ap (λ r. list_any (is_short image n) (groups_of image.nodes r)) is ∙ any_datacenter factors)
 
   -- the first keyspace with a group that is too small
-  pub too_few_found : (k : KeyspaceRow) → find (is_too_few image n) image.keyspaces ≡ Some k → Some (TooFewNodes k.name) ≡ too_few_nodes image n
+  pub too_few_found : (k : KeyspaceRow) → find (λ (k : KeyspaceRow). is_too_few image n k.replication) image.keyspaces ≡ Some k → Some (TooFewNodes k.name) ≡ too_few_nodes image n
   too_few_found k found = sym (ap (option_map (λ (k : KeyspaceRow). TooFewNodes k.name)) found)
 
-  pub too_few_none : find (is_too_few image n) image.keyspaces ≡ None → None ≡ too_few_nodes image n
+  pub too_few_none : find (λ (k : KeyspaceRow). is_too_few image n k.replication) image.keyspaces ≡ None → None ≡ too_few_nodes image n
   too_few_none none = sym (ap (option_map (λ (k : KeyspaceRow). TooFewNodes k.name)) none)
 
 -- ---- how many tokens a node has

@@ -1,7 +1,7 @@
 -- The commands that are accepted keep the deltas of the movements that go on.
 use Rattle.std.proofs.Common.{◌≡◌, ℕ, ◌+◌, true, false, not, ◌==◌, List, [], ◌∷◌, ◌++◌, filter, find, map, Some, None, is_some, refl}
 use Rattle.cluster_terms.specs.declared.node.NodeRow.{NodeRow}
-use Rattle.transformations.proofs.commands.AcceptedLemmas.{drop_keyspace_idle, early_accepted, keyspace_idle, unsafe_join_idle}
+use Rattle.transformations.proofs.commands.AcceptedLemmas.{early_accepted, unsafe_join_idle}
 use Rattle.transformations.proofs.deltas.DoneDeltas.{deltas_done}
 use Rattle.transformations.proofs.deltas.KeptDeltas.{HasKept, deltas_rows, keeps_all_deltas, keeps_deltas, keeps_placed}
 use Rattle.transformations.proofs.lists.ListLemmas.{all_none, all_weaker}
@@ -79,9 +79,8 @@ deltas_kept image (Unregister n) h right none =
     keeps_all_deltas image (next_image image (Unregister n)) (on_same image.sequences h.sound.movements)
     (deltas_rows image (image.epoch + 1) image.next nodes (remaining_rows image n h.sound (early_accepted image (Unregister n) none)))
 deltas_kept image (UnsafeJoin n tokens) h right none = idle_deltas image (next_image image (UnsafeJoin n tokens)) (unsafe_join_idle image n tokens (early_accepted image (UnsafeJoin n tokens) none))
-deltas_kept image (Keyspace name replication) h right none =
-    idle_deltas image (next_image image (Keyspace name replication)) (keyspace_idle image name replication (early_accepted image (Keyspace name replication) none))
-deltas_kept image (DropKeyspace name) h right none = idle_deltas image (next_image image (DropKeyspace name)) (drop_keyspace_idle image name (early_accepted image (DropKeyspace name) none))
+deltas_kept image (Keyspace name replication) h right none = keeps_placed image (next_image image (Keyspace name replication)) (on_same image.sequences h.sound.movements) refl refl
+deltas_kept image (DropKeyspace name) h right none = keeps_placed image (next_image image (DropKeyspace name)) (on_same image.sequences h.sound.movements) refl refl
 deltas_kept image (PrepareJoin n tokens) h right none = begun_deltas image (PrepareJoin n tokens) (join_of n tokens) h right none refl
 deltas_kept image (PrepareMove n t) h right none = begun_deltas image (PrepareMove n t) (move_of image.tokens n t) h right none refl
 deltas_kept image (PrepareLeave n) h right none = begun_deltas image (PrepareLeave n) (leave_of image.tokens n) h right none refl

@@ -30,7 +30,7 @@ use Rattle.transformations.proofs.movements.OnceLemmas.{once_others, once_phase,
 use Rattle.transformations.proofs.pairs.RingPairs.{AreFew, few_moved, few_part, length-pairs, owned_with, pairs_own, put_into_ring}
 use Rattle.transformations.specs.History.{begun, empty_image, is_command, most_epochs, next_image}
 use Rattle.transformations.specs.Orders.{by_name, by_node, by_token}
-use Rattle.transformations.specs.Refusals.{most_keyspaces, early_refusal_of, prepared_by, with_movement}
+use Rattle.transformations.specs.Refusals.{keyspace_row, most_keyspaces, early_refusal_of, prepared_by, with_movement}
 use Rattle.transformations.specs.Movements.{at_phase, finished, join_of, leave_of, leaver, move_of, movement_of, others, owned, pairs_of, replace_of, same_phase, sequences_after_cancel, takes_part}
 use Rattle.transformations.specs.Valid.{IsMovement, IsSound, brought, brought_by, is_standing}
 use Rattle.transformations.specs.declared.command.Command.{Command}
@@ -173,7 +173,7 @@ sound_keyspaces image keyspaces few up h below_limit =
 sound_keyspace : (image : Image) (name : List ℕ) (replication : Replication) → IsSound image → early_refusal_of image (Keyspace name replication) ≡ None → image.epoch < most_epochs → IsSound (next_image image (Keyspace name replication))
 unfolding next_image
 sound_keyspace image name replication h none below_limit =
-    let row : KeyspaceRow = record { name = name; replication = replication } in
+    let row : KeyspaceRow = keyspace_row name replication in
     sound_keyspaces image (put by_name row image.keyspaces) (few_put row image.keyspaces h.keyspaces h.few_keyspaces (keyspace_accepted image name replication none))
     (put_sorted by_name by_name_total row image.keyspaces h.keyspaces) h below_limit
 

@@ -1,15 +1,17 @@
 -- The commands that are accepted keep an image valid: no two of its movements overlap afterwards.
-use Rattle.std.proofs.Common.{◌≡◌, ℕ, ◌+◌, ◌<◌, Bool, true, false, not, ◌==◌, ℤ, List, [], ◌∷◌, map, Some, None, refl, sym, subst, ◌&&◌}
+use Rattle.std.proofs.Common.{◌≡◌, ℕ, ◌+◌, ◌<◌, Bool, true, false, not, ◌==◌, ℤ, List, [], ◌∷◌, filter, map, Some, None, refl, sym, subst, ◌&&◌}
 use Rattle.std.proofs.lemmas.Bool.{not-true}
 use Rattle.std.proofs.lemmas.Map.Keys.{IsDistinct-IsPermutation, IsDistinct-cons}
 use Rattle.std.specs.List.{AllByRecursion, IsDistinct, list_any}
+use Rattle.std.specs.Str.{bytes_eq}
 use Rattle.cluster_terms.specs.Arc.{IsToken}
-use Rattle.transformations.proofs.commands.AcceptedLemmas.{drop_keyspace_idle, early_accepted, keyspace_idle, unsafe_join_idle}
+use Rattle.transformations.proofs.commands.AcceptedLemmas.{early_accepted, keyspace_unlocked, unsafe_join_idle}
 use Rattle.transformations.proofs.ranges.MovementsApart.{both_at, both_flips, distinct_alike, distinct_map, pairs_from_distinct}
 use Rattle.transformations.proofs.movements.DoneLemmas.{done}
 use Rattle.transformations.proofs.ranges.KeptRanges.{IsKept, both_kept, ranges_alike}
 use Rattle.transformations.proofs.ranges.KeptNodes.{kept_register, kept_unregister}
 use Rattle.transformations.proofs.ranges.KeptSteps.{kept_phase}
+use Rattle.transformations.proofs.ranges.KeyspacesApart.{apart_fewer, apart_later, apart_unlocked}
 use Rattle.transformations.proofs.lists.ListLemmas.{all_filter, all_weaker, part_distinct, part_filter}
 use Rattle.transformations.proofs.movements.MovementLemmas.{phase_moved, sequences_put}
 use Rattle.transformations.proofs.ranges.PreparedLemmas.{apart_begun, kept_begun, new_movement}
@@ -17,12 +19,13 @@ use Rattle.transformations.proofs.ranges.RangesKept.{apart_at, cancel_by, finish
 use Rattle.transformations.proofs.histories.SoundLemmas.{sound_empty, sound_next}
 use Rattle.transformations.specs.History.{begun, empty_image, is_command, most_epochs, next_image}
 use Rattle.transformations.specs.Ranges.{AreApart}
-use Rattle.transformations.specs.Refusals.{prepared_by, refusal_of}
+use Rattle.transformations.specs.Refusals.{keyspace_row, prepared_by, refusal_of, with_keyspace}
 use Rattle.transformations.specs.Movements.{at_phase, join_of, leave_of, move_of, others, replace_of}
 use Rattle.transformations.specs.Valid.{IsValid}
 use Rattle.transformations.specs.declared.command.Command.{Command}
 use Rattle.transformations.specs.declared.command.Command.TheVariants.{Register, Unregister, UnsafeJoin, Keyspace, DropKeyspace, PrepareJoin, PrepareMove, PrepareLeave, PrepareReplace, Step, Cancel}
 use Rattle.transformations.specs.declared.image.Image.{Image}
+use Rattle.transformations.specs.declared.keyspace.KeyspaceRow.{KeyspaceRow}
 use Rattle.transformations.specs.declared.sequence.Goal.{Goal}
 use Rattle.transformations.specs.declared.sequence.Goal.TheVariants as goal
 use Rattle.transformations.specs.declared.sequence.Kind.{Kind}
@@ -110,8 +113,11 @@ apart_next image (Unregister n) h right none =
     apart_same image (next_image image (Unregister n)) refl refl h (λ x token. kept_unregister image n h.sound (early_accepted image (Unregister n) none) x)
 apart_next image (UnsafeJoin n tokens) h right none = apart_none (next_image image (UnsafeJoin n tokens)) (unsafe_join_idle image n tokens (early_accepted image (UnsafeJoin n tokens) none))
 apart_next image (Keyspace name replication) h right none =
-    apart_none (next_image image (Keyspace name replication)) (keyspace_idle image name replication (early_accepted image (Keyspace name replication) none))
-apart_next image (DropKeyspace name) h right none = apart_none (next_image image (DropKeyspace name)) (drop_keyspace_idle image name (early_accepted image (DropKeyspace name) none))
+    let row : KeyspaceRow = keyspace_row name replication in
+    apart_later (with_keyspace image row) (image.epoch + 1) (apart_unlocked image row h.sound (keyspace_unlocked image name replication none))
+apart_next image (DropKeyspace name) h right none =
+    let rest : List KeyspaceRow = filter (λ (row : KeyspaceRow). not (bytes_eq row.name name)) image.keyspaces in
+    apart_later (record image { keyspaces = rest }) (image.epoch + 1) (apart_fewer image rest (part_filter (λ (row : KeyspaceRow). not (bytes_eq row.name name)) image.keyspaces) h.apart)
 apart_next image (PrepareJoin n tokens) h right none = apart_prepared image (PrepareJoin n tokens) (join_of n tokens) h right none refl
 apart_next image (PrepareMove n t) h right none = apart_prepared image (PrepareMove n t) (move_of image.tokens n t) h right none refl
 apart_next image (PrepareLeave n) h right none = apart_prepared image (PrepareLeave n) (leave_of image.tokens n) h right none refl

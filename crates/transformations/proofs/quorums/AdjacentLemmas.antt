@@ -1,24 +1,29 @@
 -- Quorums of adjacent movement epochs meet.
 use Rattle.std.proofs.Common.{◌≡◌, ℕ, ◌+◌, ◌<◌, ◌≤◌, Bool, true, false, not, true≢false, ◌==◌, ℤ, [], ◌∷◌, ◌++◌, filter, length, map, Option, Some, None, is_some, option_and_then, if◌then◌else◌, inl, refl, sym, ap, ◌∙◌, subst}
-use Rattle.std.proofs.lemmas.Bool.{and_parts, false≢true, not-false}
-use Rattle.std.specs.List.{AllByRecursion}
+use Rattle.std.proofs.lemmas.Bool.{and_parts, false≢true, not-false, not-true}
+use Rattle.std.specs.List.{AllByRecursion, Contains}
+use Rattle.std.specs.Str.{bytes_eq}
 use Rattle.cluster_terms.specs.Arc.{IsToken}
+use Rattle.cluster_terms.specs.Ascending.{put}
 use Rattle.cluster_terms.specs.Replication.{IsReplication, total_of}
 use Rattle.cluster_terms.specs.declared.node.NodeRow.{NodeRow}
 use Rattle.transformations.proofs.commands.AcceptedLemmas.{early_accepted, none_of, test_false}
+use Rattle.transformations.proofs.commands.KeyspacesAfter.{keyspace_stays}
 use Rattle.transformations.proofs.quorums.FinishedSets.{share_done}
 use Rattle.transformations.proofs.ranges.KeptNodes.{remaining_rows, standing_rows}
-use Rattle.transformations.proofs.lists.ListLemmas.{all_both, all_weaker}
+use Rattle.transformations.proofs.lists.ContainsLemmas.{all_contained, holds_of}
+use Rattle.transformations.proofs.lists.ListLemmas.{all_weaker}
 use Rattle.transformations.proofs.quorums.MeetingLemmas.{exist_at, meet_at, reads_few}
 use Rattle.transformations.proofs.ranges.PreparedLemmas.{new_movement}
 use Rattle.transformations.proofs.ranges.RangesKept.{own_found}
-use Rattle.transformations.proofs.quorums.SameSets.{ShareSets, near, share_begun, share_reads, share_rows, share_without, share_writes}
+use Rattle.transformations.proofs.quorums.SameSets.{ShareSets, near, share_begun, share_keyspaces, share_reads, share_rows, share_without, share_writes}
 use Rattle.transformations.proofs.quorums.ServedLemmas.{IsServed, served}
 use Rattle.transformations.proofs.movements.SoleLemmas.{only_own}
 use Rattle.transformations.proofs.histories.ValidLemmas.{valid_next}
-use Rattle.transformations.specs.History.{is_command, most_epochs, next_image}
-use Rattle.transformations.specs.Meeting.{AreWritten, ExistAt, HaveReplications, MeetAt, QuorumsMeet, makes_movement_epoch}
-use Rattle.transformations.specs.Refusals.{early_refusal_of, no_node, no_sequence, refusal_of, unless_next, wrong_step}
+use Rattle.transformations.specs.History.{changes_keyspace, is_command, most_epochs, next_image}
+use Rattle.transformations.specs.Meeting.{AreWritten, ExistAt, HaveReplications, MeetAt, QuorumsMeet, QuorumsMeetAcross, is_unsafe_join}
+use Rattle.transformations.specs.Orders.{by_name}
+use Rattle.transformations.specs.Refusals.{early_refusal_of, keyspace_row, no_node, no_sequence, refusal_of, unless_next, wrong_step}
 use Rattle.transformations.specs.Rings.{is_mid, has_started, reads_at}
 use Rattle.transformations.specs.Movements.{at_phase, finished, is_next_step, join_of, leave_of, move_of, movement_of, others, phase_before, replace_of, same_kind, same_phase, sequences_after_cancel}
 use Rattle.transformations.specs.Valid.{IsSound, IsValid}
@@ -95,7 +100,7 @@ each_own P image n s h found here =
     all_weaker (λ (q : SeqRow). (q.node == n) ≡ true → q ≡ s) (λ (q : SeqRow). (q.node == n) ≡ true → P q) (λ q is own. subst P (sym (is own)) here) image.sequences
     (only_own n image.sequences s h.movements found)
 
--- ---- commands that make movement epochs
+-- ---- commands that give no tokens at once
 
 share_step : (image : Image) (g : Goal) (kind : Kind) (n : ℕ) → IsSound image → early_refusal_of image (Step g kind n) ≡ None → ShareSets image (next_image image (Step g kind n))
 unfolding next_image
@@ -123,16 +128,16 @@ share_cancel image n h none =
     by s found true e = share_writes Started image n (image.epoch + 1) (each_own (λ q. has_started q.phase ≡ has_started Started) image n s h found (at_started s.phase e))
     by s found false e = share_without image (image.epoch + 1) n (each_own (λ q. is_mid q.phase ≡ false) image n s h found (not_half_way s.phase e))
 
-share_next : (image : Image) (c : Command) → IsSound image → is_command c ≡ true → refusal_of image c ≡ None → makes_movement_epoch c ≡ true → ShareSets image (next_image image c)
+share_next : (image : Image) (c : Command) → IsSound image → is_command c ≡ true → refusal_of image c ≡ None → is_unsafe_join c ≡ false → ShareSets image (next_image image c)
 unfolding next_image
 share_next image (Register name dc rack) h right none is =
     let row : NodeRow = record { id = image.next; name = name; dc = dc; rack = rack; left = false } in
     share_rows image (image.epoch + 1) (image.next + 1) (image.nodes ++ row ∷ []) (standing_rows image (row ∷ []) h)
 share_next image (Unregister n) h right none is =
     share_rows image (image.epoch + 1) image.next (filter (λ (row : NodeRow). not (row.id == n)) image.nodes) (remaining_rows image n h (early_accepted image (Unregister n) none))
-share_next image (UnsafeJoin n tokens) h right none is = absurd (false≢true is)
-share_next image (Keyspace name replication) h right none is = absurd (false≢true is)
-share_next image (DropKeyspace name) h right none is = absurd (false≢true is)
+share_next image (UnsafeJoin n tokens) h right none is = absurd (true≢false is)
+share_next image (Keyspace name replication) h right none is = share_keyspaces image (image.epoch + 1) (put by_name (keyspace_row name replication) image.keyspaces)
+share_next image (DropKeyspace name) h right none is = share_keyspaces image (image.epoch + 1) (filter (λ (row : KeyspaceRow). not (bytes_eq row.name name)) image.keyspaces)
 share_next image (PrepareJoin n tokens) h right none is = share_begun image (join_of n tokens) (new_movement image (PrepareJoin n tokens) (join_of n tokens) h right none refl) refl
 share_next image (PrepareMove n t) h right none is = share_begun image (move_of image.tokens n t) (new_movement image (PrepareMove n t) (move_of image.tokens n t) h right none refl) refl
 share_next image (PrepareLeave n) h right none is = share_begun image (leave_of image.tokens n) (new_movement image (PrepareLeave n) (leave_of image.tokens n) h right none refl) refl
@@ -140,27 +145,6 @@ share_next image (PrepareReplace n gone) h right none is =
     share_begun image (replace_of image.tokens n gone) (new_movement image (PrepareReplace n gone) (replace_of image.tokens n gone) h right none refl) refl
 share_next image (Step g kind n) h right none is = share_step image g kind n h (early_accepted image (Step g kind n) none)
 share_next image (Cancel n) h right none is = share_cancel image n h (early_accepted image (Cancel n) none)
-
--- the keyspaces stay
-pub same_keyspaces : (image : Image) (c : Command) → makes_movement_epoch c ≡ true → (next_image image c).keyspaces ≡ image.keyspaces
-unfolding next_image
-same_keyspaces image (Register name dc rack) is = refl
-same_keyspaces image (Unregister n) is = refl
-same_keyspaces image (UnsafeJoin n tokens) is = absurd (false≢true is)
-same_keyspaces image (Keyspace name replication) is = absurd (false≢true is)
-same_keyspaces image (DropKeyspace name) is = absurd (false≢true is)
-same_keyspaces image (PrepareJoin n tokens) is = refl
-same_keyspaces image (PrepareMove n t) is = refl
-same_keyspaces image (PrepareLeave n) is = refl
-same_keyspaces image (PrepareReplace n gone) is = refl
-same_keyspaces image (Step goal.Start kind n) is = refl
-same_keyspaces image (Step goal.Mid kind n) is = refl
-same_keyspaces image (Step goal.Finish kind n) is = by (movement_of image n)
-  where
-    by : (o : Option SeqRow) → (finished image o).keyspaces ≡ image.keyspaces
-    by None = refl
-    by (Some s) = refl
-same_keyspaces image (Cancel n) is = refl
 
 -- ---- the law
 
@@ -177,18 +161,24 @@ pub each_exist : (image : Image) → IsValid image → (x : ℤ) → IsToken x �
 each_exist image h x token =
     all_weaker (λ (k : KeyspaceRow). IsServed image k.replication x) (λ (k : KeyspaceRow). ExistAt image k.replication x) (λ k s. exist_at image k.replication x s) image.keyspaces (served image h x token)
 
--- two valid images with the same keyspaces, which share sets
-meet_sharing : (image after : Image) → IsValid image → IsValid after → after.keyspaces ≡ image.keyspaces → HaveReplications image → ShareSets image after → QuorumsMeet image after
-meet_sharing image after h later same valid share = λ x token.
-    all_both (λ (k : KeyspaceRow). IsServed image k.replication x × IsServed after k.replication x) (λ (k : KeyspaceRow). IsReplication k.replication) (λ (k : KeyspaceRow). MeetAt image after k.replication x)
-    (λ k s r. meet_at image after k.replication x (near image after k.replication x s.0 s.1 (share k.replication x)) s.0 s.1 r) image.keyspaces
-    (all_both (λ (k : KeyspaceRow). IsServed image k.replication x) (λ (k : KeyspaceRow). IsServed after k.replication x) (λ (k : KeyspaceRow). IsServed image k.replication x × IsServed after k.replication x)
-    (λ k s t. (s, t)) image.keyspaces (served image h x token) (subst (λ ks. AllByRecursion (λ (k : KeyspaceRow). IsServed after k.replication x) ks) same (served after later x token)))
-    valid
+-- two valid images that share sets, under a keyspace of both
+meet_sharing : (image after : Image) → IsValid image → IsValid after → HaveReplications image → ShareSets image after → (k : KeyspaceRow) → Contains image.keyspaces k → Contains after.keyspaces k
+    → (x : ℤ) → IsToken x → MeetAt image after k.replication x
+meet_sharing image after h later valid share k there stays x token =
+    let s : IsServed image k.replication x = holds_of (λ (k : KeyspaceRow). IsServed image k.replication x) image.keyspaces k (served image h x token) there in
+    let t : IsServed after k.replication x = holds_of (λ (k : KeyspaceRow). IsServed after k.replication x) after.keyspaces k (served after later x token) stays in
+    meet_at image after k.replication x (near image after k.replication x s t (share k.replication x)) s t (holds_of (λ (k : KeyspaceRow). IsReplication k.replication) image.keyspaces k valid there)
 
 pub meet_itself : (image : Image) → IsValid image → HaveReplications image → QuorumsMeet image image
-meet_itself image h valid = meet_sharing image image h h refl valid (λ r x. inl (record { reads = refl; places = λ dc v there. refl }))
+meet_itself image h valid = λ x token.
+    all_contained (λ (k : KeyspaceRow). MeetAt image image k.replication x) image.keyspaces
+    (λ k there. meet_sharing image image h h valid (λ r x. inl (record { reads = refl; places = λ dc v there. refl })) k there there x token)
 
-pub meet_next : (image : Image) (c : Command) → IsValid image → HaveReplications image → is_command c ≡ true → refusal_of image c ≡ None → makes_movement_epoch c ≡ true → image.epoch < most_epochs → QuorumsMeet image (next_image image c)
-meet_next image c h valid right none is below_limit =
-    meet_sharing image (next_image image c) h (valid_next image c h right none below_limit) (same_keyspaces image c is) valid (share_next image c h.sound right none is)
+pub meet_next : (image : Image) (c : Command) → IsValid image → HaveReplications image → is_command c ≡ true → refusal_of image c ≡ None → image.epoch < most_epochs → QuorumsMeetAcross image c
+meet_next image c h valid right none below_limit = λ k there moves.
+    let parts = and_parts (not (is_unsafe_join c)) (not (changes_keyspace k.name c)) moves in
+    let stays = keyspace_stays image c k there (not-true (changes_keyspace k.name c) parts.1) in
+    record {
+      stays = stays;
+      meet = meet_sharing image (next_image image c) h (valid_next image c h right none below_limit) valid (share_next image c h.sound right none (not-true (is_unsafe_join c) parts.0)) k there stays;
+    }

@@ -27,6 +27,7 @@ use Rattle.transformations.specs.Orders.{by_node}
 use Rattle.transformations.specs.Rings.{incoming, is_mid, has_started, outgoing, read_ring, reads_at, replaced, widest, writes_at}
 use Rattle.transformations.specs.Movements.{at_phase, others}
 use Rattle.transformations.specs.declared.image.Image.{Image}
+use Rattle.transformations.specs.declared.keyspace.KeyspaceRow.{KeyspaceRow}
 use Rattle.transformations.specs.declared.sequence.Phase.{Phase}
 use Rattle.transformations.specs.declared.sequence.SeqRow.{SeqRow}
 
@@ -55,6 +56,12 @@ near image after r x s t (inr same) = record {
   back = λ v here. sym (ap (λ l. has l v) same.writes) ∙ s.written v here;
   places = λ dc v here. ap (λ nodes. is_in nodes dc v) same.nodes;
 }
+
+-- ---- other keyspaces
+
+pub share_keyspaces : (image : Image) (epoch : ℕ) (keyspaces : List KeyspaceRow) → ShareSets image (record image { epoch = epoch; keyspaces = keyspaces })
+unfolding writes_at
+share_keyspaces image epoch keyspaces r x = inr (record { writes = refl; nodes = refl })
 
 -- ---- other nodes
 

@@ -1,8 +1,10 @@
 -- The commands that are accepted keep the ranges of the movements that go on.
-use Rattle.std.proofs.Common.{◌≡◌, ℕ, ◌+◌, Bool, true, false, if◌then◌else◌, ◌==◌, ℤ, [], map, find, Option, Some, None, is_some, refl, sym, subst}
+use Rattle.std.proofs.Common.{◌≡◌, ℕ, ◌+◌, Bool, true, false, not, if◌then◌else◌, ◌==◌, ℤ, List, [], filter, map, find, Option, Some, None, is_some, refl, sym, subst}
 use Rattle.std.specs.List.{AllByRecursion, IsDistinct}
+use Rattle.std.specs.Str.{bytes_eq}
 use Rattle.cluster_terms.specs.Arc.{IsToken}
-use Rattle.transformations.proofs.commands.AcceptedLemmas.{drop_keyspace_idle, early_accepted, keyspace_idle, same_id, unsafe_join_idle}
+use Rattle.cluster_terms.specs.Ascending.{put}
+use Rattle.transformations.proofs.commands.AcceptedLemmas.{early_accepted, same_id, unsafe_join_idle}
 use Rattle.transformations.proofs.ranges.MovementsApart.{both_at, both_flips, distinct_from_pairs, found_apart}
 use Rattle.transformations.proofs.movements.DoneLemmas.{done}
 use Rattle.transformations.proofs.ranges.KeptRanges.{IsKept, keeps, keeps_all, ranges_alike}
@@ -13,8 +15,9 @@ use Rattle.transformations.proofs.movements.MovementLemmas.{still_other}
 use Rattle.transformations.proofs.movements.MovesOn.{MoveOn, on_none, on_others, on_phase, on_put, on_same}
 use Rattle.transformations.proofs.ranges.PreparedLemmas.{kept_begun, new_movement}
 use Rattle.transformations.specs.History.{begun, is_command, next_image}
+use Rattle.transformations.specs.Orders.{by_name}
 use Rattle.transformations.specs.Ranges.{KeepsRanges, in_both, in_ranges}
-use Rattle.transformations.specs.Refusals.{prepared_by, refusal_of}
+use Rattle.transformations.specs.Refusals.{keyspace_row, prepared_by, refusal_of}
 use Rattle.transformations.specs.Movements.{at_phase, finished, join_of, leave_of, move_of, movement_of, others, replace_of, same_phase, sequences_after_cancel}
 use Rattle.transformations.specs.Valid.{IsValid}
 use Rattle.transformations.specs.declared.command.Command.{Command}
@@ -94,13 +97,16 @@ cancel_by P image n epoch none back some = by (movement_of image n) refl
         let own = own_found image n s found in
         either (same_phase s.phase Mid) (subst (λ k. P (record image { epoch = epoch; sequences = others image.sequences k })) own.0 (some s own.1))
 
--- the epoch is of no account
-pub kept_later : (image : Image) (epoch : ℕ) (x : ℤ) → AllByRecursion (IsKept image (record image { epoch = epoch }) x) image.sequences
-kept_later image epoch x =
-    let after : Image = record image { epoch = epoch } in
+-- the epoch and the keyspaces are of no account
+kept_under : (image : Image) (epoch : ℕ) (keyspaces : List KeyspaceRow) (x : ℤ) → AllByRecursion (IsKept image (record image { epoch = epoch; keyspaces = keyspaces }) x) image.sequences
+kept_under image epoch keyspaces x =
+    let after : Image = record image { epoch = epoch; keyspaces = keyspaces } in
     all_each (IsKept image after x)
     (λ s. all_each (λ (k : KeyspaceRow). in_ranges image k.replication s x ≡ in_ranges after k.replication s x) (λ k. ranges_alike image after k.replication x s s refl refl refl refl) image.keyspaces)
     image.sequences
+
+pub kept_later : (image : Image) (epoch : ℕ) (x : ℤ) → AllByRecursion (IsKept image (record image { epoch = epoch }) x) image.sequences
+kept_later image epoch x = kept_under image epoch image.keyspaces x
 
 -- ---- commands
 
@@ -125,6 +131,10 @@ keeps_begun : (image : Image) (c : Command) (j : SeqRow) → IsValid image → i
 keeps_begun image c j h right none is =
     keeps_all image (begun image j) (on_put j image.sequences (new_movement image c j h.sound right none is) h.sound.movements) (kept_begun image c j h.sound right none is)
 
+keeps_keyspaces : (image : Image) (keyspaces : List KeyspaceRow) → IsValid image → KeepsRanges image (record image { epoch = image.epoch + 1; keyspaces = keyspaces })
+keeps_keyspaces image keyspaces h =
+    keeps_all image (record image { epoch = image.epoch + 1; keyspaces = keyspaces }) (on_same image.sequences h.sound.movements) (λ x token. kept_under image (image.epoch + 1) keyspaces x)
+
 keeps_idle : (image after : Image) → image.sequences ≡ [] → KeepsRanges image after
 keeps_idle image after none = keeps_all image after (on_none image.sequences after.sequences none) (λ x token. all_none (IsKept image after x) image.sequences none)
 
@@ -135,9 +145,8 @@ ranges_kept image (Register name dc rack) h right none =
 ranges_kept image (Unregister n) h right none =
     keeps_all image (next_image image (Unregister n)) (on_same image.sequences h.sound.movements) (λ x token. kept_unregister image n h.sound (early_accepted image (Unregister n) none) x)
 ranges_kept image (UnsafeJoin n tokens) h right none = keeps_idle image (next_image image (UnsafeJoin n tokens)) (unsafe_join_idle image n tokens (early_accepted image (UnsafeJoin n tokens) none))
-ranges_kept image (Keyspace name replication) h right none =
-    keeps_idle image (next_image image (Keyspace name replication)) (keyspace_idle image name replication (early_accepted image (Keyspace name replication) none))
-ranges_kept image (DropKeyspace name) h right none = keeps_idle image (next_image image (DropKeyspace name)) (drop_keyspace_idle image name (early_accepted image (DropKeyspace name) none))
+ranges_kept image (Keyspace name replication) h right none = keeps_keyspaces image (put by_name (keyspace_row name replication) image.keyspaces) h
+ranges_kept image (DropKeyspace name) h right none = keeps_keyspaces image (filter (λ (row : KeyspaceRow). not (bytes_eq row.name name)) image.keyspaces) h
 ranges_kept image (PrepareJoin n tokens) h right none = keeps_begun image (PrepareJoin n tokens) (join_of n tokens) h right none refl
 ranges_kept image (PrepareMove n t) h right none = keeps_begun image (PrepareMove n t) (move_of image.tokens n t) h right none refl
 ranges_kept image (PrepareLeave n) h right none = keeps_begun image (PrepareLeave n) (leave_of image.tokens n) h right none refl

@@ -1,9 +1,7 @@
-use Rattle.std.proofs.Common.{◌≡◌, ℕ, ◌+◌, ◌≤◌, true, List, drop, Option, None, Some, IfSome, ⊎_elim, sym, ◌∙◌, ap, subst}
-use Rattle.std.proofs.lemmas.Bool.{cases_Bool}
+use Rattle.std.proofs.Common.{◌≡◌, ℕ, ◌+◌, ◌≤◌, List, drop, Option, None, Some, IfSome, sym, ◌∙◌, ap, subst}
 use Rattle.durable_log.specs.declared.scan.RecordHeader.{RecordHeader}
-use Rattle.durable_log.specs.Records.{is_whole, record_len}
 use Rattle.durable_log.specs.code.Ends.{IsFront}
-use Rattle.durable_log.specs.code.Headers.{header_len, header_of, whole_header}
+use Rattle.durable_log.specs.code.Headers.{header_len, whole_header}
 use Rattle.durable_log.proofs.Fronts.{front_more}
 use Rattle.durable_log.proofs.Headers.{whole_some}
 use Rattle.durable_log.proofs.Moments.{same_again}

@@ -1,27 +1,19 @@
-use Rattle.std.proofs.Common.{None, Some, refl, ap, ◌∙◌}
-use Rattle.std.specs.Option.{option_copied}
-use Rattle.std.specs.Prelude.{map, string_bytes}
-use Rattle.tcm_session.proofs.runs.LeftLemmas.{named_files}
-use Rattle.tcm_session.proofs.log_files.ReplayRuns.{runs_others}
-use Rattle.tcm_session.proofs.runs.RunLemmas.{named_file, runs_commit, runs_unloaded}
+use Rattle.std.proofs.Common.{refl, sym}
+use Rattle.tcm_session.specs.Outcomes.{outcome, usage_end}
+use Rattle.tcm_session.specs.declared.run_fault.RunFault.TheVariants as fault
+use Rattle.tcm_session.proofs.log_files.EndedRuns.{ends_alone, runs_ended, runs_unended}
+use Rattle.tcm_session.proofs.runs.RunLemmas.{memory_not_source}
 use Rattle.tcm_session.proofs.program.answer_words.Goals as goal
 
-pub returns-in-Some-None-clause-runs : goal.returns-in-Some-None-clause-runs
-returns-in-Some-None-clause-runs g c =
-    let words = map string_bytes c.args.words.now in
-    let said = c.in-Some-None.ensures in
-    let file = said.1 ∙ ap option_copied c.in-Some-None.field-0-is in
-    runs_commit _ _ _ _ _ _ _ words None _ _ _ said.0 file (λ o printed ended left. named_files words None _ _ (named_file words None said.0 file) o printed ended left.adds)
-    (runs_unloaded _ _ _ _ _ _ _ _ _ _ c.commit.ensures.runs)
+pub returns-in-Some-clause-runs : goal.returns-in-Some-clause-runs
+returns-in-Some-clause-runs g c = rw (sym c.in-Some.ensures.is) c.answer.ensures.runs
 
-pub returns-in-Some-Some-clause-runs : goal.returns-in-Some-Some-clause-runs
-returns-in-Some-Some-clause-runs g c =
-    let words = map string_bytes c.args.words.now in
-    let said = c.in-Some-Some.ensures in
-    let name = Some c.in-Some-Some.name.now in
-    let file = said.1 ∙ ap option_copied c.in-Some-Some.field-0-is in
-    runs_commit _ _ _ _ _ _ _ words name _ _ _ said.0 file (named_files words name _ _ (named_file words name said.0 file)) c.commit_to.ensures.runs
+pub returns-in_err-usage-in-None-clause-runs : goal.returns-in_err-usage-in-None-clause-runs
+unfolding outcome
+returns-in_err-usage-in-None-clause-runs g c =
+    rw (sym c.in-None.ensures.is) (runs_unended (λ _. usage_end) _ _ _ _ _ c.from_residual.result fault.Memory memory_not_source c.from_residual.ensures.1 refl)
 
-pub returns-in-None-clause-runs : goal.returns-in-None-clause-runs
-returns-in-None-clause-runs g c =
-    runs_others _ _ c.args.input.now _ _ _ _ _ _ refl refl c.answer_others.result c.in-None.ensures c.answer_others.ensures.writes c.answer_others.ensures.cause c.answer_others.ensures.ended c.answer_others.ensures.files
+pub returns-in_ok-usage-in-None-clause-runs : goal.returns-in_ok-usage-in-None-clause-runs
+unfolding outcome
+returns-in_ok-usage-in-None-clause-runs g c =
+    rw (sym c.in-None.ensures.is) (runs_ended (λ _. usage_end) _ _ c.print.result (ends_alone _ _ _ c.in_ok-usage-in-None.ensures) (λ seen. refl) c.print.ensures.status _ _ _ _ _ _ _ refl refl refl c.print.ensures.writes)

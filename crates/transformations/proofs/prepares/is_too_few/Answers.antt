@@ -10,4 +10,4 @@ returns-in-Topology c =
     let n = c.args.n in
     c.is_short_in_any.ensures
     ∙ ap (list_any (λ (f : List ℕ × ℕ). is_short_at image n (Some f.0) f.1)) c.rows.ensures.rows
-    ∙ few_topology image n c.args.row.now c.in-Topology.factors c.in-Topology.is
+    ∙ few_topology image n c.args.replication.now c.in-Topology.factors c.in-Topology.is

@@ -1,16 +1,16 @@
-use Rattle.std.proofs.Common.{◌≡◌, MatchResult, None, Option, Some, subst}
+use Rattle.std.proofs.Common.{◌≡◌, MatchResult, None, Option, Some, refl, subst}
 use Rattle.std.proofs.lemmas.Result.{IfOk-weaker}
 use Rattle.transformations.specs.Refusals.{prepared_by}
 use Rattle.transformations.specs.declared.refusal.Refusal.{Refusal}
 use Rattle.cluster_metadata.proofs.in_flight.PrepareLemmas.{prepared_new, prepared_replicated, prepares}
-use Rattle.cluster_metadata.proofs.locks.LockRefusals.{none_later, prepared_locked}
+use Rattle.cluster_metadata.proofs.locks.LockRefusals.{dropped_accepted, none_later, off_keyspaces, prepared_locked}
 use Rattle.cluster_metadata.specs.Permission.{ShowsRefusal}
 use Rattle.cluster_metadata.proofs.changes.command_change.change_of.Goals as goal
 
 pub prepare-requires-clause-new : goal.prepare-requires-clause-new
 prepare-requires-clause-new g c =
     let prepared : prepared_by c.args.image.now.tokens c.args.cmd.now ≡ Some c.in-Some.row = cc c.in_ok-row.ensures.row in
-    prepared_new _ _ _ c.requires.sound c.requires.formed c.requires.early prepared
+    prepared_new _ _ _ c.requires.valid.sound c.requires.formed c.requires.early prepared
 
 pub returns-in-Some-clause-change : goal.returns-in-Some-clause-change
 returns-in-Some-clause-change g c =
@@ -28,7 +28,16 @@ returns-in-Some-clause-refusal g c =
     let same = prepared_locked _ _ _ c.requires.early prepared in
     subst (λ (r : Option Refusal). MatchResult c.prepare.result (λ _. r ≡ None) (ShowsRefusal r)) same c.prepare.ensures.refusal
 
-pub returns-clause-refusal : goal.returns-clause-refusal
-returns-clause-refusal g c =
+pub returns-in_ok-drop_keyspace-in-DropKeyspace-clause-refusal : goal.returns-in_ok-drop_keyspace-in-DropKeyspace-clause-refusal
+returns-in_ok-drop_keyspace-in-DropKeyspace-clause-refusal g c = rw c.in-DropKeyspace.is (dropped_accepted _ _ (rw c.in-DropKeyspace.is at c.requires.early))
+
+pub returns-in_ok-change_at_once-in_default-cmd : goal.returns-in_ok-change_at_once-in_default-cmd
+returns-in_ok-change_at_once-in_default-cmd g c =
     let unprepared : prepared_by c.args.image.now.tokens c.args.cmd.now ≡ None = cc (c.in_ok-row.ensures.row, c.in_default.is) in
-    none_later _ _ unprepared c.requires.early
+    let other = off_keyspaces c.args.cmd.now c.in_default-cmd.not-Keyspace c.in_default-cmd.not-DropKeyspace in
+    record {
+      change = c.in_ok-change_at_once-in_default-cmd.ensures.change;
+      replicated = c.in_ok-change_at_once-in_default-cmd.ensures.replicated;
+      refusal = none_later _ _ unprepared other c.requires.early;
+      uncounted = λ none. refl;
+    }

@@ -1,8 +1,11 @@
-use Rattle.std.proofs.Common.{◌≡◌, true, subst, sym}
+use Rattle.std.proofs.Common.{◌≡◌, true, false, subst, sym}
+use Rattle.std.specs.List.{Contains}
 use Rattle.transformation_laws.proofs.cut_changes.CutsFollowed.{same_across}
-use Rattle.transformations.specs.Meeting.{QuorumsMeet, makes_movement_epoch}
+use Rattle.transformations.specs.Meeting.{MeetsAfter, is_unsafe_join, makes_movement_epoch}
 use Rattle.transformations.specs.Ranges.{KeepsRanges}
 use Rattle.transformations.specs.Valid.{IsValid}
+use Rattle.transformations.specs.declared.image.Image.{Image}
+use Rattle.transformations.specs.declared.keyspace.KeyspaceRow.{KeyspaceRow}
 use Rattle.cluster_metadata.proofs.map_changes.DeltasAcross.{deltas_across}
 use Rattle.cluster_metadata.proofs.locks.LockPlaces.{locks_named}
 use Rattle.cluster_metadata.proofs.locks.LocksKept.{locks_held}
@@ -79,17 +82,17 @@ returns-clause-ranges c =
 
 pub returns-clause-meets : goal.returns-clause-meets
 returns-clause-meets c =
-    subst (λ i. makes_movement_epoch c.args.permit.command ≡ true → QuorumsMeet i c.make.new.image) c.self.view_is
+    subst (λ (i : Image). (k : KeyspaceRow) → Contains i.keyspaces k → makes_movement_epoch k.name c.args.permit.command ≡ true → MeetsAfter i c.make.new.image k) c.self.view_is
     (quorums_meet c.self.inside.image c.make.new.image _ _ (permitted c) c.make.ensures.made c.self.invariant.valid c.self.invariant.replications)
 
 pub returns-clause-acts : goal.returns-clause-acts
 returns-clause-acts c =
-    subst (λ i. makes_movement_epoch c.args.permit.command ≡ true → ActsByDelta i c.make.new.image c.args.permit.command) c.self.view_is
+    subst (λ i. ActsByDelta i c.make.new.image c.args.permit.command) c.self.view_is
     (acts_by_delta c.self.inside.image c.make.new.image _ _ (permitted c) c.make.ensures.made c.self.invariant.valid)
 
 pub returns-clause-cuts : goal.returns-clause-cuts
 returns-clause-cuts c =
-    subst (λ i. makes_movement_epoch c.args.permit.command ≡ true → CutsMove i c.make.new.image c.args.permit.command) c.self.view_is
+    subst (λ i. is_unsafe_join c.args.permit.command ≡ false → CutsMove i c.make.new.image c.args.permit.command) c.self.view_is
     (cuts_move c.self.inside.image c.make.new.image _ _ (permitted c) c.make.ensures.made c.self.invariant.valid)
 
 pub returns-clause-across : goal.returns-clause-across

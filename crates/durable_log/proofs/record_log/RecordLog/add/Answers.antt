@@ -2,6 +2,12 @@ use Rattle.durable_log.specs.code.Ends.{change_by}
 use Rattle.durable_log.proofs.EndSteps.{either, promised}
 use Rattle.durable_log.proofs.record_log.RecordLog.add.Goals as goal
 
+pub returns-in_err-end-clause-images : goal.returns-in_err-end-clause-images
+returns-in_err-end-clause-images g c =
+    promised g.D.Disk.moment g.D.Disk.image (change_by c.args.kind c.args.name.now c.args.bytes.now)
+    (g.D.Disk.content c.args.self.now.disk) (g.D.Disk.content c.gate.new.self.disk) c.args.self.now.disk c.gate.new.self.disk c.add_record.new.disk
+    c.gate.ensures.files c.gate.ensures.images c.add_record.ensures.images
+
 pub returns-clause-images : goal.returns-clause-images
 returns-clause-images g c =
     promised g.D.Disk.moment g.D.Disk.image (change_by c.args.kind c.args.name.now c.args.bytes.now)

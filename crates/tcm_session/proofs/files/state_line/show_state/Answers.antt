@@ -1,4 +1,4 @@
-use Rattle.tcm_session.proofs.log_files.ReplayRuns.{log_shown}
+use Rattle.tcm_session.proofs.log_files.EndedRuns.{log_shown}
 use Rattle.tcm_session.proofs.files.state_line.show_state.Goals as goal
 
 pub returns-clause-ends : goal.returns-clause-ends

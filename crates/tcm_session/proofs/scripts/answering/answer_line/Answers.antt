@@ -1,7 +1,7 @@
 use Rattle.std.proofs.Common.{◌≡◌, ◌++◌, refl, ap, ◌∙◌}
 use Rattle.script_session.specs.Machine.{reply}
 use Rattle.script_session.specs.declared.fault.StepFault.TheVariants as step
-use Rattle.tcm_session.proofs.log_files.ReplayRuns.{nothing_written}
+use Rattle.tcm_session.proofs.log_files.EndedRuns.{nothing_written}
 use Rattle.tcm_session.proofs.runs.StopLemmas.{on_fault, stopped_step, stopped_write}
 use Rattle.tcm_session.proofs.scripts.answering.answer_line.Goals as goal
 

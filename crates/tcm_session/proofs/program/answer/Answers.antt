@@ -1,0 +1,64 @@
+use Rattle.std.proofs.Common.{None, Some, map, string_bytes, refl}
+use Rattle.tcm_session.specs.Gen.{gen_ending}
+use Rattle.tcm_session.specs.Outcomes.{outcome}
+use Rattle.tcm_session.specs.declared.run_fault.RunFault.TheVariants as fault
+use Rattle.tcm_session.specs.files.Replay.{replay_ending}
+use Rattle.tcm_session.specs.files.StateLine.{snapshot_ending}
+use Rattle.tcm_session.proofs.log_files.EndedRuns.{ended_at_end, ends_alone, replay_ends, runs_ended, runs_unended, snapshot_ends}
+use Rattle.tcm_session.proofs.runs.RunCauses.{not_source}
+use Rattle.tcm_session.proofs.runs.RunLemmas.{memory_not_source, runs_commit, runs_unloaded}
+use Rattle.tcm_session.proofs.program.answer.Goals as goal
+
+pub returns-in-Commit-clause-runs : goal.returns-in-Commit-clause-runs
+unfolding outcome
+returns-in-Commit-clause-runs g c =
+    rw c.in-Commit.is (runs_commit _ _ _ _ _ _ _ None _ _ _ (λ o printed ended left. left.adds) (runs_unloaded _ _ _ _ _ _ _ _ _ _ c.commit.ensures.runs))
+
+pub returns-in-CommitTo-clause-runs : goal.returns-in-CommitTo-clause-runs
+unfolding outcome
+returns-in-CommitTo-clause-runs g c =
+    rw c.in-CommitTo.is (runs_commit _ _ _ _ _ _ _ (Some c.in-CommitTo.log.now) _ _ _ (λ o printed ended left. left) c.commit_to.ensures.runs)
+
+pub returns-in_err-replay_files-in-Replay-clause-runs : goal.returns-in_err-replay_files-in-Replay-clause-runs
+unfolding outcome
+returns-in_err-replay_files-in-Replay-clause-runs g c =
+    let failed = c.in_err-replay_files-in-Replay.ensures in
+    rw c.in-Replay.is (runs_unended (replay_ending _) _ _ _ _ _ c.from_residual.result _ (not_source _ _ _ refl refl failed.cause) c.from_residual.ensures.1 failed.files)
+
+pub returns-in_err-show_state-in-Snapshot-clause-runs : goal.returns-in_err-show_state-in-Snapshot-clause-runs
+unfolding outcome
+returns-in_err-show_state-in-Snapshot-clause-runs g c =
+    let failed = c.in_err-show_state-in-Snapshot.ensures in
+    let passed = c.from_residual-in_err-show_state-in-Snapshot in
+    rw c.in-Snapshot.is (runs_unended (snapshot_ending _ _) _ _ _ _ _ passed.result _ (not_source _ _ _ refl refl failed.cause) passed.ensures.1 failed.files)
+
+pub returns-in_err-count_answers-in-Gen-clause-runs : goal.returns-in_err-count_answers-in-Gen-clause-runs
+unfolding outcome
+returns-in_err-count_answers-in-Gen-clause-runs g c =
+    let passed = c.from_residual-in_err-count_answers-in-Gen in
+    rw c.in-Gen.is (runs_unended (λ _. gen_ending _ _) _ _ _ _ _ passed.result fault.Memory memory_not_source passed.ensures.1 refl)
+
+pub returns-in_ok-replay_files-in-Replay-clause-runs : goal.returns-in_ok-replay_files-in-Replay-clause-runs
+unfolding outcome
+returns-in_ok-replay_files-in-Replay-clause-runs g c =
+    let names = map string_bytes c.in-Replay.files.now in
+    let ended = c.in_ok-replay_files-in-Replay.ensures in
+    rw c.in-Replay.is (runs_ended (replay_ending names) _ _ c.print.result ended.ends (replay_ends names) c.print.ensures.status _ _ _ _ _ _ _ refl refl ended.files c.print.ensures.writes)
+
+pub returns-in_ok-replay_files-in-Replay-clause-ended : goal.returns-in_ok-replay_files-in-Replay-clause-ended
+returns-in_ok-replay_files-in-Replay-clause-ended g c =
+    let names = map string_bytes c.in-Replay.files.now in
+    ended_at_end (replay_ending names) _ _ c.print.result c.in_ok-replay_files-in-Replay.ensures.ends (replay_ends names) c.print.ensures.status
+
+pub returns-in_ok-show_state-in-Snapshot-clause-runs : goal.returns-in_ok-show_state-in-Snapshot-clause-runs
+unfolding outcome
+returns-in_ok-show_state-in-Snapshot-clause-runs g c =
+    let ended = c.in_ok-show_state-in-Snapshot.ensures in
+    let shown = c.print-in-Snapshot in
+    rw c.in-Snapshot.is (runs_ended (snapshot_ending _ _) _ _ shown.result ended.ends (snapshot_ends _ _) shown.ensures.status _ _ _ _ _ _ _ refl refl ended.files shown.ensures.writes)
+
+pub returns-in_ok-count_answers-in-Gen-clause-runs : goal.returns-in_ok-count_answers-in-Gen-clause-runs
+unfolding outcome
+returns-in_ok-count_answers-in-Gen-clause-runs g c =
+    let shown = c.print-in-Gen in
+    rw c.in-Gen.is (runs_ended (λ _. gen_ending _ _) _ _ shown.result (ends_alone _ _ _ c.in_ok-count_answers-in-Gen.ensures) (λ seen. refl) shown.ensures.status _ _ _ _ _ _ _ refl refl refl shown.ensures.writes)

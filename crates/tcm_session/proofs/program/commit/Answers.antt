@@ -1,7 +1,0 @@
-use Rattle.tcm_session.specs.declared.run_fault.RunFault.TheVariants as fault
-use Rattle.tcm_session.proofs.runs.RunLemmas.{runs_err, runs_none}
-use Rattle.tcm_session.proofs.program.commit.Goals as goal
-
-pub returns-in_err-session-clause-runs : goal.returns-in_err-session-clause-runs
-returns-in_err-session-clause-runs g c = λ all held.
-    runs_err _ _ _ _ _ _ _ _ c.from_residual.result fault.Memory c.from_residual.ensures.1 (runs_none (record { log = _; file = _; files = all }) _ _ _ _ fault.Memory)

@@ -1,0 +1,22 @@
+use Rattle.std.proofs.Common.{refl}
+use Rattle.tcm_session.proofs.runs.RunLemmas.{runs_err, runs_part, runs_stopped, runs_whole}
+use Rattle.tcm_session.proofs.scripts.commit.run_script.Goals as goal
+
+pub returns-in_err-ending-clause-runs : goal.returns-in_err-ending-clause-runs
+returns-in_err-ending-clause-runs g c = λ all held.
+    let stops = rw (c.new-begun.ensures.items, c.requires) at c.in_err-ending.ensures.err in
+    runs_err _ _ _ _ _ _ _ _ c.from_residual.result _ c.from_residual.ensures.1 (runs_stopped (record { log = _; file = _; files = all }) _ _ _ _ _ _ _ _ stops)
+
+pub returns-in_err-finish-clause-runs : goal.returns-in_err-finish-clause-runs
+returns-in_err-finish-clause-runs g c = λ all held.
+    let reads = rw (c.new-begun.ensures.items, c.requires) at c.in_ok-ending.ensures.ok in
+    let stopped = rw c.as_slice.ensures.value at c.in_err-finish.ensures.stopped in
+    runs_err _ _ _ _ _ _ _ _ c.from_residual-in_err-finish.result _ c.from_residual-in_err-finish.ensures.1
+    (runs_part (record { log = _; file = _; files = all }) _ _ _ _ _ _ _ _ c.in_ok-ending.ending reads _ _ refl refl _ c.in_err-finish.ensures.writes.cause stopped)
+
+pub returns-clause-runs : goal.returns-clause-runs
+returns-clause-runs g c = λ all held.
+    let reads = rw (c.new-begun.ensures.items, c.requires) at c.in_ok-ending.ensures.ok in
+    let writes = rw c.as_slice.ensures.value at c.in_ok-finish.ensures.writes in
+    let gained = rw c.as_slice.ensures.value at c.in_ok-finish.ensures.file in
+    rw c.end_status.ensures (runs_whole (record { log = _; file = _; files = all }) _ _ _ _ _ _ _ _ c.in_ok-ending.ending reads _ _ refl refl _ held writes gained)

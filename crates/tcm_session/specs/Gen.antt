@@ -1,0 +1,7 @@
+-- The end of `gen START N`: the counts of the answers to the generated script.
+use Rattle.std.specs.Prelude.{ℕ}
+use Rattle.generated_scripts.specs.Generated.{summary}
+use Rattle.tcm_session.specs.declared.ending.Ending.{Ending}
+
+abbrev pub gen_ending : ℕ → ℕ → Ending
+gen_ending start rounds = record { status = 0; text = summary start rounds }

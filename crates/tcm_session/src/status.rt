@@ -1,0 +1,35 @@
+//! The statuses of runs.
+
+ghost use Rattle.std.specs.Prelude.{◌≡◌};
+ghost use Rattle.tcm_session.specs.code.Endings as spec;
+
+use crate::run_fault::RunFault;
+
+/// The status of a run: 0 if the input was read to its end, all files were replayed, a state was printed or the answers
+/// to a generated script were counted, 1 if memory ran out, 2 for words that name no command, 3 if a line of a file is
+/// refused, 4 if the source failed, 5 if the sink failed, 6 if the store failed, 7 if a file or an epoch is absent, 8
+/// if the input or a file is too large. `run` explains each status.
+#[derive(Clone, Copy, Debug, PartialEq, Eq)]
+pub struct Status(pub u8);
+
+/// The status of a run that a fault ends.
+fn fault_status(fault: RunFault) -> Status
+    ensures { result.0 ≡ spec.fault_status fault }
+{
+    match fault {
+        RunFault::Memory => Status(1),
+        RunFault::Source => Status(4),
+        RunFault::Sink => Status(5),
+        RunFault::Store => Status(6),
+    }
+}
+
+/// The status of a run that ended, by a fault or not.
+pub fn status_of(ended: Result<Status, RunFault>) -> Status
+    ensures { result.0 ≡ spec.status_by ended }
+{
+    match ended {
+        Ok(status) => status,
+        Err(fault) => fault_status(fault),
+    }
+}
