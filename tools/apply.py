@@ -12,11 +12,12 @@ from tools import names as naming
 from tools.answers import is_refusal
 from tools.errors import Refused
 from tools.grammar import COMMANDS, fault_of_command
-from tools.log import copy_of, fresh_ids, is_absent_or_empty, state
+from tools.log import cluster_of, copy_of, fresh_ids, is_absent_or_empty, state, words_on
 from tools.names import Names, names_of
 from tools.program import Session
 from tools.terms import NUMBER, plural
 from tools.text import fault, name_of, read_lines
+from tools.words import add_cluster
 
 NAME, HELP = "apply", "commit a script with names in the place of ids, up to the first refusal"
 EXAMPLE = """example of a script (# begins a remark):
@@ -51,7 +52,7 @@ class Step:
 
 def words(parser: argparse.ArgumentParser) -> None:
     """Declares the words of the verb."""
-    parser.add_argument("log", metavar="LOG", help="the log file; it is made if it is absent")
+    parser.add_argument("log", metavar="LOG", help="the log file; with --cluster it is made if it is absent")
     parser.add_argument(
         "script", metavar="SCRIPT", help="commands, one a line, with names of nodes; - is standard input"
     )
@@ -62,6 +63,7 @@ def words(parser: argparse.ArgumentParser) -> None:
     parser.add_argument(
         "--yes", action="store_true", help="don't ask before a mid- step, from which on new nodes are read"
     )
+    add_cluster(parser)
 
 
 def run(options: argparse.Namespace) -> int:
@@ -75,10 +77,22 @@ def run(options: argparse.Namespace) -> int:
             log = stack.enter_context(copy_of(log))
         applier = Applier(options, names_of(options.log), log)
         applier.check(steps)
+        commit = words_for(options, log)
         if not options.dry_run:
             applier.names.save(naming.path_of(options.log))
-        session = stack.enter_context(Session([] if options.dry_run and log == options.log else [log]))
-        return applier.apply(steps, session)
+        return applier.apply(steps, stack.enter_context(Session(commit)))
+
+
+def words_for(options: argparse.Namespace, log: str) -> List[str]:
+    """Returns the words after `tcm commit`: for the log, or for a trial those for its copy, none without a log."""
+    named, given = cluster_of(log), options.cluster
+    if named and given not in (None, named):
+        raise Refused(f"{options.log}: this is the log of the cluster {named}, and not of {given}")
+    if options.dry_run:
+        return words_on(log) if log != options.log else []
+    if not named and not given:
+        raise Refused(f"{log}: a log that is made needs the name of its cluster: --cluster NAME")
+    return [log, named or given]
 
 
 def read_steps(path: str) -> Iterator[Step]:

@@ -6,7 +6,7 @@ from typing import Dict, List, Sequence, Tuple
 
 from tools.answers import Movement, Placement, is_refusal, read_placement
 from tools.errors import Refused
-from tools.log import copy_of, fresh_ids
+from tools.log import copy_of, fresh_ids, words_on
 from tools.program import Session
 
 
@@ -51,7 +51,7 @@ def changes(
 
     On a copy, the others are cancelled, and the movement is brought to `STARTED` and then to `MID`.
     """
-    with copy_of(log) as copy, Session([copy]) as session:
+    with copy_of(log) as copy, Session(words_on(copy)) as session:
         trial = Trial(session, copy, epoch)
         for it in others:
             for _ in range(2 if it.phase == "MID" else 1):

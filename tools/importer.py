@@ -28,12 +28,13 @@ from tools.terms import (
     plural,
 )
 from tools.text import fault, name_of, read_lines, read_text, write_text
+from tools.words import add_cluster
 
 NAME, HELP = "import", "make a script or a log of what nodetool ring and cqlsh print"
 EXAMPLE = """example:
   nodetool ring > ring.txt
   cqlsh -e 'DESCRIBE SCHEMA' > schema.cql
-  bin/cluster import ring.txt schema.cql --log cluster.log"""
+  bin/cluster import ring.txt schema.cql --log cluster.log --cluster prod"""
 
 LEFT_OUT = ("LocalStrategy", "MetaStrategy")
 
@@ -57,12 +58,13 @@ def words(parser: argparse.ArgumentParser) -> None:
     parser.add_argument("ring", metavar="RING", help="what nodetool ring printed; - is standard input")
     parser.add_argument("schema", metavar="SCHEMA", help="what DESCRIBE SCHEMA or DESCRIBE KEYSPACE of cqlsh printed")
     to = parser.add_mutually_exclusive_group(required=True)
-    to.add_argument("--log", metavar="LOG", help="the log to make, with LOG.names where names differ")
+    to.add_argument("--log", metavar="LOG", help="the log to make, with LOG.names where names differ; needs --cluster")
     to.add_argument(
         "--script",
         metavar="FILE",
         help="the script to make, with FILE.names where names differ: copy it to LOG.names of the log that you make",
     )
+    add_cluster(parser)
     parser.add_argument(
         "--leave-out",
         metavar="KEYSPACE",
@@ -76,12 +78,14 @@ def run(options: argparse.Namespace) -> int:
     """Imports a cluster."""
     if options.ring == options.schema == "-":
         raise WrongWords("only one of RING and SCHEMA can be standard input")
+    if options.log and not options.cluster:
+        raise WrongWords("a log needs the name of its cluster: --cluster NAME")
     nodes = read_ring(read_lines(options.ring), name_of(options.ring))
     keyspaces = read_schema(read_text(options.schema), name_of(options.schema))
     imported = import_cluster(nodes, keyspaces, set(options.leave_out), name_of(options.ring), name_of(options.schema))
     to = options.log or options.script
     if options.log:
-        make_log(options.log, imported)
+        make_log(options.log, options.cluster, imported)
     else:
         write_text(options.script, imported.script)
     kept = imported.names.save(naming.path_of(to))
@@ -245,7 +249,7 @@ def unfit(keyspace: Keyspace, schema: str, why: str) -> Refused:
 # ---- A log of the commands
 
 
-def make_log(log: str, imported: Imported) -> None:
+def make_log(log: str, cluster: str, imported: Imported) -> None:
     """Makes a log file of the commands, whole or not at all."""
     if not is_absent_or_empty(log):
         raise Refused(f"{log} is there already, and an import begins a log: choose another name, or move it away")
@@ -253,15 +257,15 @@ def make_log(log: str, imported: Imported) -> None:
     try:
         with tempfile.TemporaryDirectory(prefix=".import-", dir=folder) as inside:
             path = os.path.join(inside, "new.log")
-            commit_all(path, imported.script.splitlines())
+            commit_all([path, cluster], imported.script.splitlines())
             shutil.move(path, log)
     except OSError as why:
         raise Refused(f"{log}: {why.strerror}") from why
 
 
-def commit_all(path: str, lines: List[str]) -> None:
+def commit_all(words: List[str], lines: List[str]) -> None:
     """Commits lines to a new log, each of which has to be accepted."""
-    with Session([path]) as session:
+    with Session(words) as session:
         for line, answer in zip(lines, session.ask_all(lines)):
             if is_refusal(answer):
                 raise Refused(f"tcm refuses `{line[:80]}`: {answer[0]}")

@@ -122,6 +122,24 @@ def copy_of(log: str) -> Iterator[str]:
         yield path
 
 
+def cluster_of(log: str) -> Optional[str]:
+    """Returns the cluster that the header of a log file names, if there is one."""
+    if not os.path.exists(log):
+        return None
+    try:
+        with open(log, "rb") as lines:
+            header = object_in(lines.readline())
+    except OSError as why:
+        raise Refused(f"{log}: {why.strerror}") from why
+    name = header.get("cluster")
+    return name if isinstance(name, str) else None
+
+
+def words_on(copy: str) -> List[str]:
+    """Returns the words after `tcm commit` for a copy of a log. A copy without a header gets one, of any name."""
+    return [copy, cluster_of(copy) or "copy"]
+
+
 def used_ids(log: str) -> Set[int]:
     """Returns the ids of the commits in a log file; an absent file has none."""
     if not os.path.exists(log):
@@ -135,11 +153,16 @@ def used_ids(log: str) -> Set[int]:
 
 def id_of(line: bytes) -> Optional[int]:
     """Returns the id in a line, if it is a whole entry."""
+    return object_in(line).get("entry")
+
+
+def object_in(line: bytes) -> dict:
+    """Returns the JSON object in a whole line, an empty one if there is none."""
     try:
-        entry = json.loads(line) if line.endswith(b"\n") else None
+        value = json.loads(line) if line.endswith(b"\n") else None
     except ValueError:
-        return None
-    return entry.get("entry") if isinstance(entry, dict) else None
+        return {}
+    return value if isinstance(value, dict) else {}
 
 
 def fresh_ids(log: str) -> Iterator[int]:

@@ -46,7 +46,7 @@ class Session:
     """A run of `tcm commit` that answers one line after another. A context manager: leaving it ends the run."""
 
     def __init__(self, words: Sequence[str] = ()):
-        """Starts `tcm commit` with these words, for example the name of a log file."""
+        """Starts `tcm commit` with these words: none, or a log file and the name of its cluster."""
         try:
             self.process = subprocess.Popen(
                 [program(), "commit", *words], stdin=subprocess.PIPE, stdout=subprocess.PIPE

@@ -6,7 +6,7 @@ from typing import List, Tuple
 
 from tools.answers import framed, is_refusal
 from tools.errors import Refused
-from tools.log import copy_of
+from tools.log import copy_of, words_on
 from tools.program import Run, run as run_program
 from tools.show import print_json
 from tools.text import script_lines
@@ -33,7 +33,7 @@ def run(options: argparse.Namespace) -> int:
     script = "".join(f"{it}\n" for it in lines).encode("utf-8", "surrogateescape")
     if options.on:
         with copy_of(options.on) as copy:
-            ended = run_program(["commit", copy], script)
+            ended = run_program(["commit", *words_on(copy)], script)
     else:
         ended = run_program(["commit"], script)
     pairs = pairs_of(lines, ended)

@@ -8,7 +8,7 @@ from tools.answers import Placement, is_refusal
 from tools.coupling import Attempt, Coupling, couplings
 from tools.errors import Refused
 from tools.flight import Trial
-from tools.log import copy_of, state
+from tools.log import copy_of, state, words_on
 from tools.margins import Level, Margin, Quorums, least
 from tools.names import Names
 from tools.placements import pending_shares
@@ -156,7 +156,7 @@ class Planner:
 
 def plan(log: str, wishes: List[Wish], down: List[str], names: Names, seed: int) -> Plan:
     """Tries wishes on a copy of a log, in waves, and returns what was seen."""
-    with copy_of(log) as copy, Session([copy]) as session:
+    with copy_of(log) as copy, Session(words_on(copy)) as session:
         planner = Planner(session, copy, names, down)
         finished = planner.finish_half_way()
         registered = planner.register(wishes)

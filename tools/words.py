@@ -8,7 +8,7 @@ from typing import List, Optional
 from tools.errors import Refused, WrongWords
 from tools.log import State
 from tools.names import Names
-from tools.terms import listed
+from tools.terms import NAME, listed
 
 
 def add_log(parser: argparse.ArgumentParser) -> None:
@@ -26,6 +26,20 @@ def add_keyspaces(parser: argparse.ArgumentParser) -> None:
     parser.add_argument(
         "--keyspace", metavar="KS", action="append", default=[], help="show this keyspace alone; may be repeated"
     )
+
+
+def add_cluster(parser: argparse.ArgumentParser) -> None:
+    """Declares `--cluster`."""
+    parser.add_argument(
+        "--cluster", metavar="NAME", type=name_of_cluster, help="the name of the cluster, for a log that is made"
+    )
+
+
+def name_of_cluster(word: str) -> str:
+    """Returns a word that can be the name of a cluster."""
+    if not NAME.fullmatch(word):
+        raise argparse.ArgumentTypeError("the name of a cluster is 1 to 32 of the characters A-Z a-z 0-9 _ - .")
+    return word
 
 
 def epoch_of(word: str) -> Optional[int]:

@@ -41,7 +41,7 @@ class InTutorial(unittest.TestCase):
         self.folder = tempfile.mkdtemp(prefix="cluster-test-")
         shutil.copytree(TUTORIAL, os.path.join(self.folder, "here"))
         os.chdir(os.path.join(self.folder, "here"))
-        self.assertEqual(cluster("import", "ring.txt", "schema.cql", "--log", "shop.log")[0], 0)
+        self.assertEqual(cluster("import", "ring.txt", "schema.cql", "--log", "shop.log", "--cluster", "shop")[0], 0)
 
     def tearDown(self):
         os.chdir(self.before)
@@ -60,5 +60,6 @@ class InTutorial(unittest.TestCase):
     def ask(self, script):
         """Returns the lines that the program answers to a script on a copy of the log."""
         shutil.copyfile("shop.log", "asked.log")
-        ended = subprocess.run([program(), "commit", "asked.log"], input=script.encode(), stdout=subprocess.PIPE)
+        words = [program(), "commit", "asked.log", "shop"]
+        ended = subprocess.run(words, input=script.encode(), stdout=subprocess.PIPE)
         return ended.stdout.decode().splitlines()

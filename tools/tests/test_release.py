@@ -9,7 +9,8 @@ from tools.program import TOP
 
 PROGRAM = """#!/bin/sh
 [ "$1" != status ] || exit "$2"
-[ "$1" != commit ] || { echo usage; exit "${3:-6}"; }
+[ "$1" != commit ] || { echo usage; exit "${4:-6}"; }
+[ "$1" != mend2 ] || exit 6
 echo "ran $*"
 """
 RT = """#!/bin/sh
@@ -85,9 +86,10 @@ class Tree(unittest.TestCase):
             self.assertEqual(said.count("\n"), 1 if status in (1, 2, 4, 5, 6) else 0, said)
         self.assertIn(
             "status 6: loading a file, or changing the log file, failed (a.log)",
-            self.run_bin("tcm", "commit", "a.log")[2],
+            self.run_bin("tcm", "commit", "a.log", "c1")[2],
         )
-        self.assertNotIn("a.log", self.run_bin("tcm", "commit", "a.log", "2")[2])
+        self.assertNotIn("a.log", self.run_bin("tcm", "commit", "a.log", "c1", "2")[2])
+        self.assertIn("(a.log or b.log)", self.run_bin("tcm", "mend2", "a.log", "b.log", "c1")[2])
 
     def test_the_gate_sees_what_is_wrong_with_a_release(self):
         self.assertEqual(self.run_bin("release", "--check")[0], 1)

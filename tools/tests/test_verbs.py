@@ -6,7 +6,7 @@ import re
 import subprocess
 
 from tools import compare
-from tools.log import fresh_ids, last_epoch, state
+from tools.log import cluster_of, fresh_ids, last_epoch, state
 from tools.names import Names
 from tools.nodetool import read_describering
 from tools.tests.cluster import InTutorial, cluster, command, needs_program
@@ -39,7 +39,7 @@ class Import(InTutorial):
 
     def test_a_log_is_not_written_over(self):
         before = self.read("shop.log")
-        status, _, said = cluster("import", "ring.txt", "schema.cql", "--log", "shop.log")
+        status, _, said = cluster("import", "ring.txt", "schema.cql", "--log", "shop.log", "--cluster", "shop")
         self.assertEqual((status, self.read("shop.log")), (1, before))
         self.assertIn("is there already", said)
 
@@ -52,7 +52,8 @@ class Import(InTutorial):
             more.format("o", "NetworkTopologyStrategy", "other", "3"),
         ]
         self.write("more.cql", self.read("schema.cql") + "".join(unfit))
-        status, _, said = cluster("import", "ring.txt", "more.cql", "--log", "more.log")
+        more_log = ("import", "ring.txt", "more.cql", "--log", "more.log", "--cluster", "more")
+        status, _, said = cluster(*more_log)
         self.assertEqual((status, os.path.exists("more.log")), (1, False))
         for word in (
             "transient replicas",
@@ -62,7 +63,7 @@ class Import(InTutorial):
         ):
             self.assertIn(word, said)
         out = [word for it in "teso" for word in ("--leave-out", it)]
-        self.assertEqual(cluster("import", "ring.txt", "more.cql", "--log", "more.log", *out)[0], 0)
+        self.assertEqual(cluster(*more_log, *out)[0], 0)
 
 
 @needs_program
@@ -131,6 +132,20 @@ class Apply(InTutorial):
         self.assertEqual((ended.returncode, last_epoch("shop.log")), (1, 13))
         self.assertIn(b"--from 5", ended.stderr)
         self.assertEqual(cluster("apply", "shop.log", "replace.script", "--from", "5", "--yes")[0], 0)
+
+    def test_a_new_log_needs_the_name_of_its_cluster(self):
+        self.write("a.script", "register z dc1 rack1\n")
+        status, _, said = cluster("apply", "new.log", "a.script")
+        self.assertEqual((status, os.path.exists("new.log")), (1, False))
+        self.assertIn("needs the name of its cluster", said)
+        self.assertEqual(cluster("apply", "new.log", "a.script", "--dry-run")[0], 0)
+        self.assertEqual(cluster("apply", "new.log", "a.script", "--cluster", "new")[0], 0)
+        self.assertEqual((cluster_of("new.log"), last_epoch("new.log")), ("new", 1))
+        self.write("a.script", "register y dc1 rack1\n")
+        status, _, said = cluster("apply", "new.log", "a.script", "--cluster", "other")
+        self.assertEqual((status, last_epoch("new.log")), (1, 1))
+        self.assertIn("the log of the cluster new", said)
+        self.assertEqual(cluster("apply", "new.log", "a.script")[0], 0)
 
     def test_a_slip_is_found_before_anything_is_done(self):
         for line in (
@@ -227,8 +242,9 @@ class Answers(InTutorial):
     def test_a_log_that_is_refused_is_told(self):
         lines = self.read("shop.log").split("\n")
         for name, text, why in (
-            ("cut.log", "\n".join(lines[:2] + lines[3:]), "line 3 is refused: EPOCH 3 4"),
+            ("cut.log", "\n".join(lines[:2] + lines[3:]), "line 3 is refused: EPOCH 2 3"),
             ("other.log", "hello\n", "line 1 is refused: LINE 2"),
+            ("old.log", "\n".join(lines[1:]), "line 1 is refused: FORMAT"),
         ):
             self.write(name, text)
             for words in (

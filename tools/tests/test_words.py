@@ -22,7 +22,10 @@ class Words(unittest.TestCase):
             *wrong,
             ["status", "a", "b"],
             ["status", "a", "@01"],
-            ["import", "-", "-", "--log", "x"],
+            ["import", "-", "-", "--log", "x", "--cluster", "c"],
+            ["import", "a", "b", "--log", "x"],
+            ["import", "a", "b", "--log", "x", "--cluster", "c 1"],
+            ["apply", "a", "b", "--cluster", ""],
             ["draw", "x"],
             ["import", "a", "b"],
         ]:
@@ -46,7 +49,7 @@ class Words(unittest.TestCase):
                 it.write(bytes(range(256)))
             for path in (empty, no, binary, folder):
                 for words in (
-                    ["import", path, path, "--log", no + ".log"],
+                    ["import", path, path, "--log", no + ".log", "--cluster", "c1"],
                     ["compare", no, "k", path],
                     ["whatif", no, path],
                     ["draw", "--answers", path],

@@ -41,7 +41,7 @@ insert-insert all name a b = same_files _ _ at
         ∙ by (same q name) (map.get all q) ∙ sym (get-insert all name b q)
 
 -- a file that is known, with no other file changed
-changed_is : (old new : Files) (name bytes : List ℕ) → file_of new name ≡ Some bytes → ((other : List ℕ) → other ≢ name → file_of new other ≡ file_of old other)
+pub changed_is : (old new : Files) (name bytes : List ℕ) → file_of new name ≡ Some bytes → ((other : List ℕ) → other ≢ name → file_of new other ≡ file_of old other)
     → new ≡ map.insert old name bytes
 changed_is old new name bytes is others = same_files new (map.insert old name bytes) at
   where

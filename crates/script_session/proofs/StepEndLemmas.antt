@@ -21,7 +21,7 @@ use Rattle.wire_json.specs.declared.line.ReadLineFault.{ReadLineFault}
 use Rattle.wire_json.specs.declared.line.ReadLineFault.TheVariants as read
 use Rattle.script_lang.specs.AnswerTexts.{no_text, ok_text, refusal_text}
 use Rattle.script_session.specs.code.KeptImages.{AreKept}
-use Rattle.script_session.specs.LogFiles.{Gains, entry_read, next_entry}
+use Rattle.script_session.specs.LogFiles.{Gains, entry_read, header_cause, header_read, next_entry}
 use Rattle.script_session.specs.Machine.{Reply, SessionState, commit_text, replied}
 use Rattle.script_session.specs.code.StepParts.{AllFollow, IsNextEntry, OnlyAnswers}
 use Rattle.script_session.specs.declared.fault.StepFault.{StepFault}
@@ -99,6 +99,15 @@ next_entry-read log bytes l meaning = ap (entry_read log) (read_there bytes l me
 pub next_entry-bad : (log : List Entry) (bytes : List ℕ) (fault : ReadLineFault) (rule : ℕ) → fault ≡ read.Bad rule → (unread fault ≢ Err read.Memory → unread fault ≡ reading bytes) → next_entry log bytes ≡ Err (cause.Line rule)
 unfolding next_entry
 next_entry-bad log bytes fault rule is meaning = ap (entry_read log) (read_bad bytes fault rule is meaning)
+
+-- the first line of a log file
+pub header_cause-read : (want : Option (List ℕ)) (bytes : List ℕ) (l : Line) → (read_line l ≢ Err read.Memory → read_line l ≡ reading bytes) → header_cause want bytes ≡ header_read want (Ok l)
+unfolding header_cause
+header_cause-read want bytes l meaning = ap (header_read want) (read_there bytes l meaning)
+
+pub header_cause-bad : (want : Option (List ℕ)) (bytes : List ℕ) (fault : ReadLineFault) (rule : ℕ) → fault ≡ read.Bad rule → (unread fault ≢ Err read.Memory → unread fault ≡ reading bytes) → header_cause want bytes ≡ Some (cause.Line rule)
+unfolding header_cause
+header_cause-bad want bytes fault rule is meaning = ap (header_read want) (read_bad bytes fault rule is meaning)
 
 -- ---- a commit whose id is in the log
 

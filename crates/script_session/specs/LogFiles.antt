@@ -1,18 +1,20 @@
 -- The file of a log: the log in its lines, the first line that is refused, and the file once entries are added.
 use Rattle.std.specs.Prelude.{◌≡◌, ℕ, ◌+◌, if◌then◌else◌, List, [], ◌∷◌, ◌++◌, flat_map, length, Option, Some, None, option_map, Result, Ok, Err, ◌==◌, codes, decimal}
 use Rattle.std.specs.FinMap as map
+use Rattle.std.specs.Str.{bytes_eq}
 use Rattle.tcm_edges.specs.Files.{Files, content, file_of}
 use Rattle.transformations.specs.History.{commit_refusal}
 use Rattle.transformations.specs.Log.{commands_of, entry_with_id}
 use Rattle.transformations.specs.declared.entry.Entry.{Entry}
 use Rattle.wire_json.specs.Reading.{reading}
 use Rattle.wire_json.specs.EntryTexts.{entry_line}
+use Rattle.wire_json.specs.Header.{header_line}
 use Rattle.wire_json.specs.declared.line.Line.{Line}
 use Rattle.wire_json.specs.declared.line.Line.TheVariants as line
 use Rattle.wire_json.specs.declared.line.ReadLineFault.{ReadLineFault}
 use Rattle.wire_json.specs.declared.line.ReadLineFault.TheVariants as read
 use Rattle.script_lang.specs.AnswerTexts.{bad_image_text, line as with_feed, refusal_text}
-use Rattle.script_session.specs.Lines.{open_line, whole_lines}
+use Rattle.script_session.specs.Lines.{whole_lines}
 use Rattle.script_session.specs.declared.refused_line.Cause.{Cause}
 use Rattle.script_session.specs.declared.refused_line.Cause.TheVariants as cause
 use Rattle.script_session.specs.declared.refused_line.RefusedLine.{RefusedLine}
@@ -47,6 +49,7 @@ unless_refused entry (Some cause) = Err cause
 -- what was read as the next line of a log: its entry, or the first cause to refuse the line (a reading is never
 -- without memory)
 abbrev pub entry_read : List Entry → Result Line ReadLineFault → Result Entry Cause
+entry_read log (Ok (line.Header cluster)) = Err cause.Header
 entry_read log (Ok (line.Entry entry)) = unless_refused entry (entry_cause log entry)
 entry_read log (Ok (line.Snapshot image)) = Err cause.NotEntry
 entry_read log (Err (read.Bad rule)) = Err (cause.Line rule)
@@ -60,19 +63,57 @@ abbrev pub goes_on : {A B : Type 0} → ℕ → ℕ → Result A Cause → (A �
 goes_on file number (Ok came) next = next came
 goes_on file number (Err cause) next = Err (record { file = file; line = number; cause = cause })
 
--- the log that lines make after a log, or the first line that is refused; line l of a log file holds its entry l
-abbrev pub log_from : List Entry → List (List ℕ) → Result (List Entry) RefusedLine
-log_from log [] = Ok log
-log_from log (bytes ∷ lines) = goes_on 1 (length log + 1) (next_entry log bytes) (λ entry. log_from (log ++ entry ∷ []) lines)
+-- the log that lines of entries make after a log, or the first line that is refused; `first` is the number of the line
+-- that holds entry 1
+abbrev pub log_from : ℕ → List Entry → List (List ℕ) → Result (List Entry) RefusedLine
+log_from first log [] = Ok log
+log_from first log (bytes ∷ lines) =
+    goes_on 1 (length log + first) (next_entry log bytes) (λ entry. log_from first (log ++ entry ∷ []) lines)
 
--- the log in a file: bytes after its last line feed are no line
+-- the cause to refuse a header that names `came`, where the cluster must be `want`, if one is wanted
+abbrev pub other_cluster : Option (List ℕ) → List ℕ → Option Cause
+other_cluster None came = None
+other_cluster (Some want) came = if bytes_eq want came then None else Some (cause.Cluster want came)
+
+-- the cause to refuse what was read as the first line of a log file, which is a header
+abbrev pub header_read : Option (List ℕ) → Result Line ReadLineFault → Option Cause
+header_read want (Ok (line.Header came)) = other_cluster want came
+header_read want (Ok (line.Entry entry)) = Some cause.Format
+header_read want (Ok (line.Snapshot image)) = Some cause.Format
+header_read want (Err (read.Bad rule)) = Some (cause.Line rule)
+header_read want (Err read.Memory) = Some (cause.Line 0)
+
+unfoldable pub header_cause : Option (List ℕ) → List ℕ → Option Cause
+header_cause want bytes = header_read want (reading bytes)
+
+-- the log of the lines after the first line, unless this is refused
+abbrev pub log_after : Option Cause → List (List ℕ) → Result (List Entry) RefusedLine
+log_after None lines = log_from 2 [] lines
+log_after (Some cause) lines = Err (record { file = 1; line = 1; cause = cause })
+
+-- the log in the lines of a file; without a line it is empty
+abbrev pub log_in : Option (List ℕ) → List (List ℕ) → Result (List Entry) RefusedLine
+log_in want [] = Ok []
+log_in want (bytes ∷ lines) = log_after (header_cause want bytes) lines
+
+-- the log in a file, which must be that of a cluster, if one is wanted; bytes after the last line feed are no line
+abbrev pub log_for : Option (List ℕ) → List ℕ → Result (List Entry) RefusedLine
+log_for want file = log_in want (whole_lines file)
+
 abbrev pub log_of : List ℕ → Result (List Entry) RefusedLine
-log_of file = log_from [] (whole_lines file)
+log_of file = log_for None file
+
+-- the log in a file of the older format, which has no header
+abbrev pub old_log_of : List ℕ → Result (List Entry) RefusedLine
+old_log_of file = log_from 1 [] (whole_lines file)
 
 -- ---- the text for a line that is refused
 
 abbrev pub cause_text : Cause → List ℕ
 cause_text (cause.Line rule) = codes "LINE " ++ decimal rule
+cause_text cause.Format = codes "FORMAT"
+cause_text cause.Header = codes "HEADER"
+cause_text (cause.Cluster want came) = codes "CLUSTER " ++ want ++ codes " " ++ came
 cause_text cause.NotEntry = codes "NOT-ENTRY"
 cause_text (cause.Epoch want came) = codes "EPOCH " ++ decimal want ++ codes " " ++ decimal came
 cause_text (cause.Id id epoch) = codes "ID " ++ decimal id ++ codes " " ++ decimal epoch
@@ -105,17 +146,14 @@ with_added None text all = all
 with_added (Some name) [] all = all
 with_added (Some name) (byte ∷ text) all = map.insert all name (content (file_of all name) ++ (byte ∷ text))
 
--- the whole lines of a file, each with its line feed
-abbrev pub lines_part : List ℕ → List ℕ
-lines_part file = flat_map with_feed (whole_lines file)
+-- lines, each with its line feed; the header of a cluster, if there is no line
+abbrev pub lines_or_header : List ℕ → List (List ℕ) → List ℕ
+lines_or_header cluster [] = header_line cluster
+lines_or_header cluster lines = flat_map with_feed lines
 
--- the files once the bytes after the last line feed of a file are cut off, if there are any
-abbrev pub without_open : List ℕ → List ℕ → List ℕ → Files → Files
-without_open name file [] all = all
-without_open name file (byte ∷ opened) all = map.insert all name (lines_part file)
-
-abbrev pub cut_to_lines : List ℕ → List ℕ → Files → Files
-cut_to_lines name file all = without_open name file (open_line file) all
+-- what a log file keeps when a script begins, before an entry is added: its whole lines, or the header
+abbrev pub base_of : List ℕ → List ℕ → List ℕ
+base_of cluster file = lines_or_header cluster (whole_lines file)
 
 -- a text is added, if the store tells its files
 abbrev pub Gains : Option (List ℕ) → List ℕ → Option Files → Option Files → Type 0

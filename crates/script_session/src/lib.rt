@@ -2,11 +2,13 @@
 #![tactic(auto)]
 
 mod fault;
+mod header;
 mod limits;
 pub mod refused_line;
 pub mod session;
 
 pub use fault::StepFault;
+pub use header::{header_cause, other_cluster};
 pub use limits::TEXT_ROOM;
 pub use refused_line::{Cause, RefusedLine, refused_line_text};
 pub use session::Session;

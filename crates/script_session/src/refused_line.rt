@@ -4,19 +4,25 @@ ghost use Rattle.std.specs.Prelude.{◌≡◌, ◌++◌, codes, decimal, take, l
 ghost use Rattle.wire_json.specs.EntryTexts as wire;
 ghost use Rattle.script_session.specs.LogFiles as spec;
 
-use cluster_terms::{ByteText, Memory};
+use cluster_terms::{ByteText, Memory, Name};
 use script_lang::{labelled, refusal_text};
 use std::alloc::Global;
 use transformations::{BadImage, Entry, Refusal};
 use wire_json::entry_line;
 
-/// Why a line of a file is refused. For a log file, `Line`, `NotEntry`, `Epoch`, `Id` and `Command` are looked for in
-/// this order; for a file that is replayed, `Line` first, and then `Image`, `Fork` and `Command` as the follower finds
-/// them.
+/// Why a line of a file is refused. For the first line of a log file, `Line`, `Format` and `Cluster` are looked for in
+/// this order, and for each later line `Line`, `Header`, `NotEntry`, `Epoch`, `Id` and `Command`. For a file that is
+/// replayed, `Line`, `Header` and `Cluster` come first, and then `Image`, `Fork` and `Command` as the follower finds them.
 #[derive(Debug, Drop)]
 pub enum Cause {
     /// The line breaks this rule of `read_line`, and no rule with a smaller number.
     Line(u8),
+    /// The first line of a log file isn't a header.
+    Format,
+    /// The line is a header, and isn't the first line of its file, or the file has the older format.
+    Header,
+    /// The header names another cluster: the wanted name, and the name that came.
+    Cluster(Name, Name),
     /// The line is an image of a log, not an entry.
     NotEntry,
     /// The entry's epoch isn't the next epoch: the next one, and the epoch that came.
@@ -47,12 +53,23 @@ fn numbers_text(label: &[u8], first: u64, second: u64, out: &mut ByteText) -> Re
     labelled(b" ", &second, out)
 }
 
+/// Adds the names of two clusters.
+fn clusters_text(want: &Name, came: &Name, out: &mut ByteText) -> Result<(), Memory>
+    ensures { OnOk result (out.new ≡ out.old ++ (codes "CLUSTER " ++ want.now ++ codes " " ++ came.now)) }
+{
+    labelled(b"CLUSTER ", want, out)?;
+    labelled(b" ", came, out)
+}
+
 /// Adds the text of a cause.
 fn cause_text(cause: &Cause, out: &mut ByteText) -> Result<(), Memory>
     ensures { OnOk result (out.new ≡ out.old ++ spec.cause_text cause.now) }
 {
     match cause {
         Cause::Line(rule) => labelled(b"LINE ", &u64::from(*rule), out),
+        Cause::Format => out.extend(b"FORMAT"),
+        Cause::Header => out.extend(b"HEADER"),
+        Cause::Cluster(want, came) => clusters_text(want, came, out),
         Cause::NotEntry => out.extend(b"NOT-ENTRY"),
         Cause::Epoch(next, came) => numbers_text(b"EPOCH ", *next, *came, out),
         Cause::Id(id, epoch) => numbers_text(b"ID ", *id, *epoch, out),

@@ -145,6 +145,13 @@ impl Session {
         close_followers(followers);
     }
 
+    /// The entries of accepted commits.
+    pub fn log(&self) -> &Log
+        ensures { result.now ≡ self.now.log }
+    {
+        &self.log
+    }
+
     /// The epoch of the last entry, or 0 if there is none.
     pub fn last_epoch(&self) -> u64
         ensures length { result ≡ length self.now.log }

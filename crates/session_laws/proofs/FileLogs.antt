@@ -2,6 +2,7 @@
 use Rattle.std.proofs.Common.{◌≡◌, ℕ, Bool, true, false, if◌then◌else◌, List, [], ◌∷◌, ◌++◌, ◌+◌, ◌==◌, length, Option, Some, None, option_map, Result, Ok, Err, codes, decimal, refl, sym, subst, arith}
 use Rattle.std.specs.List.{AllByRecursion}
 use Rattle.std.specs.Option.{IfSome}
+use Rattle.std.specs.Str.{bytes_eq}
 use Rattle.std.proofs.lemmas.Bool.{eqb-true}
 use Rattle.std.proofs.lemmas.Option.{IfSome_then, none-some}
 use Rattle.std.specs.Fmt.{signed_decimal}
@@ -14,6 +15,7 @@ use Rattle.transformations.specs.declared.entry.Entry.{Entry}
 use Rattle.transformations.specs.declared.refusal.Refusal.{Refusal}
 use Rattle.wire_json.proofs.entries.EntryCommands.{HoldsOfKinds, reading_commands}
 use Rattle.wire_json.proofs.entries.EntryTokens.{tokens_of_kinds}
+use Rattle.wire_json.proofs.headers.HeaderNames.{reading_name}
 use Rattle.wire_json.specs.Reading.{reading}
 use Rattle.wire_json.specs.declared.line.Line.{Line}
 use Rattle.wire_json.specs.declared.line.Line.TheVariants as line
@@ -23,7 +25,7 @@ use Rattle.script_lang.proofs.ReplicationWords.{of_replication}
 use Rattle.script_lang.proofs.SaidLemmas.{IsFormed}
 use Rattle.script_lang.specs.AnswerTexts.{refusal_text}
 use Rattle.script_session.specs.Lines.{whole_lines}
-use Rattle.script_session.specs.LogFiles.{cause_text, command_refused, entry_cause, entry_read, first_cause, fork_lines, goes_on, id_again, log_from, log_of, next_entry, refused_head, refused_line_text, unless_refused, wrong_epoch}
+use Rattle.script_session.specs.LogFiles.{cause_text, command_refused, entry_cause, entry_read, first_cause, fork_lines, goes_on, header_cause, header_read, id_again, log_after, log_for, log_from, log_in, log_of, next_entry, old_log_of, other_cluster, refused_head, refused_line_text, unless_refused, wrong_epoch}
 use Rattle.script_session.specs.Machine.{session_over}
 use Rattle.session_laws.specs.Shown.{IsOfNoQuorum}
 use Rattle.script_session.specs.code.StepParts.{IsNextEntry}
@@ -34,7 +36,7 @@ use Rattle.session_laws.proofs.quorums.AnswerLines.{other_line}
 use Rattle.wire_json.specs.EntryTexts.{entry_line}
 use Rattle.session_laws.proofs.texts.PlainEntries.{entry_is_line}
 use Rattle.session_laws.proofs.texts.PlainImages.{commit_plain}
-use Rattle.session_laws.proofs.texts.PlainTexts.{plain_signed, HasPlainNames, is_plain, plain_decimal, plain_joined, plain_refusal}
+use Rattle.session_laws.proofs.texts.PlainTexts.{plain_signed, HasPlainNames, is_plain, plain_decimal, plain_joined, plain_name, plain_refusal}
 use Rattle.script_session.proofs.SessionLemmas.{IsSession, added_entry, session_empty}
 use Rattle.session_laws.proofs.texts.WholeLines.{AreLines, AreLines-append, AreLines-nil}
 
@@ -94,6 +96,7 @@ follows log bytes entry is = by (reading bytes) refl is
     of_cause e there (Some c) some is = absurd (cc)
 
     by : (r : Result Line ReadLineFault) → reading bytes ≡ r → entry_read log r ≡ Ok entry → Follows log entry
+    by (Ok (line.Header came)) there is = absurd (cc)
     by (Ok (line.Entry e)) there is = of_cause e there (entry_cause log e) refl is
     by (Ok (line.Snapshot image)) there is = absurd (cc)
     by (Err (read.Bad rule)) there is = absurd (cc)
@@ -108,26 +111,39 @@ IsFormedLog log = IsSession (session_over log)
 formed_next : (log : List Entry) (entry : Entry) → IsFormedLog log → Follows log entry → IsFormedLog (log ++ entry ∷ [])
 formed_next log entry is f = (added_entry (session_over log) entry is f.next f.formed).is
 
-formed_from : (lines : List (List ℕ)) (log log' : List Entry) → IsFormedLog log → log_from log lines ≡ Ok log' → IsFormedLog log'
-formed_from [] log log' is e = (let same : log ≡ log' = cc in subst IsFormedLog same is)
-formed_from (bytes ∷ lines) log log' is e = by (next_entry log bytes) refl (λ entry formed rest. formed_from lines (log ++ entry ∷ []) log' formed rest) e
+formed_from : (first : ℕ) (lines : List (List ℕ)) (log log' : List Entry) → IsFormedLog log → log_from first log lines ≡ Ok log' → IsFormedLog log'
+formed_from first [] log log' is e = (let same : log ≡ log' = cc in subst IsFormedLog same is)
+formed_from first (bytes ∷ lines) log log' is e = by (next_entry log bytes) refl (λ entry formed rest. formed_from first lines (log ++ entry ∷ []) log' formed rest) e
   where
-    by : (r : Result Entry Cause) → next_entry log bytes ≡ r → ((entry : Entry) → IsFormedLog (log ++ entry ∷ []) → log_from (log ++ entry ∷ []) lines ≡ Ok log' → IsFormedLog log')
-        → goes_on 1 (length log + 1) r (λ entry. log_from (log ++ entry ∷ []) lines) ≡ Ok log' → IsFormedLog log'
+    by : (r : Result Entry Cause) → next_entry log bytes ≡ r → ((entry : Entry) → IsFormedLog (log ++ entry ∷ []) → log_from first (log ++ entry ∷ []) lines ≡ Ok log' → IsFormedLog log')
+        → goes_on 1 (length log + first) r (λ entry. log_from first (log ++ entry ∷ []) lines) ≡ Ok log' → IsFormedLog log'
     by (Ok entry) next later e = later entry (formed_next log entry is (follows log bytes entry next)) e
     by (Err c) next later e = absurd (cc)
 
+-- the log of a cluster, and the log of a file
+pub session_for : (want : Option (List ℕ)) (file : List ℕ) (log : List Entry) → log_for want file ≡ Ok log → IsSession (session_over log)
+session_for want file log e = by (whole_lines file) e
+  where
+    after : (o : Option Cause) (lines : List (List ℕ)) → log_after o lines ≡ Ok log → IsFormedLog log
+    after None lines e = formed_from 2 lines [] log session_empty e
+    after (Some c) lines e = absurd (cc)
+
+    by : (lines : List (List ℕ)) → log_in want lines ≡ Ok log → IsFormedLog log
+    by [] e = (let same : [] ≡ log = cc in subst IsFormedLog same session_empty)
+    by (bytes ∷ lines) e = after (header_cause want bytes) lines e
+
 pub session_file : (file : List ℕ) (log : List Entry) → log_of file ≡ Ok log → IsSession (session_over log)
-session_file file log e = formed_from (whole_lines file) [] log session_empty e
+session_file file log e = session_for None file log e
 
 -- ---- a line that is refused
 
 -- the names that a cause shows
 abbrev pub HasPlainCause : Cause → Type 0
+HasPlainCause (cause.Cluster want came) = (is_plain want ≡ true) × (is_plain came ≡ true)
 HasPlainCause (cause.Command epoch refusal) = HasPlainNames refusal
 HasPlainCause _ = Unit {0}
 
-abbrev IfPlain : Option Cause → Type 0
+abbrev pub IfPlain : Option Cause → Type 0
 IfPlain o = IfSome o HasPlainCause
 
 first_plain : (os : List (Option Cause)) → AllByRecursion IfPlain os → IfPlain (first_cause os)
@@ -176,26 +192,50 @@ refused_next log bytes c is e = by (reading bytes) refl e
     of_rule n e = (let same : cause.Line n ≡ c = cc in subst HasPlainCause same tt)
 
     by : (r : Result Line ReadLineFault) → reading bytes ≡ r → entry_read log r ≡ Err c → HasPlainCause c
+    by (Ok (line.Header came)) there e = (let same : cause.Header ≡ c = cc in subst HasPlainCause same tt)
     by (Ok (line.Entry entry)) there e = of_cause entry (entry_cause log entry) (plain_cause log entry is (reading_commands IsFormed formed_kinds bytes entry there)) e
     by (Ok (line.Snapshot image)) there e = (let same : cause.NotEntry ≡ c = cc in subst HasPlainCause same tt)
     by (Err (read.Bad rule)) there e = of_rule rule e
     by (Err read.Memory) there e = of_rule 0 e
 
-refused_from : (lines : List (List ℕ)) (log : List Entry) (refused : RefusedLine) → IsFormedLog log → log_from log lines ≡ Err refused → HasPlainCause refused.cause
-refused_from [] log refused is e = absurd (cc)
-refused_from (bytes ∷ lines) log refused is e = by (next_entry log bytes) refl (λ entry formed rest. refused_from lines (log ++ entry ∷ []) refused formed rest) e
+refused_from : (first : ℕ) (lines : List (List ℕ)) (log : List Entry) (refused : RefusedLine) → IsFormedLog log → log_from first log lines ≡ Err refused → HasPlainCause refused.cause
+refused_from first [] log refused is e = absurd (cc)
+refused_from first (bytes ∷ lines) log refused is e = by (next_entry log bytes) refl (λ entry formed rest. refused_from first lines (log ++ entry ∷ []) refused formed rest) e
   where
     by : (r : Result Entry Cause) → next_entry log bytes ≡ r
-        → ((entry : Entry) → IsFormedLog (log ++ entry ∷ []) → log_from (log ++ entry ∷ []) lines ≡ Err refused → HasPlainCause refused.cause)
-        → goes_on 1 (length log + 1) r (λ entry. log_from (log ++ entry ∷ []) lines) ≡ Err refused → HasPlainCause refused.cause
+        → ((entry : Entry) → IsFormedLog (log ++ entry ∷ []) → log_from first (log ++ entry ∷ []) lines ≡ Err refused → HasPlainCause refused.cause)
+        → goes_on 1 (length log + first) r (λ entry. log_from first (log ++ entry ∷ []) lines) ≡ Err refused → HasPlainCause refused.cause
     by (Ok entry) next later e = later entry (formed_next log entry is (follows log bytes entry next)) e
     by (Err c) next later e =
-        let here : RefusedLine = record { file = 1; line = length log + 1; cause = c } in
+        let here : RefusedLine = record { file = 1; line = length log + first; cause = c } in
         let same : here ≡ refused = cc in
         subst (λ (x : RefusedLine). HasPlainCause x.cause) same (refused_next log bytes c is next)
 
+-- the names of clusters, in a header and as they are wanted
+pub plain_cluster : (want : Option (List ℕ)) (came : List ℕ) → IfSome want (λ w. is_plain w ≡ true) → is_plain came ≡ true → IfPlain (other_cluster want came)
+plain_cluster None came plain named = tt
+plain_cluster (Some want) came plain named = by (bytes_eq want came)
+  where
+    by : (b : Bool) → IfPlain (if b then None else Some (cause.Cluster want came))
+    by true = tt
+    by false = (plain, named)
+
+plain_header : (want : Option (List ℕ)) (bytes : List ℕ) → IfSome want (λ w. is_plain w ≡ true) → IfPlain (header_cause want bytes)
+unfolding header_cause
+plain_header want bytes plain = by (reading bytes) refl
+  where
+    by : (r : Result Line ReadLineFault) → reading bytes ≡ r → IfPlain (header_read want r)
+    by (Ok (line.Header came)) there = plain_cluster want came plain (plain_name came (reading_name bytes came there))
+    by (Ok (line.Entry entry)) there = tt
+    by (Ok (line.Snapshot image)) there = tt
+    by (Err (read.Bad rule)) there = tt
+    by (Err read.Memory) there = tt
+
 cause_plain : (c : Cause) → HasPlainCause c → is_plain (cause_text c) ≡ true
 cause_plain (cause.Line rule) names = plain_decimal rule
+cause_plain cause.Format names = refl
+cause_plain cause.Header names = refl
+cause_plain (cause.Cluster want came) names = plain_joined (codes "CLUSTER " ++ want) (codes " ") came names.0 refl names.1
 cause_plain (cause.Epoch want came) names = plain_joined (codes "EPOCH " ++ decimal want) (codes " ") (decimal came) (plain_decimal want) refl (plain_decimal came)
 cause_plain (cause.Id id epoch) names = plain_joined (codes "ID " ++ decimal id) (codes " ") (decimal epoch) (plain_decimal id) refl (plain_decimal epoch)
 cause_plain cause.NotEntry names = refl
@@ -205,6 +245,9 @@ cause_plain (cause.Command epoch r) names = plain_joined (codes "COMMAND " ++ de
 
 fork_plain : (c : Cause) → AreLines IsOfNoQuorum (fork_lines c)
 fork_plain (cause.Line rule) = AreLines-nil IsOfNoQuorum
+fork_plain cause.Format = AreLines-nil IsOfNoQuorum
+fork_plain cause.Header = AreLines-nil IsOfNoQuorum
+fork_plain (cause.Cluster want came) = AreLines-nil IsOfNoQuorum
 fork_plain cause.NotEntry = AreLines-nil IsOfNoQuorum
 fork_plain (cause.Image bad) = AreLines-nil IsOfNoQuorum
 fork_plain (cause.Epoch want came) = AreLines-nil IsOfNoQuorum
@@ -223,5 +266,19 @@ refused_text_lines refused names =
     (λ e. omega arith) (λ e. omega arith) in
     AreLines-append IsOfNoQuorum (refused_head refused) (fork_lines refused.cause) head (fork_plain refused.cause)
 
-pub refused_lines : (file : List ℕ) (refused : RefusedLine) → log_of file ≡ Err refused → AreLines IsOfNoQuorum (refused_line_text refused)
-refused_lines file refused e = refused_text_lines refused (refused_from (whole_lines file) [] refused session_empty e)
+pub refused_lines : (want : Option (List ℕ)) (file : List ℕ) (refused : RefusedLine) → IfSome want (λ w. is_plain w ≡ true) → log_for want file ≡ Err refused → AreLines IsOfNoQuorum (refused_line_text refused)
+refused_lines want file refused plain e = refused_text_lines refused (by (whole_lines file) e)
+  where
+    after : (o : Option Cause) → IfPlain o → (lines : List (List ℕ)) → log_after o lines ≡ Err refused → HasPlainCause refused.cause
+    after None named lines e = refused_from 2 lines [] refused session_empty e
+    after (Some c) named lines e =
+        let here : RefusedLine = record { file = 1; line = 1; cause = c } in
+        let same : here ≡ refused = cc in
+        subst (λ (x : RefusedLine). HasPlainCause x.cause) same named
+
+    by : (lines : List (List ℕ)) → log_in want lines ≡ Err refused → HasPlainCause refused.cause
+    by [] e = absurd (cc)
+    by (bytes ∷ lines) e = after (header_cause want bytes) (plain_header want bytes plain) lines e
+
+pub old_refused_lines : (file : List ℕ) (refused : RefusedLine) → old_log_of file ≡ Err refused → AreLines IsOfNoQuorum (refused_line_text refused)
+old_refused_lines file refused e = refused_text_lines refused (refused_from 1 (whole_lines file) [] refused session_empty e)

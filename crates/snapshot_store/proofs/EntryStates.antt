@@ -12,7 +12,8 @@ use Rattle.transformations.specs.declared.entry.Entry.{Entry}
 use Rattle.transformations.specs.declared.image.Image.{Image}
 use Rattle.epoch_log.specs.Epochs.{entry_at}
 
-entry_at-next : (log : List Entry) (before : ℕ) → entry_at log (before + 1) ≡ slice_get log before
+-- the entry after some entries
+pub entry_at-next : (log : List Entry) (before : ℕ) → entry_at log (before + 1) ≡ slice_get log before
 entry_at-next log before =
     ap (λ b. if b then None else slice_get log (before + 1 - 1)) (ne_eqb (before + 1) 0 (λ e. omega arith))
     ∙ ap (slice_get log) (omega arith)

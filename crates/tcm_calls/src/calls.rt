@@ -6,6 +6,7 @@ mod follower;
 mod log;
 mod members;
 mod reach;
+mod replies;
 mod terms;
 mod wire;
 

@@ -1,4 +1,5 @@
 pub mod inputs
 pub mod log_files
+pub mod members
 pub mod printed
 pub mod runs

@@ -1,8 +1,11 @@
 -- Files of lines: logs that are taken over, and replays.
-pub mod CutFiles
+pub mod BaseLemmas
 pub mod EndedRuns
+pub mod HeldFiles
 pub mod LoadLemmas
 pub mod LogLines
+pub mod MendLemmas
+pub mod MendRuns
 pub mod ReplayLemmas
 pub mod ReplayPrefixes
 pub mod ReplayReports

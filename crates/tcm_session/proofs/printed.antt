@@ -2,3 +2,4 @@
 pub mod GeneratedTexts
 pub mod PlainReplays
 pub mod PrintedLemmas
+pub mod RequestForms

@@ -1,11 +1,12 @@
 -- The outcome of a script: of `commit`, with and without a log file.
 use Rattle.std.specs.Prelude.{ℕ, true, if◌then◌else◌, List, [], length, take, nat_le, Option, Some, None, Result, Ok, Err}
+use Rattle.std.specs.FinMap as map
 use Rattle.tcm_edges.specs.Files.{Files, file_of, loaded_of}
 use Rattle.tcm_edges.specs.declared.store.Loaded.{Loaded}
 use Rattle.tcm_edges.specs.declared.store.Loaded.TheVariants as loaded
 use Rattle.transformations.specs.declared.entry.Entry.{Entry}
 use Rattle.script_session.specs.Lines.{whole_lines, script_lines}
-use Rattle.script_session.specs.LogFiles.{cut_to_lines, entry_lines, log_of, with_added}
+use Rattle.script_session.specs.LogFiles.{base_of, entry_lines, log_for, with_added}
 use Rattle.script_session.specs.Machine.{entries_added, session_over}
 use Rattle.script_session.specs.declared.refused_line.RefusedLine.{RefusedLine}
 use Rattle.tcm_session.specs.Limits.{input_limit, too_large_text}
@@ -36,19 +37,26 @@ large_outcome start input =
 unfoldable pub script_outcome : Start → List ℕ → Outcome
 script_outcome start input = if nat_le (length input) input_limit then whole_outcome start input else large_outcome start input
 
--- a script from the log in a file; if the log is refused, no line is answered
-abbrev pub outcome_from : List ℕ → Files → List ℕ → Result (List Entry) RefusedLine → List ℕ → Outcome
-outcome_from name all file (Ok log) input =
-    script_outcome (record { log = log; file = Some name; files = cut_to_lines name file all }) input
-outcome_from name all file (Err refused) input = ended_outcome (refused_end refused) all
+-- a script from the log in a file, which keeps its whole lines, or gets the header if it has none; if the log is refused,
+-- no line is answered
+abbrev pub outcome_from : List ℕ → List ℕ → Files → List ℕ → Result (List Entry) RefusedLine → List ℕ → Outcome
+outcome_from name cluster all file (Ok log) input =
+    script_outcome (record { log = log; file = Some name; files = map.insert all name (base_of cluster file) }) input
+outcome_from name cluster all file (Err refused) input = ended_outcome (refused_end refused) all
 
--- a file that is absent is an empty log
-abbrev pub outcome_loaded : List ℕ → Files → Loaded → List ℕ → Outcome
-outcome_loaded name all loaded.Absent input = script_outcome (record { log = []; file = Some name; files = all }) input
-outcome_loaded name all (loaded.TooLarge size) input = ended_outcome too_large_end all
-outcome_loaded name all (loaded.Bytes file) input = outcome_from name all file (log_of file) input
+-- the log must be that of this cluster
+abbrev pub outcome_in : List ℕ → List ℕ → Files → List ℕ → List ℕ → Outcome
+outcome_in name cluster all file input = outcome_from name cluster all file (log_for (Some cluster) file) input
 
--- without and with a log file
-abbrev pub commit_outcome : Option (List ℕ) → Files → List ℕ → Outcome
-commit_outcome None all input = script_outcome (record { log = []; file = None; files = all }) input
-commit_outcome (Some name) all input = outcome_loaded name all (loaded_of (file_of all name) input_limit) input
+-- a file that is absent has no line
+abbrev pub outcome_loaded : List ℕ → List ℕ → Files → Loaded → List ℕ → Outcome
+outcome_loaded name cluster all loaded.Absent input = outcome_in name cluster all [] input
+outcome_loaded name cluster all (loaded.TooLarge size) input = ended_outcome too_large_end all
+outcome_loaded name cluster all (loaded.Bytes file) input = outcome_in name cluster all file input
+
+-- without a log file, and with the log file of a cluster
+abbrev pub commit_outcome : Files → List ℕ → Outcome
+commit_outcome all input = script_outcome (record { log = []; file = None; files = all }) input
+
+abbrev pub commit_to_outcome : List ℕ → List ℕ → Files → List ℕ → Outcome
+commit_to_outcome name cluster all input = outcome_loaded name cluster all (loaded_of (file_of all name) input_limit) input

@@ -1,10 +1,11 @@
--- A run that a fault ended: the lines that it did, the bytes that it printed, and those that it added to its log file.
-use Rattle.std.specs.Prelude.{◌≡◌, ◌≢◌, ◌⊎◌, ℕ, true, List, [], ◌∷◌, ◌++◌, Option, Some, None, option_map}
+-- A run that a fault ended: the lines that it did, the bytes that it printed, and what it left in the files.
+use Rattle.std.specs.Prelude.{◌≡◌, ◌≢◌, ◌⊎◌, ℕ, true, List, [], ◌∷◌, ◌++◌, Option, Some, None}
 use Rattle.std.specs.Io.{StartsWith}
-use Rattle.tcm_edges.specs.Files.{ChangesFile, Files, OthersKept, content}
-use Rattle.script_session.specs.LogFiles.{entry_lines, lines_part}
+use Rattle.tcm_edges.specs.Files.{ChangesFile, Files, OthersKept, content, file_of}
+use Rattle.script_session.specs.LogFiles.{base_of, entry_lines}
 use Rattle.script_session.specs.Machine.{SessionState, answers, entries_added, reply, session_after, session_over}
 use Rattle.tcm_session.specs.Outcome.{Outcome}
+use Rattle.tcm_session.specs.Request.{CommitTo, Mend, Request}
 
 -- ---- within the lines of a script
 
@@ -36,27 +37,31 @@ pub record StopsIn (session : SessionState) (lines : List (List ℕ)) (last prin
   pub adds : added ≡ entry_lines (entries_added session done) ++ part
   pub next : StopsNext (next_text (session_after session done) rest last) (next_added (session_after session done) rest) front part
 
--- ---- the log file
+-- ---- the files
 
--- a file gained these bytes; if there are none, an absent file may stay absent
-abbrev pub GainsThese : List ℕ → Option (List ℕ) → Option (List ℕ) → Type 0
-GainsThese bytes old new = (new ≡ Some (content old ++ bytes)) ⊎ ((new ≡ old) × (bytes ≡ []))
-
--- the file is cut to its whole lines, and has gained what the lines of the outcome added before the fault; at status 4,
--- a failed read, no part of an answer is printed, and no part of an entry added; only a log that was found good, after
--- which the input is read, is cut
-pub record Grows (o : Outcome) (printed : List ℕ) (status : ℕ) (file file' : Option (List ℕ)) : Type 0 where
+-- the log file has its whole lines, or the header if it had none, and then what the lines of the outcome added before the
+-- fault; at status 4, a failed read, no part of an answer is printed, and no part of an entry added; only a log that was
+-- found good, after which the input is read, changes
+pub record Grows (cluster : List ℕ) (o : Outcome) (printed : List ℕ) (status : ℕ) (file file' : Option (List ℕ)) : Type 0 where
   pub good : o.reads ≡ true
   pub added : List ℕ
   pub stops : StopsIn (session_over o.log) o.lines o.last printed added
-  pub gains : GainsThese added (option_map lines_part file) file'
+  pub holds : file' ≡ Some (base_of cluster (content file) ++ added)
   pub read_fault : status ≡ 4 → (stops.front ≡ []) × (stops.part ≡ [])
 
--- or the file is as before, and no line was done
-abbrev pub LeavesLog : Outcome → List ℕ → ℕ → Option (List ℕ) → Option (List ℕ) → Type 0
-LeavesLog o printed status file file' = ((file' ≡ file) × (o.reads ≡ true → printed ≡ [])) ⊎ Grows o printed status file file'
+-- or the log file is as before, and no line was done
+abbrev pub LeavesLog : List ℕ → Outcome → List ℕ → ℕ → Option (List ℕ) → Option (List ℕ) → Type 0
+LeavesLog cluster o printed status file file' =
+    ((file' ≡ file) × (o.reads ≡ true → printed ≡ [])) ⊎ Grows cluster o printed status file file'
 
--- every other file is as before; and each file, if no log file is named
-abbrev pub LeavesFiles : Option (List ℕ) → Option Files → Option Files → Outcome → List ℕ → ℕ → Type 0
-LeavesFiles None files files' o printed status = files' ≡ files
-LeavesFiles (Some name) files files' o printed status = ChangesFile (LeavesLog o printed status) files files' name × OthersKept files files' name
+-- the file that is made is as before, or it was absent and is as in the outcome
+abbrev pub LeavesNew : List ℕ → Outcome → Option (List ℕ) → Option (List ℕ) → Type 0
+LeavesNew name o file file' = (file' ≡ file) ⊎ ((file ≡ None) × (file' ≡ file_of o.files name))
+
+-- what a fault leaves in the files, by what was asked for: every file but this one is as before
+abbrev pub LeavesFiles : Option Request → Option Files → Option Files → Outcome → List ℕ → ℕ → Type 0
+LeavesFiles (Some (CommitTo log cluster)) files files' o printed status =
+    ChangesFile (LeavesLog cluster o printed status) files files' log × OthersKept files files' log
+LeavesFiles (Some (Mend old new cluster)) files files' o printed status =
+    ChangesFile (LeavesNew new o) files files' new × OthersKept files files' new
+LeavesFiles _ files files' o printed status = files' ≡ files

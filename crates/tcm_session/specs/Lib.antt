@@ -3,6 +3,7 @@ pub mod Counts
 pub mod Gen
 pub mod Left
 pub mod Limits
+pub mod Mend
 pub mod Outcome
 pub mod Outcomes
 pub mod Request

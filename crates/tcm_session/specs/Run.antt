@@ -12,14 +12,15 @@ use Rattle.script_session.specs.Lines.{whole_lines}
 use Rattle.script_session.specs.Machine.{answers, session_over}
 use Rattle.tcm_session.specs.Outcome.{Outcome, input_limit, printed_by}
 use Rattle.tcm_session.specs.Outcomes.{outcome}
-use Rattle.tcm_session.specs.Request.{Replay, Request, named_log}
-use Rattle.tcm_session.specs.files.ReplayPrefix.{AreFilesOf, ReportsPrefix, taken_of_files}
+use Rattle.tcm_session.specs.Request.{Cms, Replay, Request}
+use Rattle.tcm_session.specs.files.MemberRoute.{IsSafeRoute}
+use Rattle.tcm_session.specs.files.ReplayPrefix.{AreFilesOf, AreHeadedFiles, ReportsPrefix, taken_of_files}
 use Rattle.session_laws.specs.Shown.{PrintsMeeting}
 use Rattle.script_session.specs.Taken.{FollowersShow}
 
--- the statuses, 0 to 8: the end of the input, of a replay, of a state or of a summary, out of memory, the usage line, a
--- line of a file that is refused, a fault of the source, of the sink or of the store, a file or an epoch that is absent,
--- an input or a file that is too large
+-- the statuses, 0 to 8: the end of the input, of a replay, of a state, of a route or of a summary, out of memory, the
+-- usage line, a line of a file that is refused, a fault of the source, of the sink or of the store, a file or an epoch
+-- that is absent or a node that isn't joined, an input or a file that is too large
 abbrev pub IsStatus : ℕ → Type 0
 IsStatus status = status ≤ 8
 
@@ -70,17 +71,17 @@ pub record ReadsFor {S : Type 0} (o : Outcome) (left : S → Option (List ℕ)) 
   pub past_limit : status ≡ 8 → o.reads ≡ true → length reads.read ≡ input_limit + 1
   pub unread : o.reads ≡ false → (input' ≡ input) × (status ≢ 4)
 
--- a replay of files of one log, with entries and images of it, refuses no line, and prints the report of a follower at
--- the end of the longest gapless prefix of what it took
+-- a replay of files of one log, with entries and images of it, prints the report of a follower at the end of the longest
+-- gapless prefix of what it took; it refuses no line, if headers stand only on first lines and name one cluster
 pub record ReplaysLog (names : List (List ℕ)) (seen : ℕ → Files) (log : List Entry) (printed : List ℕ) (status : ℕ) : Type 0 where
-  pub unrefused : status ≢ 3
+  pub unrefused : (cluster : List ℕ) → AreHeadedFiles cluster names seen → status ≢ 3
   pub reports : status ≡ 0 → ReportsPrefix log (taken_of_files names seen) printed
 
 -- a run for a request: it prints the bytes of the request's outcome, it reads as its outcome says, and the quorums in the
--- printed lines meet (`ShownMeet`), unless the status is 7, as the name of an absent file may hold any line; each
--- follower of a script, and that of a replay of files of one log, shows the longest gapless prefix of what it took
--- (`ShowsPrefix`); and what a fault leaves in the log file is what the lines added that were done, with at most a part
--- of one entry more
+-- printed lines meet (`ShownMeet`), unless the status is 7, as the name of a file may hold any line; each follower of a
+-- script, and that of a replay of files of one log, shows the longest gapless prefix of what it took (`ShowsPrefix`);
+-- what a fault leaves in the log file is what the lines added that were done, with at most a part of one entry more; a
+-- file that is made is whole, or absent as before; and the route between two sets of members is safe
 pub record IsRun {S : Type 0} (request : Option Request) (left : S → Option (List ℕ)) (input input' : S) (written written' : Option (List ℕ)) (files files' : Option Files) (status : ℕ) : Type 0 where
   pub given : Given (left input) files
   pub comes : ComesTo (outcome request given.seen given.input) written written' files' status
@@ -90,7 +91,8 @@ pub record IsRun {S : Type 0} (request : Option Request) (left : S → Option (L
   pub followers : FollowersShow (outcome request given.seen given.input).log (outcome request given.seen given.input).lines
   pub replays : (names : List (List ℕ)) → request ≡ Some (Replay names) → (log : List Entry) → IsLog log
       → AreFilesOf log names given.seen → ReplaysLog names given.seen log comes.printed status
-  pub leaves : (IsFinal status → ⊥) → LeavesFiles (named_log request) files files' (outcome request given.seen given.input) comes.printed status
+  pub leaves : (IsFinal status → ⊥) → LeavesFiles request files files' (outcome request given.seen given.input) comes.printed status
+  pub routes : (log from to : List ℕ) → request ≡ Some (Cms log from to) → IsSafeRoute from to
 
 -- the count of faults after a run: one more if its status says so, else the same
 abbrev pub more_if : Bool → ℕ → ℕ

@@ -5,7 +5,7 @@ use Rattle.transformations.specs.declared.entry.Entry.{Entry}
 use Rattle.script_lang.specs.Grammar.{line_of}
 use Rattle.script_lang.specs.declared.script_line.ScriptLine.{ScriptLine}
 use Rattle.script_lang.specs.declared.script_line.ScriptLine.TheVariants.{Commit}
-use Rattle.script_session.specs.LogFiles.{entry_lines, lines_part, log_of}
+use Rattle.script_session.specs.LogFiles.{base_of, entry_lines, log_for}
 use Rattle.script_session.specs.Machine.{SessionState, entries_added, reply, session_after, session_next, session_over}
 
 -- the answers to the commits among some lines
@@ -37,13 +37,14 @@ pub record ComesToSame (log log' : List Entry) (lines : List (List ℕ)) : Type 
   pub answers : commit_answers (session_over log') lines ≡ commit_answers (session_over log) lines
   pub logs : (session_after (session_over log') lines).log ≡ (session_after (session_over log) lines).log
 
--- the bytes of a log file, once lines are answered from its log without a fault
-abbrev pub file_after : List ℕ → List Entry → List (List ℕ) → List ℕ
-file_after file log lines = lines_part file ++ entry_lines (entries_added (session_over log) lines)
+-- the bytes of a cluster's log file, once lines are answered from its log without a fault
+abbrev pub file_after : List ℕ → List ℕ → List Entry → List (List ℕ) → List ℕ
+file_after cluster file log lines = base_of cluster file ++ entry_lines (entries_added (session_over log) lines)
 
 -- a log file that a fault left while lines were answered from a log: it reads as the log after the first n lines, and
 -- the lines that are sent again make of it the file that one run without a fault makes, if each commit is accepted
-pub record GoesOn (log : List Entry) (lines : List (List ℕ)) (file file' : List ℕ) : Type 0 where
+pub record GoesOn (cluster : List ℕ) (log : List Entry) (lines : List (List ℕ)) (file file' : List ℕ) : Type 0 where
   pub n : ℕ
-  pub reads : log_of file' ≡ Ok (log_at log lines n)
-  pub same : AreAccepted (session_over log) lines → file_after file' (log_at log lines n) lines ≡ file_after file log lines
+  pub reads : log_for (Some cluster) file' ≡ Ok (log_at log lines n)
+  pub same : AreAccepted (session_over log) lines
+      → file_after cluster file' (log_at log lines n) lines ≡ file_after cluster file log lines

@@ -1,5 +1,6 @@
 -- What the lines of files say.
 pub mod FileEnds
+pub mod MemberRoute
 pub mod Replay
 pub mod ReplayPrefix
 pub mod StateLine

@@ -1,8 +1,9 @@
 //! The ends of runs that read no input: their statuses and texts.
 
 ghost use Rattle.std.specs.Prelude.{◌≡◌, ◌++◌, codes, decimal, IfOk};
-ghost use Rattle.script_lang.specs.AnswerTexts.{no_text};
+ghost use Rattle.script_lang.specs.AnswerTexts.{line, no_text};
 ghost use Rattle.tcm_session.specs.Counts.{counts};
+ghost use Rattle.tcm_session.specs.Mend as mend;
 ghost use Rattle.tcm_session.specs.Outcomes.{usage_end};
 ghost use Rattle.tcm_session.specs.code.Runs.{Writes};
 ghost use Rattle.tcm_session.specs.files.FileEnds as spec;
@@ -11,13 +12,14 @@ use crate::limits::TOO_LARGE;
 use crate::run_fault::RunFault;
 use crate::status::Status;
 use cluster_terms::{ByteText, Memory};
-use script_lang::no_epoch_text;
+use script_lang::{labelled, no_epoch_text};
 use script_session::{RefusedLine, refused_line_text};
 use std::alloc::Global;
 use tcm_edges::{Sink, write_all};
 
 /// The text that is printed for words that name no command.
-const USAGE: &str = "usage: tcm commit [LOG] | replay FILE.. | snapshot LOG E | gen START N\n";
+const USAGE: &str =
+    "usage: tcm commit [LOG CLUSTER] | replay FILE.. | snapshot LOG E | gen START N | mend2 OLD NEW CLUSTER | cms LOG FROM TO\n";
 
 /// Writes a text to `out`.
 pub fn print_text<K: Sink>(text: &[u8], out: &mut K) -> Result<(), RunFault>
@@ -55,15 +57,22 @@ impl Ending {
         Ok(Ending { status: 2, text })
     }
 
+    /// The end with status 7 that shows a name after a label. Fails only if memory runs out.
+    fn naming(alloc: Global, label: &[u8], name: &str) -> Result<Ending, Memory>
+        ensures { IfOk result (λ ending. ending ≡ record { status = 7; text = line (label.now ++ name.now) }) }
+    {
+        let mut text = ByteText::empty(alloc);
+        text.extend(label)?;
+        text.extend(name.as_bytes())?;
+        text.extend(b"\n")?;
+        Ok(Ending { status: 7, text })
+    }
+
     /// The end at a file that is absent. Fails only if memory runs out.
     pub fn absent(alloc: Global, name: &str) -> Result<Ending, Memory>
         ensures { IfOk result (λ ending. ending ≡ spec.absent_end name.now) }
     {
-        let mut text = ByteText::empty(alloc);
-        text.extend(b"NO FILE ")?;
-        text.extend(name.as_bytes())?;
-        text.extend(b"\n")?;
-        Ok(Ending { status: 7, text })
+        Ending::naming(alloc, b"NO FILE ", name)
     }
 
     /// The end at a file that is too large. Fails only if memory runs out.
@@ -83,6 +92,23 @@ impl Ending {
         let mut text = ByteText::empty(alloc);
         no_epoch_text(last, &mut text)?;
         Ok(Ending { status: 7, text })
+    }
+
+    /// The end once a log file is made, with the number of its entries. Fails only if memory runs out.
+    pub fn mended(alloc: Global, entries: u64) -> Result<Ending, Memory>
+        ensures { IfOk result (λ ending. ending ≡ mend.mended_end entries) }
+    {
+        let mut text = ByteText::empty(alloc);
+        labelled(b"MENDED ", &entries, &mut text)?;
+        text.extend(b"\n")?;
+        Ok(Ending { status: 0, text })
+    }
+
+    /// The end at a file that is to be made, and is there. Fails only if memory runs out.
+    pub fn file_there(alloc: Global, name: &str) -> Result<Ending, Memory>
+        ensures { IfOk result (λ ending. ending ≡ mend.file_there_end name.now) }
+    {
+        Ending::naming(alloc, b"FILE-THERE ", name)
     }
 
     /// The end at a line that is refused. Fails only if memory runs out.

@@ -1,11 +1,12 @@
-//! A run of the program: it reads a script, answers its lines, and keeps a log file; it replays files, prints a state, and
-//! counts the answers to a generated script.
+//! A run of the program: it reads a script, answers its lines, and keeps a log file; it replays files, prints a state or
+//! a route between two sets of members, counts the answers to a generated script, and writes a log file anew.
 #![tactic(auto)]
 
 mod ending;
 mod files;
 mod generated;
 mod limits;
+mod node_list;
 mod program;
 mod request;
 mod run_fault;

@@ -13,6 +13,8 @@ ghost use Rattle.tcm_session.specs.code.Runs.{IsEnd, RunsSeen};
 ghost use Rattle.tcm_session.specs.declared.run_fault.RunFault.TheVariants as fault;
 
 use crate::ending::Ending;
+use crate::files::member_route::show_route;
+use crate::files::mend::mend;
 use crate::files::report::replay_files;
 use crate::files::state_line::show_state;
 use crate::generated::count_answers;
@@ -33,7 +35,7 @@ fn answer<S: Source, K: Sink, D: Store>(
 ) -> Result<Status, RunFault>
     requires { IsWithin request }
     ensures runs { RunsSeen (outcome (Some (asked request.entry)))
-        (LeavesFiles (spec.named_log (Some (asked request.entry))) (D.files store.old) (D.files store.new))
+        (LeavesFiles (Some (asked request.entry)) (D.files store.old) (D.files store.new))
         S.left input.old input.new (K.written out.old) (K.written out.new)
         (D.files store.old) (D.files store.new) (status_by result) }
     ensures cause { counts (S.faults input.new) (K.faults out.new) (D.faults store.new)
@@ -41,14 +43,16 @@ fn answer<S: Source, K: Sink, D: Store>(
     ensures ended { IfOk result (λ status. IsEnd status.0) }
     ensures unnamed { spec.names_file (Some (asked request.entry)) ≡ false
         → (store.new ≡ store.old) × IfErr result (λ e. e ≢ fault.Store) }
-    ensures others { spec.is_commit (Some (asked request.entry)) ≡ false → D.files store.new ≡ D.files store.old }
+    ensures others { spec.may_change (Some (asked request.entry)) ≡ false → D.files store.new ≡ D.files store.old }
 {
     match request {
-        Request::Commit => commit(alloc, None, input, out, store),
-        Request::CommitTo { log } => commit_to(alloc, log, input, out, store),
+        Request::Commit => commit(alloc, input, out, store),
+        Request::CommitTo { log } => commit_to(alloc, &log, input, out, store),
         Request::Replay { files } => replay_files(alloc, files, store)?.print(out),
         Request::Snapshot { log, epoch } => show_state(alloc, log, epoch, store)?.print(out),
         Request::Gen { start, rounds } => count_answers(alloc, start, rounds)?.print(out),
+        Request::Mend { old, new } => mend(alloc, old, &new, store)?.print(out),
+        Request::Cms { log, from, to } => { show_route(alloc, log, &from, &to, store)?.print(out) }
     }
 }
 
@@ -61,7 +65,7 @@ fn answer_words<S: Source, K: Sink, D: Store>(
     store: &mut D,
 ) -> Result<Status, RunFault>
     ensures runs { RunsSeen (outcome (spec.request_of (map string_bytes words.now)))
-        (LeavesFiles (spec.named_log (spec.request_of (map string_bytes words.now)))
+        (LeavesFiles (spec.request_of (map string_bytes words.now))
         (D.files store.old) (D.files store.new))
         S.left input.old input.new (K.written out.old) (K.written out.new)
         (D.files store.old) (D.files store.new) (status_by result) }
@@ -70,10 +74,10 @@ fn answer_words<S: Source, K: Sink, D: Store>(
     ensures ended { IfOk result (λ status. IsEnd status.0) }
     ensures unnamed { spec.names_file (spec.request_of (map string_bytes words.now)) ≡ false
         → (store.new ≡ store.old) × IfErr result (λ e. e ≢ fault.Store) }
-    ensures others { spec.is_commit (spec.request_of (map string_bytes words.now)) ≡ false
+    ensures others { spec.may_change (spec.request_of (map string_bytes words.now)) ≡ false
         → D.files store.new ≡ D.files store.old }
 {
-    match request_of(words) {
+    match request_of(alloc, words) {
         Some(request) => answer(alloc, request, input, out, store),
         None => Ending::usage(alloc)?.print(out),
     }
@@ -82,22 +86,30 @@ fn answer_words<S: Source, K: Sink, D: Store>(
 /// Runs the program `tcm`; `words` are the words after its name. All output goes to `out`.
 ///
 /// - `commit` runs the script in `input` from an empty log, and uses no file.
-/// - `commit LOG` runs it from the log in the file `LOG` of `store`, and adds the line of each new entry to this file
-///   before its commit is answered. A file that is absent is an empty log; it is made when the first entry is added.
-///   Bytes after the last line feed of the file are cut off, once all its lines were found good.
+/// - `commit LOG CLUSTER` runs it from the log in the file `LOG` of `store`, which is that of the cluster `CLUSTER`, and
+///   adds the line of each new entry to this file before its commit is answered. The first line of the file is a header,
+///   which names the cluster. A file that is absent or has no whole line gets this header first. Bytes after the last
+///   line feed of the file are cut off, once all its lines were found good.
 /// - `replay FILE..`, with 1 to 64 files, hands the entries and the images in the lines of these files to one follower,
 ///   in their order, and prints a report: the counts of lines, the epoch of the follower and the number of entries that
 ///   wait at it, and the nodes and the placements at this epoch. No input is read, and no file changes. Each file is
-///   loaded once the files before it are done. Bytes after the last line feed of a file are passed over.
+///   loaded once the files before it are done. A file may begin with a header; all headers name one cluster. Bytes after
+///   the last line feed of a file are passed over.
 /// - `snapshot LOG E`, with an E below 2^64 in decimal digits without leading zeros, prints the state of the log in the
 ///   file `LOG` at epoch E, as one line. No input is read, and no file changes. The whole log is checked before E is
 ///   looked at.
 /// - `gen START N`, with a START below 2^64 and an N up to 3,000, both in decimal digits without leading zeros, answers
 ///   the lines of the generated script, and prints how many of its commits were accepted and refused, the last epoch
 ///   and the epoch of its follower. No input is read, and the store isn't used.
+/// - `mend2 OLD NEW CLUSTER` reads the file `OLD` as a log of the older format, which has no header, and makes the file
+///   `NEW`, the same log as that of the cluster `CLUSTER`. No input is read, and no other file changes.
+/// - `cms LOG FROM TO`, with lists of 1 to 16 ascending nodes, prints the shortest safe route of the metadata service from
+///   the members FROM to the members TO: each change, and how many of the voting members after it are a majority. The
+///   nodes of TO that are not in FROM must be JOINED in the last state of the log in the file `LOG`. No input is read,
+///   and no file changes.
 /// - Other words print the usage line.
 ///
-/// No name of a file is empty.
+/// No name of a file is empty, and a cluster has a name as a node has.
 ///
 /// A line of a script ends at a line feed; bytes after the last line feed, if there are any, are the last line. Each
 /// line gets one answer, which is written before the next line is looked at. The source may give the script in pieces
@@ -105,8 +117,9 @@ fn answer_words<S: Source, K: Sink, D: Store>(
 ///
 /// Returns the status of the run:
 ///
-/// - 0: the input was read to its end, and every line was answered; or all files were replayed; or a state was printed;
-///   or the answers to the generated script were counted.
+/// - 0: the input was read to its end, and every line was answered; or all files were replayed; or a state or a route was
+///   printed; or the answers to the generated script were counted; or a log file was made, and `MENDED` and the number of
+///   its entries were printed.
 /// - 1: memory ran out.
 /// - 2: the words name no command. Nothing was read, and the usage line was printed.
 /// - 3: a line of the log file, or of a file that is replayed, is refused. Nothing was read from the input, no file was
@@ -116,19 +129,23 @@ fn answer_words<S: Source, K: Sink, D: Store>(
 ///   with or without a file, gives this status.
 /// - 5: the sink failed.
 /// - 6: the store failed. Only words that name a file give this status.
-/// - 7: a file that is to be replayed, or whose state is to be shown, is absent, and `NO FILE` and its name were
-///   printed; or E is past the last epoch of the log, and `NO EPOCH` and the last epoch were printed.
+/// - 7: a file that is to be replayed or made anew, or whose state is to be looked at, is absent, and `NO FILE` and its
+///   name were printed; or E is past the last epoch of the log, and `NO EPOCH` and the last epoch were printed; or `NEW`
+///   is there, and `FILE-THERE` and its name were printed; or a node of TO that is not in FROM isn't JOINED, and for the
+///   least such node `NO NO-NODE` and the node were printed if it isn't registered, and `NO NODE-STATE`, the node and its
+///   state if it is.
 /// - 8: byte 536,870,913 of the input was read, and the lines that end before it were answered; or a file has more than
 ///   536,870,912 bytes, and no input was read. Then `TOO-LARGE 536870912` was printed.
 ///
 /// A run ends at its first fault: at status 4, 5 or 6 the source, the sink or the store counts one fault more than
 /// before, and no other count of faults changes at any status. If the text for status 0, 2, 3, 7 or 8 can't be written,
 /// the status is 5, or 1 if the sink runs out of memory. With status 1, 4, 5 or 6, the printed bytes are a prefix of
-/// the output of a run without the fault, and some lines of a script are done. The file `LOG` has then its whole lines
-/// and the lines of the entries that these added, and maybe a part of one entry more; or it is as before, and no line
-/// is done. It changes only once it was found good. An entry whose answer is printed, or begun, stands whole in it. No
-/// other file that the store tells changed; `FileStore` tells none, and may overwrite `LOG.new`.
-/// `scripts_are_sent_again` says what the same lines make of such a file.
+/// the output of a run without the fault, and some lines of a script are done. The file `LOG` has then its whole lines,
+/// or the header if it had none, and the lines of the entries that the script added, and maybe a part of one entry more;
+/// or it is as before, and no line is done. It changes only once it was found good. An entry whose answer is printed, or
+/// begun, stands whole in it. The file `NEW` is as before, or it was absent and is whole. No other file that the store
+/// tells changed; `FileStore` tells none, and may overwrite `LOG.new` or `NEW.new`. `scripts_are_sent_again` says what
+/// the same lines make of such a `LOG`.
 ///
 /// Cost: a run keeps in memory the log, the image of each 256th epoch, the metadata at the last epoch and that of each
 /// follower, the file while it is loaded, and of the current line at most 16,385 bytes, with its answer. A query of an
@@ -145,9 +162,11 @@ pub fn run<S: Source, K: Sink, D: Store>(
     // For the same input and files, the printed bytes are a prefix of the bytes of the outcome; at a final status they
     // are all of these bytes, and the files are those of the outcome. Quorums in the printed lines meet if they answer
     // the same question, at the same epoch or at a movement epoch and the epoch before it. Each follower of a script
-    // shows the longest prefix of the log without a gap that it took. A replay of files of one log refuses no line, and
-    // its follower, which is reported, shows this prefix, too. A fault leaves in the log file what the lines added that
-    // were done, and at most a part of one entry more.
+    // shows the longest prefix of the log without a gap that it took. The follower of a replay of files of one log, which
+    // is reported, shows this prefix, too, and no line is refused, if headers are well placed. A fault leaves in the log
+    // file what the lines added that were done, and at most a part of one entry more; and a file that is made is whole.
+    // The route of `cms` is safe: its changes are accepted and lead from FROM to TO, the majorities before and after each
+    // change meet, and no accepted list of changes from FROM to TO is shorter.
     ensures outcome { IsRun (spec.request_of (map string_bytes words.now)) S.left input.old input.new
         (K.written out.old) (K.written out.new) (D.files store.old) (D.files store.new) result.0 }
 
@@ -160,8 +179,8 @@ pub fn run<S: Source, K: Sink, D: Store>(
     ensures store { spec.names_file (spec.request_of (map string_bytes words.now)) ≡ false
         → (store.new ≡ store.old) × (result.0 ≢ 6) }
 
-    // Words other than `commit` change no file, whatever the status.
-    ensures unchanged { spec.is_commit (spec.request_of (map string_bytes words.now)) ≡ false
+    // Words other than `commit LOG CLUSTER` and `mend2` change no file, whatever the status.
+    ensures unchanged { spec.may_change (spec.request_of (map string_bytes words.now)) ≡ false
         → D.files store.new ≡ D.files store.old }
 {
     status_of(answer_words(alloc, words, input, out, store))

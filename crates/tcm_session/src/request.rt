@@ -1,12 +1,17 @@
 //! The words after the program's name.
 
-ghost use Rattle.std.specs.Prelude.{◌≡◌, ◌≤◌, length, map, option_map, string_bytes, IfSome, IsTrue};
+ghost use Rattle.std.specs.Prelude.{◌≡◌, ◌≤◌, ◌&&◌, if◌then◌else◌, length, map, option_map, string_bytes, IfSome, IsTrue, None, Some};
 ghost use Rattle.std.specs.List.{list_all};
 ghost use Rattle.script_lang.specs.Grammar.{number_below};
+ghost use Rattle.cluster_terms.specs.Name.{is_name};
 ghost use Rattle.tcm_session.specs.Request as spec;
-ghost use Rattle.tcm_session.specs.code.Requests.{IsWithin, asked};
+ghost use Rattle.tcm_session.specs.code.Requests.{IsWithin, asked, names_of};
 
+use crate::files::log_file::LogFile;
+use crate::node_list::{NodeList, node_list};
+use cluster_terms::Name;
 use script_lang::number_of;
+use std::alloc::Global;
 
 /// The most files of a replay.
 const MOST_FILES: usize = 64;
@@ -15,18 +20,39 @@ const MOST_FILES: usize = 64;
 const MOST_ROUNDS: u64 = 3_000;
 
 /// What the words after the program's name ask for.
-#[derive(Debug, Drop)]
+#[derive(Drop)]
 pub enum Request<'a> {
     /// To run a script, without a file.
     Commit,
     /// To run a script from the log in a file, and to add its entries to this file.
-    CommitTo { log: &'a str },
+    CommitTo {
+        log: LogFile<'a>,
+    },
     /// To replay 1 to 64 files.
-    Replay { files: &'a [String] },
+    Replay {
+        files: &'a [String],
+    },
     /// To print the state of the log in a file at an epoch.
-    Snapshot { log: &'a str, epoch: u64 },
+    Snapshot {
+        log: &'a str,
+        epoch: u64,
+    },
     /// To count the answers to a generated script of up to 3,000 rounds.
-    Gen { start: u64, rounds: u64 },
+    Gen {
+        start: u64,
+        rounds: u64,
+    },
+    /// To write the log in the file `old`, of the older format, anew as the log file of a cluster.
+    Mend {
+        old: &'a str,
+        new: LogFile<'a>,
+    },
+    /// To print the route from one set of members of the metadata service to another, by the log in a file.
+    Cms {
+        log: &'a str,
+        from: NodeList,
+        to: NodeList,
+    },
 }
 
 /// Whether a word may be the name of a file: it isn't empty.
@@ -34,6 +60,18 @@ fn is_file_name(name: &str) -> bool
     ensures { result ≡ spec.is_file_name name.now }
 {
     !name.is_empty()
+}
+
+/// The log file with these names, if they are the name of a file and that of a cluster.
+fn log_file<'a>(alloc: Global, name: &'a str, cluster: &str) -> Option<LogFile<'a>>
+    ensures { option_map names_of result
+        ≡ (if spec.is_log name.now cluster.now then Some (name.now, cluster.now) else None) }
+{
+    if !is_file_name(name) {
+        return None;
+    }
+    let cluster = Name::from_bytes(alloc, cluster.as_bytes()).unwrap()?;
+    Some(LogFile { name, cluster })
 }
 
 /// Whether each word may be the name of a file.
@@ -73,15 +111,18 @@ fn rounds_of(text: &str) -> Option<u64>
 }
 
 /// What the words after `commit` ask for, if anything.
-fn commit_request(words: &[String]) -> Option<Request<'_>>
+fn commit_request(alloc: Global, words: &[String]) -> Option<Request<'_>>
     ensures is { option_map asked result ≡ spec.commit_request (map string_bytes words.now) }
     ensures within { IfSome result IsWithin }
 {
-    match words {
-        [] => Some(Request::Commit),
-        [log] if is_file_name(log.as_str()) => Some(Request::CommitTo { log: log.as_str() }),
-        _ => None,
+    if words.is_empty() {
+        return Some(Request::Commit);
     }
+    let [log, cluster] = words else {
+        return None;
+    };
+    let log = log_file(alloc, log.as_str(), cluster.as_str())?;
+    Some(Request::CommitTo { log })
 }
 
 /// What the words after `replay` ask for, if anything.
@@ -126,18 +167,51 @@ fn gen_request(words: &[String]) -> Option<Request<'_>>
     }
 }
 
+/// What the words after `mend2` ask for, if anything.
+fn mend_request(alloc: Global, words: &[String]) -> Option<Request<'_>>
+    ensures is { option_map asked result ≡ spec.mend_request (map string_bytes words.now) }
+    ensures within { IfSome result IsWithin }
+{
+    match words {
+        [old, new, cluster] if is_file_name(old.as_str()) => {
+            let new = log_file(alloc, new.as_str(), cluster.as_str())?;
+            let old = old.as_str();
+            Some(Request::Mend { old, new })
+        }
+        _ => None,
+    }
+}
+
+/// What the words after `cms` ask for, if anything.
+fn cms_request(words: &[String]) -> Option<Request<'_>>
+    ensures is { option_map asked result ≡ spec.cms_request (map string_bytes words.now) }
+    ensures within { IfSome result IsWithin }
+{
+    match words {
+        [log, from, to] if is_file_name(log.as_str()) => {
+            let from = node_list(from.as_str().as_bytes())?;
+            let to = node_list(to.as_str().as_bytes())?;
+            let log = log.as_str();
+            Some(Request::Cms { log, from, to })
+        }
+        _ => None,
+    }
+}
+
 /// What the words after the program's name ask for. Returns `None` for words that name no command.
 #[tactic(auto, unfolding(crate::specs::Request::request_of))]
-pub fn request_of(words: &[String]) -> Option<Request<'_>>
+pub fn request_of(alloc: Global, words: &[String]) -> Option<Request<'_>>
     ensures is { option_map asked result ≡ spec.request_of (map string_bytes words.now) }
     ensures within { IfSome result IsWithin }
 {
     let (word, words) = words.split_first()?;
     match word.as_str() {
-        "commit" => commit_request(words),
+        "commit" => commit_request(alloc, words),
         "replay" => replay_request(words),
         "snapshot" => snapshot_request(words),
         "gen" => gen_request(words),
+        "mend2" => mend_request(alloc, words),
+        "cms" => cms_request(words),
         _ => None,
     }
 }

@@ -2,6 +2,7 @@
 pub mod KeysLemmas
 pub mod KindsLemmas
 pub mod LineLemmas
+pub mod LineParts
 pub mod ListItems
 pub mod MembersLemmas
 pub mod PairItems

@@ -1,5 +1,6 @@
 pub mod Entries
 pub mod EntryTexts
+pub mod Header
 pub mod Kinds
 pub mod LineImages
 pub mod Reading

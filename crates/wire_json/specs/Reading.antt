@@ -1,15 +1,16 @@
--- The entry or the image in a line of a file, or the first rule that the line breaks.
-use Rattle.std.specs.Prelude.{ℕ, ◌≤◌, Bool, ◌&&◌, if◌then◌else◌, List, [], ◌∷◌, length, Option, Some, None, Result, Ok, Err, option_and_then, ok_or, nat_le, codes, ⊤, IsTrue}
+-- The entry, the image or the header in a line of a file, or the first rule that the line breaks.
+use Rattle.std.specs.Prelude.{ℕ, ◌≤◌, Bool, ◌&&◌, ◌==◌, if◌then◌else◌, List, [], ◌∷◌, length, Option, Some, None, Result, Ok, Err, option_and_then, ok_or, nat_le, codes, ⊤, IsTrue}
 use Rattle.std.specs.Str.{is_utf8}
 use Rattle.serde_json.specs.Data.{Data}
 use Rattle.serde_json.specs.Read.{read}
 use Rattle.transformations.specs.History.{is_command, most_epochs}
 use Rattle.transformations.specs.declared.entry.Entry.{Entry as AnyEntry}
+use Rattle.wire_json.specs.Header.{header_keys}
 use Rattle.wire_json.specs.Kinds.{command_at}
 use Rattle.wire_json.specs.Snapshots.{snapshot_at, snapshot_keys}
-use Rattle.wire_json.specs.Values.{has_keys, number_at}
+use Rattle.wire_json.specs.Values.{has_keys, name_at, number_at}
 use Rattle.wire_json.specs.declared.line.Line.{Line}
-use Rattle.wire_json.specs.declared.line.Line.TheVariants.{Entry, Snapshot}
+use Rattle.wire_json.specs.declared.line.Line.TheVariants.{Header, Entry, Snapshot}
 use Rattle.wire_json.specs.declared.line.ReadLineFault.{ReadLineFault}
 use Rattle.wire_json.specs.declared.line.ReadLineFault.TheVariants.{Bad}
 
@@ -51,21 +52,38 @@ entry_of value = do
   command ← found 5 (command_at (codes "command") value)
   Ok (record { id = id; epoch = epoch; cmd = command })
 
--- the image of a snapshot line, or rule 6; and an entry, or the first of rules 3 to 5 that the value breaks
+-- the cluster's name in a header, whose format is the whole number 2
+unfoldable pub header_of : Data → Result (List ℕ) ReadLineFault
+header_of value = do
+  cluster ← found 7 (name_at (codes "cluster") value)
+  format ← found 7 (number_at (codes "format") value)
+  two ← holds 7 (format == 2)
+  Ok cluster
+
+-- the image of a snapshot line, or rule 6; a header, or rule 7; and an entry, or the first of rules 3 to 5 that the
+-- value breaks
 abbrev pub image_of_line : Data → Result Line ReadLineFault
 image_of_line value = do
   image ← found 6 (snapshot_at (codes "snapshot") value)
   Ok (Snapshot image)
+
+abbrev pub header_of_line : Data → Result Line ReadLineFault
+header_of_line value = do
+  cluster ← header_of value
+  Ok (Header cluster)
 
 abbrev pub entry_of_line : Data → Result Line ReadLineFault
 entry_of_line value = do
   entry ← entry_of value
   Ok (Entry entry)
 
--- what a JSON value says: an image, if its only key is `snapshot`, and otherwise an entry. An object with the keys of
--- neither breaks rule 3
+-- what a JSON value says: an image, if its only key is `snapshot`, a header, if its keys are those of a header, and
+-- otherwise an entry. An object with the keys of none breaks rule 3
 unfoldable pub line_in : Data → Result Line ReadLineFault
-line_in value = if has_keys snapshot_keys value then image_of_line value else entry_of_line value
+line_in value =
+    if has_keys snapshot_keys value then image_of_line value
+    else if has_keys header_keys value then header_of_line value
+    else entry_of_line value
 
 -- what a line says, or the first rule that the line breaks; the line comes without its line feed
 unfoldable pub reading : List ℕ → Result Line ReadLineFault
@@ -76,10 +94,12 @@ reading bytes = do
 
 -- if the line is an entry whose command lists tokens, they are 1 to 256 and ascend
 abbrev pub HasTokens : Line → Type 0
+HasTokens (Header cluster) = ⊤
 HasTokens (Entry entry) = IsTrue (is_command entry.cmd)
 HasTokens (Snapshot image) = ⊤
 
 -- if the line is an entry, its epoch is at most the last one that there can be
 abbrev pub HasEpoch : Line → Type 0
+HasEpoch (Header cluster) = ⊤
 HasEpoch (Entry entry) = entry.epoch ≤ most_epochs
 HasEpoch (Snapshot image) = ⊤

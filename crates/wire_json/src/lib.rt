@@ -1,4 +1,4 @@
-//! Reads and writes the lines of files. Each line is a JSON object: that of an entry, or that of a snapshot.
+//! Reads and writes the lines of files. Each line is a JSON object: that of a header, of an entry or of a snapshot.
 #![tactic(auto)]
 
 mod command_values;
@@ -16,5 +16,5 @@ mod writing;
 
 pub use line::{Line, ReadLineFault};
 pub use line_reading::read_line;
-pub use validity::{entries_read_back, images_read_back, sound_images_fit};
-pub use writing::{entry_line, snapshot_line};
+pub use validity::{entries_read_back, headers_read_back, images_read_back, sound_images_fit};
+pub use writing::{entry_line, header_line, snapshot_line};

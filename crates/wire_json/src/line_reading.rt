@@ -1,4 +1,4 @@
-//! Reads the lines of files: entries and snapshots.
+//! Reads the lines of files: headers, entries and snapshots.
 
 ghost use Rattle.std.specs.Prelude.{◌≡◌, ◌≢◌, ◌<◌, length, Err, IfOk, option_map};
 ghost use Rattle.serde_json.specs.View.{view};
@@ -10,9 +10,10 @@ ghost use Rattle.wire_json.specs.declared.line.Line.TheVariants.{Snapshot};
 ghost use Rattle.wire_json.specs.declared.line.ReadLineFault.TheVariants as fault;
 
 use crate::commands::command_of;
-use crate::line::{Line, ReadLineFault};
+use crate::line::{LOG_FORMAT, Line, ReadLineFault};
 use crate::object_members::{one_at, three_at};
 use crate::snapshot_reading::image_in;
+use crate::values::{has_keys, name_at, number_at};
 use serde_json::Value;
 use std::alloc::Global;
 use transformations::Entry;
@@ -23,14 +24,16 @@ const MOST_BYTES: usize = 4_194_304;
 /// The greatest epoch of an entry.
 const MOST_EPOCHS: u64 = 65_536;
 
-/// Reads a line of a file; `bytes` is the line without its line feed. The line is an entry line or a snapshot line. It
-/// may be any JSON text of its object: keys may come in any order, and if a key comes twice, the last value counts.
+/// Reads a line of a file; `bytes` is the line without its line feed. The line is a header line, an entry line or a
+/// snapshot line. It may be any JSON text of its object: keys may come in any order, and if a key comes twice, the last
+/// value counts.
 ///
 /// Fails with `Bad(rule)` for the first of these rules that the line breaks:
 ///
 /// 1. The line has at most 4,194,304 bytes. A longer line is refused without taking memory.
 /// 2. It is a JSON text in UTF-8, nested at most 127 deep, and no number in it is too large for a float.
-/// 3. It is an object with exactly the keys `command`, `entry` and `epoch`, or with exactly the key `snapshot`.
+/// 3. It is an object with exactly the keys `command`, `entry` and `epoch`, with exactly the key `snapshot`, or with
+///    exactly the keys `cluster` and `format`.
 /// 4. `entry` is a whole number below 2^64, and `epoch` is a whole number from 1 to 65,536. A whole number has no point
 ///    and no exponent, and isn't `-0`.
 /// 5. `command` is an object with exactly the keys of its kind. Names are valid, a replication is written as in
@@ -40,6 +43,7 @@ const MOST_EPOCHS: u64 = 65_536;
 ///    `epoch` is a whole number below 2^64, `next` a whole number below 2^32, and the others are lists of any length.
 ///    Their items have exactly the keys of their kind, with values as in rule 5; a pair is a list of a token and a
 ///    node. An image that is read needn't be valid.
+/// 7. `cluster` is a valid name, and `format` is the whole number 2.
 ///
 /// Fails with `Memory` if memory runs out. The cost is a pass over the bytes and over the value.
 pub fn read_line(alloc: Global, bytes: &[u8]) -> Result<Line, ReadLineFault>
@@ -55,13 +59,14 @@ pub fn read_line(alloc: Global, bytes: &[u8]) -> Result<Line, ReadLineFault>
     line_in(alloc, &value)
 }
 
-/// What a JSON value says: rules 3 to 6.
+/// What a JSON value says: rules 3 to 7.
 #[tactic(auto, using(crate::proofs::json_values::LineLemmas::gives_entry, crate::proofs::json_values::LineLemmas::gives_image), unfolding(crate::specs::Reading::line_in))]
 fn line_in(alloc: Global, value: &Value) -> Result<Line, ReadLineFault>
     ensures { code.Gives (λ line. line) result (spec.line_in (view value.now)) }
 {
     match one_at(value, "snapshot") {
         Some(image) => image_of_line(alloc, image),
+        None if has_keys(value, &["cluster", "format"]) => header_of_line(alloc, value),
         None => entry_of(alloc, value).map(Line::Entry),
     }
 }
@@ -73,6 +78,18 @@ fn image_of_line(alloc: Global, value: &Value) -> Result<Line, ReadLineFault>
     match image_in(alloc, value)? {
         Some(image) => Ok(Line::Snapshot(image)),
         None => Err(ReadLineFault::Bad(6)),
+    }
+}
+
+/// The header line in a JSON value: rule 7.
+#[tactic(auto, unfolding(crate::specs::Reading::header_of))]
+fn header_of_line(alloc: Global, value: &Value) -> Result<Line, ReadLineFault>
+    ensures { code.Gives (λ line. line) result (spec.header_of_line (view value.now)) }
+{
+    let format = number_at(value, "format");
+    match name_at(alloc, value, "cluster")? {
+        Some(cluster) if format == Some(LOG_FORMAT) => Ok(Line::Header(cluster)),
+        _ => Err(ReadLineFault::Bad(7)),
     }
 }
 

@@ -1,10 +1,12 @@
 //! Facts about the definitions of lines.
 
-ghost use Rattle.std.specs.Prelude.{◌≡◌, ◌≤◌, length, Ok};
+ghost use Rattle.std.specs.Prelude.{◌≡◌, ◌≤◌, ℕ, List, length, IsTrue, Ok};
+ghost use Rattle.cluster_terms.specs.Name.{is_name};
 ghost use Rattle.transformations.specs.Valid.{IsSound};
 ghost use Rattle.transformations.specs.declared.entry.Entry.{Entry};
 ghost use Rattle.transformations.specs.declared.image.Image.{Image};
 ghost use Rattle.wire_json.specs.Entries.{IsEntry};
+ghost use Rattle.wire_json.specs.Header.{header_text};
 ghost use Rattle.wire_json.specs.LineImages.{FitsLine};
 ghost use Rattle.wire_json.specs.Reading.{most_bytes, reading};
 ghost use Rattle.wire_json.specs.SnapshotTexts.{image_text};
@@ -16,6 +18,12 @@ ghost use Rattle.wire_json.specs.declared.line.Line.TheVariants as line;
 #[tactic(auto, using(crate::proofs::entries::EntriesReadBack::entry_reads_back))]
 pub fn entries_read_back()
     ensures { (entry : Entry) → IsEntry entry → reading (entry_text entry) ≡ Ok (line.Entry entry) }
+{}
+
+/// Reading the text of a header gives the header back, for each name that a cluster may have.
+#[tactic(auto, using(crate::proofs::headers::HeadersReadBack::header_reads_back))]
+pub fn headers_read_back()
+    ensures { (cluster : List ℕ) → IsTrue (is_name cluster) → reading (header_text cluster) ≡ Ok (line.Header cluster) }
 {}
 
 /// Reading the text of an image gives the image back, if its values fit a line and its text isn't longer than a line

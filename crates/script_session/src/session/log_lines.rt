@@ -38,6 +38,7 @@ impl Session {
         ensures err { OnErr result (self.new ≡ self.old) }
     {
         match content {
+            Line::Header(_cluster) => Ok(Some(Cause::Header)),
             Line::Entry(entry) => self.take_entry(entry),
             Line::Snapshot(_image) => Ok(Some(Cause::NotEntry)),
         }

@@ -2,7 +2,6 @@
 use Rattle.std.proofs.Common.{◌≡◌, ℕ, List, [], ◌∷◌, ◌++◌, Option, Some, None, refl, sym, subst, arith}
 use Rattle.std.proofs.lemmas.List.{append-nil}
 use Rattle.std.proofs.lemmas.List.Elements.{Contains-append_left, Contains-append_right}
-use Rattle.tcm_edges.specs.declared.store.Loaded.TheVariants as loaded
 use Rattle.script_lang.specs.Grammar.{line_of}
 use Rattle.script_lang.specs.AnswerTexts.{line}
 use Rattle.script_session.specs.Lines.{open_line}

@@ -1,12 +1,13 @@
-//! Lines of log files: entries both ways, and lines that break a rule.
+//! Lines of files: headers and entries both ways, and lines that break a rule.
 
-use cluster_terms::TryCopy;
+use crate::calls::name_of;
+use cluster_terms::{Name, TryCopy};
 use script_lang::{ScriptLine, parse_line};
 use std::alloc::Global;
 use std::process::Abort;
 use std::test::Fail;
 use transformations::{Command, Entry};
-use wire_json::{Line, ReadLineFault, entry_line, read_line};
+use wire_json::{Line, ReadLineFault, entry_line, header_line, read_line};
 
 /// A command as scripts write it, and as lines of log files write it.
 const COMMANDS: [(&str, &str); 25] = [
@@ -112,7 +113,7 @@ const SPELLINGS: [(&str, &str); 10] = [
 ];
 
 /// A rule, and a line of which it is the first broken rule.
-const BROKEN: [(u8, &[u8]); 26] = [
+const BROKEN: [(u8, &[u8]); 34] = [
     (2, b""),
     (2, b" "),
     (2, b"{"),
@@ -169,6 +170,69 @@ const BROKEN: [(u8, &[u8]); 26] = [
     (4, br#"{"command":5,"entry":-1,"epoch":0}"#),
     (5, br#"{"command":5,"entry":1,"epoch":2}"#),
     (6, br#"{"snapshot":{}}"#),
+    (2, br#"{"cluster":"c1","format":2"#),
+    (2, b"{\"cluster\":\"c\n\",\"format\":2}"),
+    (3, br#"{"cluster":"c1"}"#),
+    (3, br#"{"format":2}"#),
+    (3, br#"{"Cluster":"c1","format":2}"#),
+    (3, br#"{"cluster":"c1","format":2,"more":0}"#),
+    (3, br#"{"cluster":"c1","epoch":1,"entry":1,"format":2}"#),
+    (7, br#"{"cluster":5,"format":0}"#),
+];
+
+/// Names of clusters: the shortest and the longest ones among them.
+const CLUSTERS: [&str; 6] = [
+    "c1",
+    "0",
+    "-",
+    "._-",
+    "Test_Cluster-1.b",
+    "abcdefghijklmnopqrstuvwxyzABCDEF",
+];
+
+/// Other spellings of the header of `c1`.
+const HEADERS: [&str; 7] = [
+    r#"{"cluster":"c1","format":2}"#,
+    r#"{"format":2,"cluster":"c1"}"#,
+    " {\t\"cluster\" : \"c1\" , \"format\":2 }\r",
+    r#"{"cluster":"\u00631","format":2}"#,
+    r#"{"cl\u0075ster":"c1","\u0066ormat":2}"#,
+    r#"{"cluster":"c2","format":2,"cluster":"c1"}"#,
+    r#"{"cluster":"c1","format":1,"format":2}"#,
+];
+
+/// JSON texts that aren't the name of a cluster.
+const NO_CLUSTERS: [&str; 12] = [
+    "1",
+    "null",
+    "true",
+    "{}",
+    r#"["c1"]"#,
+    r#""""#,
+    r#"" ""#,
+    r#""c 1""#,
+    r#""c/1""#,
+    r#""c1\n""#,
+    r#""c\u00e9""#,
+    r#""abcdefghijklmnopqrstuvwxyzABCDEFG""#,
+];
+
+/// JSON texts that aren't the format.
+const NO_FORMATS: [&str; 14] = [
+    "0",
+    "1",
+    "3",
+    "-2",
+    "-0",
+    "2.0",
+    "2.5",
+    "2e0",
+    "18446744073709551618",
+    "\"2\"",
+    "null",
+    "true",
+    "[2]",
+    "{}",
 ];
 
 /// JSON texts that aren't the id of an entry.
@@ -270,11 +334,12 @@ fn line_of(alloc: Global, command: &str, id: &str, epoch: &str) -> Result<String
     Ok(format!(in alloc; "{{\"command\":{command},\"entry\":{id},\"epoch\":{epoch}}}")?)
 }
 
-/// The entry in a line, or `None` if the line is an image or breaks a rule.
+/// The entry in a line, or `None` if the line is a header or an image or breaks a rule.
 fn read(alloc: Global, line: &[u8]) -> Result<Option<Entry>, Fail> {
     match read_line(alloc, line) {
         Ok(Line::Entry(entry)) => Ok(Some(entry)),
         Ok(Line::Snapshot(_)) => Ok(None),
+        Ok(Line::Header(_)) => Ok(None),
         Err(ReadLineFault::Bad(_)) => Ok(None),
         Err(ReadLineFault::Memory) => Err("memory")?,
     }
@@ -302,6 +367,77 @@ fn goes_both_ways<A: Abort>(rt: &A, alloc: Global, words: &str, text: &str) -> R
     expected.push_str("\n")?;
     assert_eq!(rt; entry_line(alloc, &entry)?.as_slice(), expected.as_bytes());
     Ok(())
+}
+
+/// The line of a header, from the texts of its parts.
+fn header_of(alloc: Global, cluster: &str, format: &str) -> Result<String, Fail> {
+    Ok(format!(in alloc; "{{\"cluster\":{cluster},\"format\":{format}}}")?)
+}
+
+/// The cluster that a header names, or `None` for another line.
+fn cluster_of(content: Line) -> Option<Name> {
+    match content {
+        Line::Header(cluster) => Some(cluster),
+        Line::Entry(_) => None,
+        Line::Snapshot(_) => None,
+    }
+}
+
+/// The cluster that a line names, or `None` if the line is an entry or an image or breaks a rule.
+fn cluster_in(alloc: Global, line: &[u8]) -> Result<Option<Name>, Fail> {
+    match read_line(alloc, line) {
+        Ok(content) => Ok(cluster_of(content)),
+        Err(ReadLineFault::Bad(_)) => Ok(None),
+        Err(ReadLineFault::Memory) => Err("memory")?,
+    }
+}
+
+/// Writes the header of a cluster, reads it, and writes it again.
+fn goes_both_ways_as_header<A: Abort>(rt: &A, alloc: Global, cluster: &str) -> Result<(), Fail> {
+    let quoted = format!(in alloc; "\"{cluster}\"")?;
+    let mut expected = header_of(alloc, &quoted, "2")?;
+    let found = cluster_in(alloc, expected.as_bytes())?.ok_or("no header")?;
+    expected.push_str("\n")?;
+    let name = name_of(alloc, cluster)?;
+    assert_eq!(rt; header_line(alloc, &name)?.as_slice(), expected.as_bytes());
+    assert_eq!(rt; header_line(alloc, &found)?.as_slice(), expected.as_bytes());
+    Ok(())
+}
+
+/// Parts of a header that break a rule.
+fn headers_break_rules<A: Abort>(rt: &A, alloc: Global) -> Result<(), Fail> {
+    for row in &NO_CLUSTERS {
+        let cluster = *row;
+        let line = header_of(alloc, cluster, "2")?;
+        assert_eq!(rt; rule_of(alloc, line.as_bytes())?, 7, "{cluster}");
+    }
+    for row in &NO_FORMATS {
+        let format = *row;
+        let line = header_of(alloc, "\"c1\"", format)?;
+        assert_eq!(rt; rule_of(alloc, line.as_bytes())?, 7, "{format}");
+    }
+    Ok(())
+}
+
+#[test]
+fn header_lines(rt: HostRuntime) -> Result<(), Fail> {
+    let alloc = rt.alloc();
+    for row in &CLUSTERS {
+        let cluster = *row;
+        goes_both_ways_as_header(&rt, alloc, cluster)?;
+    }
+    let mut expected = header_of(alloc, "\"c1\"", "2")?;
+    expected.push_str("\n")?;
+    for row in &HEADERS {
+        let line = *row;
+        let found = cluster_in(alloc, line.as_bytes())?.ok_or("no header")?;
+        assert_eq!(rt;
+            header_line(alloc, &found)?.as_slice(),
+            expected.as_bytes(),
+            "{line}"
+        );
+    }
+    headers_break_rules(&rt, alloc)
 }
 
 /// A list of `count` tokens that ascend.

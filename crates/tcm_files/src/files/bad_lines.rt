@@ -1,7 +1,9 @@
-//! Lines that break a rule, in a log and in a file that is replayed.
+//! Lines that break a rule, in a log, in a log without a header and in a file that is replayed.
 
-use crate::files::running::is_shown;
-use crate::files::told::{ENTRY_1, STATE_0, add_item, bytes_of, keeps_other, sure_store_of};
+use crate::files::running::{is_shown, words_in};
+use crate::files::told::{
+    ENTRY_1, HEADER, STATE_0, add_item, bytes_of, keeps_other, sure_store_of,
+};
 use std::alloc::Global;
 use std::process::Abort;
 use std::test::Fail;
@@ -9,7 +11,7 @@ use std::test::Fail;
 /// A line, and the first rule that it breaks.
 type BadLine = (&'static str, u8);
 
-/// Lines that are no entry and no state.
+/// Lines that are no header, no entry and no state.
 const NEITHER: [BadLine; 27] = [
     ("", 2),
     ("{", 2),
@@ -68,6 +70,55 @@ const NEITHER: [BadLine; 27] = [
         r#"{"snapshot":{"epoch":0,"keyspaces":[],"next":1,"nodes":[],"sequences":[],"tokens":[]},"snapshot":{}}"#,
         6,
     ),
+];
+
+/// Lines with keys of a header that are no header.
+const HEADERS: [BadLine; 36] = [
+    (r#"{"cluster":"c1"}"#, 3),
+    (r#"{"format":2}"#, 3),
+    (r#"{"cluster":"c1","format":2,"more":1}"#, 3),
+    (r#"{"Cluster":"c1","format":2}"#, 3),
+    (r#"{"cluster":"c1","Format":2}"#, 3),
+    (r#"{"cluster":"c1","epoch":1,"format":2}"#, 3),
+    (
+        r#"{"cluster":"c1","command":{"kind":"cancel","node":1},"entry":2,"epoch":2,"format":2}"#,
+        3,
+    ),
+    (
+        r#"{"cluster":"c1","format":2,"snapshot":{"epoch":0,"keyspaces":[],"next":1,"nodes":[],"sequences":[],"tokens":[]}}"#,
+        3,
+    ),
+    (r#"["c1",2]"#, 3),
+    (r#"{"cluster":"c1","format":2"#, 2),
+    (r#"{"cluster":"c1","format":2}}"#, 2),
+    (r#"{"cluster":"c1","format":02}"#, 2),
+    (r#"{"cluster":1,"format":2}"#, 7),
+    (r#"{"cluster":null,"format":2}"#, 7),
+    (r#"{"cluster":["c1"],"format":2}"#, 7),
+    (r#"{"cluster":"","format":2}"#, 7),
+    (r#"{"cluster":"c 1","format":2}"#, 7),
+    (r#"{"cluster":"c/1","format":2}"#, 7),
+    (r#"{"cluster":"c\u00e9","format":2}"#, 7),
+    (
+        r#"{"cluster":"c23456789012345678901234567890123","format":2}"#,
+        7,
+    ),
+    (r#"{"cluster":"c1","cluster":"","format":2}"#, 7),
+    (r#"{"cluster":"c1","format":0}"#, 7),
+    (r#"{"cluster":"c1","format":1}"#, 7),
+    (r#"{"cluster":"c1","format":3}"#, 7),
+    (r#"{"cluster":"c1","format":-2}"#, 7),
+    (r#"{"cluster":"c1","format":2.0}"#, 7),
+    (r#"{"cluster":"c1","format":2.5}"#, 7),
+    (r#"{"cluster":"c1","format":2e0}"#, 7),
+    (r#"{"cluster":"c1","format":18446744073709551618}"#, 7),
+    (r#"{"cluster":"c1","format":"2"}"#, 7),
+    (r#"{"cluster":"c1","format":true}"#, 7),
+    (r#"{"cluster":"c1","format":null}"#, 7),
+    (r#"{"cluster":"c1","format":[2]}"#, 7),
+    (r#"{"cluster":"c1","format":2,"format":1}"#, 7),
+    (r#"{"format":2,"cluster":2}"#, 7),
+    (r#"{"cluster":"","format":1}"#, 7),
 ];
 
 /// The numbers of an entry line, the rest of which is as it should be.
@@ -272,10 +323,20 @@ const PARTS: [(&str, &str); 62] = [
     ("tokens", r#"[[0,1],["1",1]]"#),
 ];
 
-/// The words of a run over the file `x`, in which each of its whole lines is read.
-const WORDS: [&[&str]; 3] = [&["commit", "x"], &["replay", "x"], &["snapshot", "x", "0"]];
+/// The words of a run over the file `x`, and its lines before the one that breaks a rule.
+const RUNS: [(&str, &str); 9] = [
+    ("commit x c1", ""),
+    ("commit x c1", "H"),
+    ("snapshot x 0", ""),
+    ("snapshot x 0", "H"),
+    ("replay x", ""),
+    ("replay x", "H"),
+    ("replay x", "1"),
+    ("mend2 x y c1", ""),
+    ("mend2 x y c1", "1"),
+];
 
-/// Runs the words over a file. It is unchanged.
+/// Runs the words over a file. It is unchanged, and no file `y` is made.
 fn is_kept<A: Abort>(
     rt: &A,
     alloc: Global,
@@ -288,25 +349,34 @@ fn is_kept<A: Abort>(
     store.put("x", file)?;
     is_shown(rt, alloc, name, words, &mut store, wanted)?;
     assert!(rt; store.file("x") == Some(file), "{name}");
-    assert!(rt; keeps_other(&store), "{name}");
+    assert!(rt; store.file("y").is_none() && keeps_other(&store), "{name}");
     Ok(())
 }
 
-/// Runs words over a file whose second line breaks a rule, and no lesser rule.
-fn breaks<A: Abort>(rt: &A, alloc: Global, line: &str, rule: u8) -> Result<(), Fail> {
-    let mut file = bytes_of(alloc, "1")?;
+/// The bytes of a file whose last line is this one.
+fn ended_by(alloc: Global, before: &str, line: &str) -> Result<Vec<u8>, Fail> {
+    let mut file = bytes_of(alloc, before)?;
     file.extend_from_slice(line.as_bytes())?;
     file.push(b'\n')?;
-    let text = format!(in alloc; "REFUSED 1 2 LINE {rule}\n")?;
-    for words in &WORDS {
-        is_kept(rt, alloc, line, words, file.as_slice(), (3, text.as_str()))?;
+    Ok(file)
+}
+
+/// Runs words over a file whose last line breaks a rule, and no lesser rule.
+fn breaks<A: Abort>(rt: &A, alloc: Global, line: &str, rule: u8) -> Result<(), Fail> {
+    for run in &RUNS {
+        let (words, before) = *run;
+        let number = before.len().saturating_add(1);
+        let text = format!(in alloc; "REFUSED 1 {number} LINE {rule}\n")?;
+        let words = words_in(alloc, words)?;
+        let file = ended_by(alloc, before, line)?;
+        is_kept(rt, alloc, line, &words, file.as_slice(), (3, text.as_str()))?;
     }
     Ok(())
 }
 
-/// Lines that are no entry and no state.
-fn neither<A: Abort>(rt: &A, alloc: Global) -> Result<(), Fail> {
-    for row in &NEITHER {
+/// Lines that break these rules.
+fn rules<A: Abort>(rt: &A, alloc: Global, rows: &[BadLine]) -> Result<(), Fail> {
+    for row in rows {
         let (line, rule) = *row;
         breaks(rt, alloc, line, rule)?;
     }
@@ -366,7 +436,8 @@ fn parts<A: Abort>(rt: &A, alloc: Global) -> Result<(), Fail> {
 
 #[test]
 fn lines_break_rules(rt: HostRuntime) -> Result<(), Fail> {
-    neither(&rt, rt.alloc())?;
+    rules(&rt, rt.alloc(), &NEITHER)?;
+    rules(&rt, rt.alloc(), &HEADERS)?;
     numbers(&rt, rt.alloc())?;
     commands(&rt, rt.alloc())?;
     parts(&rt, rt.alloc())
@@ -390,9 +461,16 @@ type Long = (
 );
 
 /// Lines of one byte too many.
-const TOO_LONG: [Long; 3] = [
+const TOO_LONG: [Long; 4] = [
     (
-        &["commit", "x"],
+        &["commit", "x", "c1"],
+        HEADER,
+        4_194_305,
+        3,
+        "REFUSED 1 1 LINE 1\n",
+    ),
+    (
+        &["mend2", "x", "y", "c1"],
         ENTRY_1,
         4_194_305,
         3,
@@ -409,7 +487,22 @@ const TOO_LONG: [Long; 3] = [
 ];
 
 /// Lines of the greatest size.
-const LONGEST: [Long; 2] = [
+const LONGEST: [Long; 4] = [
+    (
+        &["replay", "x"],
+        HEADER,
+        4_194_304,
+        0,
+        "REPLAY 1 at 0 waiting 0 full 0\n\
+            NODES 0 0 0\n",
+    ),
+    (
+        &["snapshot", "x", "0"],
+        HEADER,
+        4_194_304,
+        0,
+        "{\"snapshot\":{\"epoch\":0,\"keyspaces\":[],\"next\":1,\"nodes\":[],\"sequences\":[],\"tokens\":[]}}\n",
+    ),
     (
         &["replay", "x"],
         ENTRY_1,

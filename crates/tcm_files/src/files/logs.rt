@@ -13,8 +13,8 @@ use tcm_edges::MemStore;
 type LogRun = (&'static str, File, &'static str, &'static str, File);
 
 /// Runs over a log that is taken over, with status 0.
-const RUNS: [LogRun; 21] = [
-    ("no file and no line", None, "", "", None),
+const RUNS: [LogRun; 26] = [
+    ("header-line", None, "", "", Some("H")),
     (
         "no file and no entry",
         None,
@@ -24,7 +24,7 @@ const RUNS: [LogRun; 21] = [
         "NO NO-NODE\n\
             NO BAD-LINE\n\
             NODES 0 0 0\n",
-        None,
+        Some("H"),
     ),
     (
         "two registers",
@@ -33,19 +33,19 @@ const RUNS: [LogRun; 21] = [
             commit 2 register b dc1 r1\n",
         "OK 1\n\
             OK 2\n",
-        Some("1b"),
+        Some("H1b"),
     ),
     (
         "an empty file",
         Some(""),
         "commit 1 register a dc1 r1\n",
         "OK 1\n",
-        Some("1"),
+        Some("H1"),
     ),
-    ("an empty file and no line", Some(""), "", "", Some("")),
+    ("an empty file and no line", Some(""), "", "", Some("H")),
     (
         "a log that goes on",
-        Some("12"),
+        Some("H12"),
         "nodes @2\n\
             commit 3 keyspace ks simple 1\n\
             place @3 ks\n\
@@ -59,19 +59,19 @@ const RUNS: [LogRun; 21] = [
             (0,max] read 1 write 1\n\
             NO KEYSPACE\n\
             NO EPOCH 3\n",
-        Some("123"),
+        Some("H123"),
     ),
     (
         "a last line without its line feed",
-        Some("1"),
+        Some("H1"),
         "commit 7 unregister 2\ncommit 2 unsafe-join 1 0",
         "NO NO-NODE\n\
             OK 2\n",
-        Some("12"),
+        Some("H12"),
     ),
     (
         "ids of the log",
-        Some("12"),
+        Some("H12"),
         "commit 1 register a dc1 r1\n\
             commit 2 unsafe-join 1 1\n\
             commit 2 unsafe-join 1 0\n\
@@ -86,11 +86,11 @@ const RUNS: [LogRun; 21] = [
             OK 3\n\
             OK 3\n\
             OK 1\n",
-        Some("123"),
+        Some("H123"),
     ),
     (
         "another spelling stays",
-        Some("sp"),
+        Some("Hsp"),
         "commit 1 register a dc1 r1\n\
             commit 2 unsafe-join 1 0\n\
             commit 7 register a dc1 r1\n\
@@ -99,20 +99,20 @@ const RUNS: [LogRun; 21] = [
             OK 2\n\
             NO NAME-TAKEN 1\n\
             OK 3\n",
-        Some("sp3"),
+        Some("Hsp3"),
     ),
     (
         "tokens and datacenters ascend in the file",
-        Some("1"),
+        Some("H1"),
         "commit 18446744073709551615 unsafe-join 1 5 -9223372036854775808 -5\n\
             commit 0 keyspace kt topology dc2:1 dc1:3\n",
         "OK 2\n\
             OK 3\n",
-        Some("1td"),
+        Some("H1td"),
     ),
     (
         "a join that goes on",
-        Some("123456"),
+        Some("H123456"),
         "quorum @6 ks 50\n\
             commit 5 prepare-join 2 100\n\
             commit 7 register b dc1 r1\n\
@@ -128,7 +128,7 @@ const RUNS: [LogRun; 21] = [
             (min,0] read 1 write 1\n\
             (0,100] read 1 write 1\n\
             (100,max] read 1 write 1\n",
-        Some("1234567"),
+        Some("H1234567"),
     ),
     (
         "a follower and no entry",
@@ -139,11 +139,11 @@ const RUNS: [LogRun; 21] = [
         "AT 0\n\
             NO EPOCH 0\n\
             OLD 0\n",
-        None,
+        Some("H"),
     ),
     (
         "followers of the log in a file",
-        Some("12"),
+        Some("H12"),
         "follower f\n\
             deliver f 2\n\
             nodes f\n\
@@ -160,53 +160,88 @@ const RUNS: [LogRun; 21] = [
             PLACE 3 ks 2\n\
             (min,0] read 1 write 1\n\
             (0,max] read 1 write 1\n",
-        Some("123"),
+        Some("H123"),
     ),
     (
         "followers aren't in the file",
-        Some("123"),
+        Some("H123"),
         "nodes f\nfollower f\n",
         "NO FOLLOWER\nAT 0\n",
-        Some("123"),
+        Some("H123"),
     ),
-    ("cut-tail", Some("1|f"), "", "", Some("1")),
+    ("cut-tail", Some("H1|f"), "", "", Some("H1")),
     (
         "a cut tail and a new entry",
-        Some("1|f"),
+        Some("H1|f"),
         "commit 2 unsafe-join 1 0\n",
         "OK 2\n",
-        Some("12"),
+        Some("H12"),
     ),
     (
         "a cut tail that is a whole line",
-        Some("1|2"),
+        Some("H1|2"),
         "nodes @1\n\
             nodes @2\n",
         "NODES 1 1 0\n\
             1 a dc1 r1 REGISTERED -\n\
             NO EPOCH 1\n",
-        Some("1"),
+        Some("H1"),
     ),
     (
         "a cut tail that is sent again",
-        Some("1|2"),
+        Some("H1|2"),
         "commit 2 unsafe-join 1 0\n",
         "OK 2\n",
-        Some("12"),
+        Some("H12"),
     ),
-    ("a cut tail that is no text", Some("1|x"), "", "", Some("1")),
-    ("a cut tail and no line", Some("|f"), "", "", Some("")),
+    (
+        "a cut tail that is no text",
+        Some("H1|x"),
+        "",
+        "",
+        Some("H1"),
+    ),
+    ("a cut tail and no line", Some("|f"), "", "", Some("H")),
     (
         "a cut tail before the first entry",
         Some("|f"),
         "commit 1 register a dc1 r1\n",
         "OK 1\n",
-        Some("1"),
+        Some("H1"),
+    ),
+    ("a header alone", Some("H"), "", "", Some("H")),
+    (
+        "a header and a cut tail",
+        Some("H|f"),
+        "commit 1 register a dc1 r1\n",
+        "OK 1\n",
+        Some("H1"),
+    ),
+    (
+        "a header without its line feed",
+        Some("|H"),
+        "",
+        "",
+        Some("H"),
+    ),
+    (
+        "the header of another cluster without its line feed",
+        Some("|I"),
+        "",
+        "",
+        Some("H"),
+    ),
+    (
+        "another spelling of the header stays",
+        Some("h1|H"),
+        "commit 2 unsafe-join 1 0\n",
+        "OK 2\n",
+        Some("h12"),
     ),
 ];
 
-/// The name of a refused log, the lines before the one that is refused, told as those of a file, this line, and the
-/// text that is printed.
+/// The name of a refused log, the lines between its header and the line that is refused, told as those of a file, this
+/// line, and the text that is printed.
 type Refused = (&'static str, &'static str, &'static str, &'static str);
 
 /// The bytes after each refused line: another line to refuse, and the front of a line.
@@ -214,103 +249,163 @@ const REST: &str = "\n{\n{\"comman";
 
 /// Logs that are refused, with status 3.
 const REFUSED: [Refused; 14] = [
-    ("no JSON", "1", "{", "REFUSED 1 2 LINE 2\n"),
-    ("no text", "1x", "", "REFUSED 1 2 LINE 2\n"),
+    ("no JSON", "1", "{", "REFUSED 1 3 LINE 2\n"),
+    ("no text", "1x", "", "REFUSED 1 3 LINE 2\n"),
     (
         "the line before its place in the log",
         "1",
         r#"{"command":{"kind":"join","node":1},"entry":1,"epoch":3}"#,
-        "REFUSED 1 2 LINE 5\n",
+        "REFUSED 1 3 LINE 5\n",
     ),
-    ("fork-and-gap", "1", ENTRY_3, "REFUSED 1 2 EPOCH 2 3\n"),
+    ("fork-and-gap", "1", ENTRY_3, "REFUSED 1 3 EPOCH 2 3\n"),
     (
         "a log without its first entry",
         "",
         ENTRY_2,
-        "REFUSED 1 1 EPOCH 1 2\n",
+        "REFUSED 1 2 EPOCH 1 2\n",
     ),
     (
         "the epoch before the id",
         "12",
         ENTRY_1,
-        "REFUSED 1 3 EPOCH 3 1\n",
+        "REFUSED 1 4 EPOCH 3 1\n",
     ),
     (
         "the epoch before the command",
         "1",
         r#"{"command":{"kind":"cancel","node":7},"entry":2,"epoch":65536}"#,
-        "REFUSED 1 2 EPOCH 2 65536\n",
+        "REFUSED 1 3 EPOCH 2 65536\n",
     ),
     (
         "an id twice",
         "12",
         r#"{"command":{"kind":"keyspace","name":"ks","replication":"simple 1"},"entry":1,"epoch":3}"#,
-        "REFUSED 1 3 ID 1 1\n",
+        "REFUSED 1 4 ID 1 1\n",
     ),
     (
         "an id and its command twice",
         "12",
         r#"{"command":{"kind":"unsafe-join","node":1,"tokens":[0]},"entry":2,"epoch":3}"#,
-        "REFUSED 1 3 ID 2 2\n",
+        "REFUSED 1 4 ID 2 2\n",
     ),
     (
         "the id before the command",
         "12",
         r#"{"command":{"kind":"cancel","node":7},"entry":2,"epoch":3}"#,
-        "REFUSED 1 3 ID 2 2\n",
+        "REFUSED 1 4 ID 2 2\n",
     ),
     (
         "no node",
         "1",
         r#"{"command":{"kind":"unsafe-join","node":7,"tokens":[0]},"entry":2,"epoch":2}"#,
-        "REFUSED 1 2 COMMAND 2 NO-NODE\n",
+        "REFUSED 1 3 COMMAND 2 NO-NODE\n",
     ),
     (
         "a name that is taken",
         "1",
         r#"{"command":{"dc":"dc1","kind":"register","name":"a","rack":"r1"},"entry":2,"epoch":2}"#,
-        "REFUSED 1 2 COMMAND 2 NAME-TAKEN 1\n",
+        "REFUSED 1 3 COMMAND 2 NAME-TAKEN 1\n",
     ),
     (
         "a node that is joined",
         "12",
         r#"{"command":{"kind":"unsafe-join","node":1,"tokens":[7]},"entry":3,"epoch":3}"#,
-        "REFUSED 1 3 COMMAND 3 NODE-STATE JOINED\n",
+        "REFUSED 1 4 COMMAND 3 NODE-STATE JOINED\n",
     ),
     (
         "no keyspace",
         "",
         r#"{"command":{"kind":"drop-keyspace","name":"ks"},"entry":18446744073709551615,"epoch":1}"#,
-        "REFUSED 1 1 COMMAND 1 NO-KEYSPACE\n",
+        "REFUSED 1 2 COMMAND 1 NO-KEYSPACE\n",
     ),
 ];
 
 /// The name of a run in which the store fails, the file before it, the call of the store that fails and the bytes that
-/// it keeps, the answers, and the file after the run. The first call loads the file.
+/// it keeps, the answers, and the file after the run. The first call loads the file. If there is no whole line, the next
+/// one writes the header; if there is one and a cut tail, it cuts the tail.
 type Stop = (&'static str, File, (u64, u64), &'static str, File);
 
 /// The script of each run in which the store fails.
 const REGISTERS: &str = "commit 1 register a dc1 r1\ncommit 2 register b dc1 r1\n";
 
 /// The file once both registers are in it.
-const BOTH: File = Some("1b");
+const BOTH: File = Some("H1b");
 
 /// Runs that end with status 6.
-const STOPS: [Stop; 4] = [
-    ("store-stops", None, (3, 0), "OK 1\n", Some("1")),
-    ("a load", Some("1|f"), (1, 9), "", Some("1|f")),
+const STOPS: [Stop; 15] = [
+    ("store-stops", None, (4, 0), "OK 1\n", Some("H1")),
+    ("a load", Some("H1|f"), (1, 9), "", Some("H1|f")),
     ("a load of no file", None, (1, 0), "", None),
     (
         "an append after a cut",
-        Some("1|f"),
+        Some("H1|f"),
         (3, 0),
         "OK 1\n",
-        Some("1"),
+        Some("H1"),
+    ),
+    (
+        "an append after no cut",
+        Some("H1"),
+        (2, 0),
+        "OK 1\n",
+        Some("H1"),
+    ),
+    ("a header that isn't written", None, (2, 0), "", None),
+    ("a header that is written", None, (2, 1), "", Some("H")),
+    (
+        "a header that an empty file doesn't get",
+        Some(""),
+        (2, 0),
+        "",
+        Some(""),
+    ),
+    (
+        "a header that an empty file gets",
+        Some(""),
+        (2, 1),
+        "",
+        Some("H"),
+    ),
+    (
+        "a header that a front of a line stays for",
+        Some("|f"),
+        (2, 0),
+        "",
+        Some("|f"),
+    ),
+    (
+        "a header in the place of a front of a line",
+        Some("|f"),
+        (2, 1),
+        "",
+        Some("H"),
+    ),
+    (
+        "a cut that isn't done",
+        Some("H1|f"),
+        (2, 0),
+        "",
+        Some("H1|f"),
+    ),
+    ("a cut that is done", Some("H1|f"), (2, 1), "", Some("H1")),
+    (
+        "a cut of a whole line that isn't done",
+        Some("H1|b"),
+        (2, 0),
+        "",
+        Some("H1|b"),
+    ),
+    (
+        "a cut of a whole line that is done",
+        Some("H1|b"),
+        (2, 1),
+        "",
+        Some("H1"),
     ),
 ];
 
 /// The words of a run over the log file `x`.
-const WORDS: [&str; 2] = ["commit", "x"];
+const WORDS: [&str; 3] = ["commit", "x", "c1"];
 
 /// Runs a script over the log of a store, and compares the status, the answers and the file with those that are wanted.
 fn leaves<A: Abort>(
@@ -362,9 +457,10 @@ fn is_refused<A: Abort>(
     Ok(())
 }
 
-/// The bytes of a log that is refused.
+/// The bytes of a log that is refused: its header, the lines before the one that is refused, this line and the rest.
 fn refused_bytes(alloc: Global, lines: &str, line: &str) -> Result<Vec<u8>, Fail> {
-    let mut file = bytes_of(alloc, lines)?;
+    let mut file = bytes_of(alloc, "H")?;
+    file.extend_from_slice(bytes_of(alloc, lines)?.as_slice())?;
     file.extend_from_slice(line.as_bytes())?;
     file.extend_from_slice(REST.as_bytes())?;
     Ok(file)

@@ -52,7 +52,7 @@ const STATE_28: &str =
 "#;
 
 /// The report of a replay of the earlier state and the log.
-const REPORT: &str = "REPLAY 29 at 28 waiting 0 full 0\n\
+const REPORT: &str = "REPLAY 30 at 28 waiting 0 full 0\n\
     NODES 28 10 3\n\
     1 a dc1 r1 JOINED -400\n\
     2 b dc1 r1 JOINED -300\n\
@@ -114,7 +114,7 @@ fn shows<A: Abort>(rt: &A, alloc: Global, store: &mut MemStore) -> Result<(), Fa
         rt,
         alloc,
         name,
-        &["commit", "x"],
+        &["commit", "x", "c1"],
         SCRIPT,
         store,
         (0, ANSWERS),

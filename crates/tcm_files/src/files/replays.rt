@@ -10,18 +10,18 @@ use std::test::Fail;
 use tcm_edges::MemStore;
 
 /// The name of a run, the files `x` and `y`, the status, and the first and the further lines that are printed.
-type Replayed = (&'static str, File, File, u8, &'static str, &'static str);
+pub type Replayed = (&'static str, File, File, u8, &'static str, &'static str);
 
 /// What reports show of the epochs of the first log.
-const AT_0: &str = "NODES 0 0 0\n";
+pub const AT_0: &str = "NODES 0 0 0\n";
 
 const AT_1: &str = "NODES 1 1 0\n\
     1 a dc1 r1 REGISTERED -\n";
 
-const AT_2: &str = "NODES 2 1 0\n\
+pub const AT_2: &str = "NODES 2 1 0\n\
     1 a dc1 r1 JOINED 0\n";
 
-const AT_3: &str = "NODES 3 1 0\n\
+pub const AT_3: &str = "NODES 3 1 0\n\
     1 a dc1 r1 JOINED 0\n\
     PLACE 3 ks 2\n\
     (min,0] read 1 write 1\n\
@@ -321,7 +321,7 @@ const ALONE: [(&str, &str, File, u8, &str); 3] = [
 const WORDS: [&str; 3] = ["replay", "x", "y"];
 
 /// Whether the file `y` has these contents.
-fn holds_second(alloc: Global, store: &MemStore, file: File) -> Result<bool, Fail> {
+pub fn holds_second(alloc: Global, store: &MemStore, file: File) -> Result<bool, Fail> {
     match file {
         Some(told) => {
             let bytes = bytes_of(alloc, told)?;
@@ -332,7 +332,7 @@ fn holds_second(alloc: Global, store: &MemStore, file: File) -> Result<bool, Fai
 }
 
 /// Replays each pair of files. They are unchanged.
-fn replays<A: Abort>(rt: &A, alloc: Global, rows: &[Replayed]) -> Result<(), Fail> {
+pub fn replays<A: Abort>(rt: &A, alloc: Global, rows: &[Replayed]) -> Result<(), Fail> {
     for row in rows {
         let (name, first, second, status, counts, state) = *row;
         let text = format!(in alloc; "{counts}{state}")?;

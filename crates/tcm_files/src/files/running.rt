@@ -21,6 +21,15 @@ pub fn words_from(alloc: Global, words: &[&str]) -> Result<Vec<String>, Fail> {
     Ok(list)
 }
 
+/// The words that single spaces part in a text.
+pub fn words_in(alloc: Global, text: &str) -> Result<Vec<&str>, Fail> {
+    let mut words = Vec::new(alloc);
+    for word in text.split(' ') {
+        words.push(word)?;
+    }
+    Ok(words)
+}
+
 /// A list of one call.
 pub fn calls_of(alloc: Global, call: u64) -> Result<CallList, Fail> {
     let mut calls = CallList::empty(alloc);

@@ -11,98 +11,100 @@ use std::test::Fail;
 type Shown = (&'static str, File, &'static str, u8, &'static str);
 
 /// Runs of `snapshot x E` that don't print a state.
-const OTHERS: [Shown; 17] = [
-    ("past the last epoch", Some("123"), "4", 7, "NO EPOCH 3\n"),
+const OTHERS: [Shown; 19] = [
+    ("past the last epoch", Some("H123"), "4", 7, "NO EPOCH 3\n"),
     (
         "the greatest number",
-        Some("123"),
+        Some("H123"),
         "18446744073709551615",
         7,
         "NO EPOCH 3\n",
     ),
-    ("past no entry", Some(""), "1", 7, "NO EPOCH 0\n"),
-    ("past a cut tail", Some("1|2"), "2", 7, "NO EPOCH 1\n"),
+    ("past no line", Some(""), "1", 7, "NO EPOCH 0\n"),
+    ("past no entry", Some("H"), "1", 7, "NO EPOCH 0\n"),
+    ("past no whole line", Some("|1"), "1", 7, "NO EPOCH 0\n"),
+    ("past a cut tail", Some("H1|2"), "2", 7, "NO EPOCH 1\n"),
     ("an absent file", None, "0", 7, "NO FILE x\n"),
     (
         "a gap before the epoch that is asked",
-        Some("13"),
+        Some("H13"),
         "3",
         3,
-        "REFUSED 1 2 EPOCH 2 3\n",
+        "REFUSED 1 3 EPOCH 2 3\n",
     ),
     (
         "a gap after the epoch that is asked",
-        Some("13"),
+        Some("H13"),
         "0",
         3,
-        "REFUSED 1 2 EPOCH 2 3\n",
+        "REFUSED 1 3 EPOCH 2 3\n",
     ),
     (
         "a gap before an epoch past the last",
-        Some("13"),
+        Some("H13"),
         "9",
         3,
-        "REFUSED 1 2 EPOCH 2 3\n",
+        "REFUSED 1 3 EPOCH 2 3\n",
     ),
     (
         "a line that breaks a rule",
-        Some("12x"),
+        Some("H12x"),
         "2",
         3,
-        "REFUSED 1 3 LINE 2\n",
+        "REFUSED 1 4 LINE 2\n",
     ),
     (
         "an entry twice",
-        Some("1234563"),
+        Some("H1234563"),
         "6",
         3,
-        "REFUSED 1 7 EPOCH 7 3\n",
+        "REFUSED 1 8 EPOCH 7 3\n",
     ),
     (
         "a command that is refused",
-        Some("1b34"),
+        Some("H1b34"),
         "1",
         3,
-        "REFUSED 1 4 COMMAND 4 NAME-TAKEN 2\n",
+        "REFUSED 1 5 COMMAND 4 NAME-TAKEN 2\n",
     ),
     (
         "snapshot-in-log",
-        Some("1A"),
+        Some("H1A"),
         "0",
-        3,
-        "REFUSED 1 2 NOT-ENTRY\n",
-    ),
-    (
-        "the state of the log's last entry",
-        Some("12A"),
-        "2",
         3,
         "REFUSED 1 3 NOT-ENTRY\n",
     ),
     (
-        "a state that the log goes on from",
-        Some("A3"),
+        "the state of the log's last entry",
+        Some("H12A"),
         "2",
         3,
-        "REFUSED 1 1 NOT-ENTRY\n",
+        "REFUSED 1 4 NOT-ENTRY\n",
+    ),
+    (
+        "a state that the log goes on from",
+        Some("HA3"),
+        "2",
+        3,
+        "REFUSED 1 2 NOT-ENTRY\n",
     ),
     (
         "a state that is not valid",
-        Some("1N"),
+        Some("H1N"),
         "0",
         3,
-        "REFUSED 1 2 NOT-ENTRY\n",
+        "REFUSED 1 3 NOT-ENTRY\n",
     ),
     (
         "a state before a gap",
-        Some("1A3"),
+        Some("H1A3"),
         "0",
         3,
-        "REFUSED 1 2 NOT-ENTRY\n",
+        "REFUSED 1 3 NOT-ENTRY\n",
     ),
     (
         "a state in the cut tail",
-        Some("1|A"),
+        Some("H1|A"),
         "2",
         7,
         "NO EPOCH 1\n",
@@ -135,19 +137,23 @@ fn others<A: Abort>(rt: &A, alloc: Global) -> Result<(), Fail> {
 }
 
 /// A log, an epoch, and the letter of the state that is printed.
-const STATES: [(&str, &str, &str); 12] = [
-    ("123456", "0", "O"),
-    ("123456", "2", "A"),
-    ("123456", "3", "K"),
-    ("123456", "6", "J"),
-    ("12345678", "6", "J"),
-    ("123", "3", "K"),
-    ("12", "2", "A"),
+const STATES: [(&str, &str, &str); 16] = [
+    ("H123456", "0", "O"),
+    ("H123456", "2", "A"),
+    ("H123456", "3", "K"),
+    ("H123456", "6", "J"),
+    ("H12345678", "6", "J"),
+    ("H123", "3", "K"),
+    ("H12", "2", "A"),
+    ("H", "0", "O"),
+    ("I123", "3", "K"),
+    ("h12", "2", "A"),
     ("", "0", "O"),
+    ("|H", "0", "O"),
     ("|1", "0", "O"),
-    ("123|4", "3", "K"),
-    ("sp", "2", "A"),
-    ("1b", "2", "T"),
+    ("H123|4", "3", "K"),
+    ("Hsp", "2", "A"),
+    ("H1b", "2", "T"),
 ];
 
 /// Asks for each of the states.
@@ -163,15 +169,15 @@ fn states<A: Abort>(rt: &A, alloc: Global) -> Result<(), Fail> {
 
 /// Logs with a state in them, and why they are refused.
 const REFUSED: [(&str, &str); 3] = [
-    ("1A", "REFUSED 1 2 NOT-ENTRY\n"),
-    ("T4", "REFUSED 1 1 NOT-ENTRY\n"),
-    ("12NA", "REFUSED 1 3 NOT-ENTRY\n"),
+    ("H1A", "REFUSED 1 3 NOT-ENTRY\n"),
+    ("HT4", "REFUSED 1 2 NOT-ENTRY\n"),
+    ("H12NA", "REFUSED 1 4 NOT-ENTRY\n"),
 ];
 
 /// Goes on with a log that is refused. The file is unchanged.
 fn is_refused<A: Abort>(rt: &A, alloc: Global, log: &'static str, text: &str) -> Result<(), Fail> {
     let mut store = sure_store_of(alloc, Some(log))?;
-    let words = ["commit", "x"];
+    let words = ["commit", "x", "c1"];
     let script = "commit 9 register z dc1 r1\n";
     is_run(rt, alloc, log, &words, script, &mut store, (3, text))?;
     assert!(rt; holds(alloc, &store, Some(log))?, "{log}");
@@ -200,9 +206,9 @@ const WORDS: [&str; 3] = ["snapshot", "x", "1"];
 #[test]
 fn states_are_not_shown(rt: HostRuntime) -> Result<(), Fail> {
     let fails = fail_of(rt.alloc(), (1, 0))?;
-    let mut store = store_of(rt.alloc(), fails, Some("1"))?;
+    let mut store = store_of(rt.alloc(), fails, Some("H1"))?;
     let name = "a load that fails";
     is_shown(&rt, rt.alloc(), name, &WORDS, &mut store, (6, ""))?;
-    assert!(rt; holds(rt.alloc(), &store, Some("1"))?);
+    assert!(rt; holds(rt.alloc(), &store, Some("H1"))?);
     is_too_large(&rt, rt.alloc(), &WORDS)
 }

@@ -1,4 +1,5 @@
-//! Runs of `commit x` that stop at a call of the outside, each followed by a run of the same script over what it left.
+//! Runs of `commit x c1` that stop at a call of the outside, each followed by a run of the same script over what it
+//! left.
 
 use crate::files::running::{calls_of, fail_of, status_of, words_from};
 use crate::files::told::{File, bytes_of, keeps_other, store_of, sure_store_of};
@@ -17,8 +18,10 @@ const ANSWERS: &str = "OK 1\nOK 2\n";
 
 const ANSWER: usize = 5;
 
-/// The file with both entries, and the bytes of the line of one entry.
-const BOTH: &str = "1b";
+/// The file with both entries, the bytes of its header, and those of the line of one entry.
+const BOTH: &str = "H1b";
+
+const HEADER: usize = 28;
 
 const LINE: usize = 86;
 
@@ -27,24 +30,25 @@ const COMMIT: usize = 27;
 
 const PIECE: usize = 7;
 
-/// What a run leaves: its status, the number of answers, and how many bytes of the whole file the file has, unless it
-/// is absent.
+/// What a run leaves: its status, the number of answers, and how many bytes of the whole file the file has.
 #[derive(Clone, Copy)]
 struct Left {
     status: u8,
     answers: usize,
-    file: Option<usize>,
+    file: usize,
 }
 
-/// What a run leaves at an absent file of which this many bytes were added.
+/// What a run leaves that added this many bytes to the header.
 fn leaves(status: u8, answers: usize, added: usize) -> Left {
-    let file = if added == 0 { None } else { Some(added) };
     Left {
         status,
         answers,
-        file,
+        file: HEADER.saturating_add(added),
     }
 }
+
+/// The words of each run.
+const WORDS: [&str; 3] = ["commit", "x", "c1"];
 
 /// The script as a source whose read of this number fails; none does at 0.
 fn source(alloc: Global, call: u64) -> Result<MemSource, Fail> {
@@ -53,12 +57,9 @@ fn source(alloc: Global, call: u64) -> Result<MemSource, Fail> {
 }
 
 /// Whether the file `x` is the first bytes of the whole file, as many as are wanted, and the other file is unchanged.
-fn is_front(alloc: Global, store: &MemStore, wanted: Option<usize>) -> Result<bool, Fail> {
+fn is_front(alloc: Global, store: &MemStore, wanted: usize) -> Result<bool, Fail> {
     let whole = bytes_of(alloc, BOTH)?;
-    let front = match wanted {
-        Some(len) => whole.as_slice().get(..len),
-        None => None,
-    };
+    let front = whole.as_slice().get(..wanted);
     Ok(keeps_other(store) && store.file("x") == front)
 }
 
@@ -71,7 +72,7 @@ fn stops<A: Abort>(
     store: &mut MemStore,
     wanted: Left,
 ) -> Result<(), Fail> {
-    let words = words_from(alloc, &["commit", "x"])?;
+    let words = words_from(alloc, &WORDS)?;
     let status = status_of(alloc, &words, &mut input, &mut out, store);
     assert_eq!(rt; status, Status(wanted.status));
     let answers = ANSWERS
@@ -84,13 +85,13 @@ fn stops<A: Abort>(
 
 /// Runs the script without faults: both commits are answered, and the file has both entries.
 fn is_done<A: Abort>(rt: &A, alloc: Global, store: &mut MemStore) -> Result<(), Fail> {
-    let words = words_from(alloc, &["commit", "x"])?;
+    let words = words_from(alloc, &WORDS)?;
     let mut input = source(alloc, 0)?;
     let mut out = MemSink::new(alloc, CallList::empty(alloc));
     let status = status_of(alloc, &words, &mut input, &mut out, store);
     assert_eq!(rt; status, Status(0));
     assert_eq!(rt; out.bytes(), ANSWERS.as_bytes());
-    assert!(rt; is_front(alloc, store, Some(2 * LINE))?);
+    assert!(rt; is_front(alloc, store, HEADER + 2 * LINE)?);
     Ok(())
 }
 
@@ -138,12 +139,25 @@ fn write_fails<A: Abort>(rt: &A, alloc: Global, call: usize) -> Result<(), Fail>
     )
 }
 
-/// Stops a run at an append that keeps some bytes of its line, and goes on. The first call of the store is the load.
-fn append_fails<A: Abort>(rt: &A, alloc: Global, lines: usize, kept: usize) -> Result<(), Fail> {
+/// A file without entries, and the call of the store that appends the first one.
+type Start = (File, u64);
+
+/// The first call loads the file, and the next one writes the header unless it is there.
+const STARTS: [Start; 3] = [(None, 3), (Some("|H"), 3), (Some("H"), 2)];
+
+/// Stops a run at an append that keeps some bytes of its line, and goes on.
+fn append_fails<A: Abort>(
+    rt: &A,
+    alloc: Global,
+    start: Start,
+    lines: usize,
+    kept: usize,
+) -> Result<(), Fail> {
+    let (file, first) = start;
     let input = source(alloc, 0)?;
     let out = MemSink::new(alloc, CallList::empty(alloc));
-    let fails = fail_of(alloc, ((lines as u64).saturating_add(2), kept as u64))?;
-    let store = store_of(alloc, fails, None)?;
+    let fails = fail_of(alloc, (first.saturating_add(lines as u64), kept as u64))?;
+    let store = store_of(alloc, fails, file)?;
     goes_on(
         rt,
         alloc,
@@ -154,18 +168,13 @@ fn append_fails<A: Abort>(rt: &A, alloc: Global, lines: usize, kept: usize) -> R
     )
 }
 
-/// Stops a run at the cut of a front of a line, which leaves the old file or the new one, and goes on.
-fn cut_fails<A: Abort>(rt: &A, alloc: Global, kept: u64, file: usize) -> Result<(), Fail> {
-    let input = source(alloc, 0)?;
-    let out = MemSink::new(alloc, CallList::empty(alloc));
-    let front: File = Some("|f");
-    let store = store_of(alloc, fail_of(alloc, (2, kept))?, front)?;
-    let wanted = Left {
-        status: 6,
-        answers: 0,
-        file: Some(file),
-    };
-    goes_on(rt, alloc, input, out, store, wanted)
+/// Stops runs at the first and at the second append.
+fn appends_fail<A: Abort>(rt: &A, alloc: Global, kept: usize) -> Result<(), Fail> {
+    for start in &STARTS {
+        append_fails(rt, alloc, *start, 0, kept)?;
+        append_fails(rt, alloc, *start, 1, kept)?;
+    }
+    Ok(())
 }
 
 #[test]
@@ -181,14 +190,7 @@ fn reads_and_writes_stop_a_run(rt: HostRuntime) -> Result<(), Fail> {
 #[test]
 fn appends_stop_a_run(rt: HostRuntime) -> Result<(), Fail> {
     for kept in 0..=LINE {
-        append_fails(&rt, rt.alloc(), 0, kept)?;
-        append_fails(&rt, rt.alloc(), 1, kept)?;
+        appends_fail(&rt, rt.alloc(), kept)?;
     }
     Ok(())
-}
-
-#[test]
-fn cuts_stop_a_run(rt: HostRuntime) -> Result<(), Fail> {
-    cut_fails(&rt, rt.alloc(), 0, 8)?;
-    cut_fails(&rt, rt.alloc(), 1, 0)
 }

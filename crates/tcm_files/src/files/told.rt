@@ -4,6 +4,17 @@ use std::alloc::Global;
 use std::test::Fail;
 use tcm_edges::{MemStore, StoreFailList};
 
+/// The header of a log of the cluster `c1`.
+pub const HEADER: &str = r#"{"cluster":"c1","format":2}"#;
+
+/// This header in another spelling, and the header of another cluster.
+const SPELT_HEADER: &str = " {\"format\" : 1,\"cluster\":\"\\u0063\\u0031\",\t\"format\":2 }\r";
+
+const OTHER_HEADER: &str = r#"{"cluster":"c2","format":2}"#;
+
+/// The header of another format, which breaks a rule.
+const FORMAT_1: &str = r#"{"cluster":"c1","format":1}"#;
+
 /// The lines of six entries: a node gets the token 0, a keyspace is set, and the join of a second node is started.
 pub const ENTRY_1: &str =
     r#"{"command":{"dc":"dc1","kind":"register","name":"a","rack":"r1"},"entry":1,"epoch":1}"#;
@@ -31,6 +42,10 @@ const ENTRY_8: &str = r#"{"command":{"kind":"finish-join","node":2},"entry":8,"e
 /// The line of a second node that is registered after the first.
 const SECOND_NODE: &str =
     r#"{"command":{"dc":"dc1","kind":"register","name":"b","rack":"r1"},"entry":2,"epoch":2}"#;
+
+/// The line of a second entry with the id of the first.
+const ID_TWICE: &str =
+    r#"{"command":{"kind":"unsafe-join","node":1,"tokens":[0]},"entry":1,"epoch":2}"#;
 
 /// The lines of three tokens, and of two datacenters, each in ascending order.
 const THREE_TOKENS: &str =
@@ -93,6 +108,10 @@ const NO_TEXT: &[u8] = b"{\"command\":\"\xff\"}";
 /// The lines that letters stand for.
 fn line_of(letter: u8) -> &'static [u8] {
     match letter {
+        b'H' => HEADER.as_bytes(),
+        b'h' => SPELT_HEADER.as_bytes(),
+        b'I' => OTHER_HEADER.as_bytes(),
+        b'F' => FORMAT_1.as_bytes(),
         b'1' => ENTRY_1.as_bytes(),
         b'2' => ENTRY_2.as_bytes(),
         b'3' => ENTRY_3.as_bytes(),
@@ -102,6 +121,7 @@ fn line_of(letter: u8) -> &'static [u8] {
         b'7' => ENTRY_7.as_bytes(),
         b'8' => ENTRY_8.as_bytes(),
         b'b' => SECOND_NODE.as_bytes(),
+        b'i' => ID_TWICE.as_bytes(),
         b't' => THREE_TOKENS.as_bytes(),
         b'd' => TWO_DATACENTERS.as_bytes(),
         b'k' => FIRST_KEYSPACE.as_bytes(),

@@ -5,14 +5,23 @@ use crate::files::told::{holds, sure_store_of};
 use std::test::Fail;
 
 /// The line that is printed for other words.
-pub const USAGE: &str = "usage: tcm commit [LOG] | replay FILE.. | snapshot LOG E | gen START N\n";
+pub const USAGE: &str =
+    "usage: tcm commit [LOG CLUSTER] | replay FILE.. | snapshot LOG E | gen START N | mend2 OLD NEW CLUSTER | cms LOG FROM TO\n";
 
 /// Words that name no command.
-const OTHER_WORDS: [&[&str]; 31] = [
+const OTHER_WORDS: [&[&str]; 51] = [
     &["commit", ""],
-    &["commit", "x", "y"],
+    &["commit", "x"],
     &["commit", "x", ""],
-    &["Commit", "x"],
+    &["commit", "", "c1"],
+    &["commit", "x", "c1", ""],
+    &["commit", "x", "c1", "c1"],
+    &["commit", "x", "c/1"],
+    &["commit", "x", "c1 "],
+    &["commit", "x", "c\n"],
+    &["commit", "x", "\u{e9}"],
+    &["commit", "x", "c23456789012345678901234567890123"],
+    &["Commit", "x", "c1"],
     &["replay"],
     &["replay", ""],
     &["replay", "x", ""],
@@ -40,6 +49,18 @@ const OTHER_WORDS: [&[&str]; 31] = [
     &["gen", "", "0"],
     &["gen", "18446744073709551616", "0"],
     &["Gen", "0", "0"],
+    &["mend2"],
+    &["mend2", "x"],
+    &["mend2", "x", "y"],
+    &["mend2", "", "y", "c1"],
+    &["mend2", "x", "", "c1"],
+    &["mend2", "x", "y", ""],
+    &["mend2", "x", "y", "c/1"],
+    &["mend2", "x", "y", "c 1"],
+    &["mend2", "x", "y", "c23456789012345678901234567890123"],
+    &["mend2", "x", "y", "c1", "c1"],
+    &["Mend2", "x", "y", "c1"],
+    &["mend", "x", "y", "c1"],
 ];
 
 #[test]

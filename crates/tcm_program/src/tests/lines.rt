@@ -377,12 +377,12 @@ fn long_lines_are_answered(rt: HostRuntime) -> Result<(), Fail> {
 
 #[test]
 fn other_words_are_answered_by_the_usage(rt: HostRuntime) -> Result<(), Fail> {
-    for word in ["", "replay", "Commit", "commit "] {
+    for word in ["", "replay", "mend2", "Commit", "commit "] {
         let (status, printed) = ran(rt.alloc(), word, b"\n", 1)?;
         assert_eq!(rt; status, Status(2));
         assert_eq!(rt;
             printed.as_slice(),
-            b"usage: tcm commit [LOG] | replay FILE.. | snapshot LOG E | gen START N\n".as_slice()
+            b"usage: tcm commit [LOG CLUSTER] | replay FILE.. | snapshot LOG E | gen START N | mend2 OLD NEW CLUSTER | cms LOG FROM TO\n".as_slice()
         );
     }
     Ok(())

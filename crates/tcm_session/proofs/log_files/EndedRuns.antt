@@ -29,7 +29,7 @@ use Rattle.tcm_session.specs.declared.run_fault.RunFault.TheVariants as fault
 use Rattle.tcm_session.specs.declared.status.Status.{Status}
 use Rattle.script_session.specs.declared.refused_line.RefusedLine.{RefusedLine}
 use Rattle.tcm_session.specs.declared.files.replay.Replay.{Replay}
-use Rattle.tcm_session.proofs.log_files.CutFiles.{behind_held, behind_loaded, files_behind}
+use Rattle.tcm_session.proofs.log_files.HeldFiles.{behind_held, behind_loaded, files_behind}
 use Rattle.tcm_session.proofs.log_files.ReplayLemmas.{seen_any, seen_held}
 use Rattle.tcm_session.proofs.runs.RunLemmas.{final_end, runs_early, runs_err, runs_unread}
 

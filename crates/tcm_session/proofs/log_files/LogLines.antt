@@ -113,25 +113,25 @@ reads_next log entry fits = ap (entry_read log) (entry_reads_back entry fits.ent
 
 -- ---- lines, one after another
 
-pub log_from-append : (log : List Entry) (a b : List (List ℕ)) (log' : List Entry) → log_from log a ≡ Ok log' → log_from log (a ++ b) ≡ log_from log' b
-log_from-append log [] b log' is = ap (λ l. log_from l b) (same log log' is)
+pub log_from-append : (first : ℕ) (log : List Entry) (a b : List (List ℕ)) (log' : List Entry) → log_from first log a ≡ Ok log' → log_from first log (a ++ b) ≡ log_from first log' b
+log_from-append first log [] b log' is = ap (λ l. log_from first l b) (same log log' is)
   where
-    log_in : List Entry → Result (List Entry) RefusedLine
-    log_in l = Ok l
+    made : List Entry → Result (List Entry) RefusedLine
+    made l = Ok l
 
-    same : (x y : List Entry) → log_in x ≡ log_in y → x ≡ y
+    same : (x y : List Entry) → made x ≡ made y → x ≡ y
     same x y e = cc
-log_from-append log (bytes ∷ a) b log' is = by (next_entry log bytes) (λ entry. log_from-append (log ++ entry ∷ []) a b log') is
+log_from-append first log (bytes ∷ a) b log' is = by (next_entry log bytes) (λ entry. log_from-append first (log ++ entry ∷ []) a b log') is
   where
-    by : (r : Result Entry Cause) → ((entry : Entry) → log_from (log ++ entry ∷ []) a ≡ Ok log' → log_from (log ++ entry ∷ []) (a ++ b) ≡ log_from log' b)
-        → goes_on 1 (length log + 1) r (λ entry. log_from (log ++ entry ∷ []) a) ≡ Ok log' → goes_on 1 (length log + 1) r (λ entry. log_from (log ++ entry ∷ []) (a ++ b)) ≡ log_from log' b
+    by : (r : Result Entry Cause) → ((entry : Entry) → log_from first (log ++ entry ∷ []) a ≡ Ok log' → log_from first (log ++ entry ∷ []) (a ++ b) ≡ log_from first log' b)
+        → goes_on 1 (length log + first) r (λ entry. log_from first (log ++ entry ∷ []) a) ≡ Ok log' → goes_on 1 (length log + first) r (λ entry. log_from first (log ++ entry ∷ []) (a ++ b)) ≡ log_from first log' b
     by (Ok entry) rest e = rest entry e
     by (Err cause) rest e = absurd (cc)
 
 -- the entries that a session adds are read from their texts
-pub log_reads : (s : SessionState) → IsSession s → (lines : List (List ℕ)) → log_from s.log (map entry_text (entries_added s lines)) ≡ Ok (session_after s lines).log
-log_reads s is [] = refl
-log_reads s is (bytes ∷ lines) = by (reply s bytes).added (fit_reply s bytes) (log_reads (session_next s bytes) (after_reply s bytes is).is lines)
+pub log_reads : (first : ℕ) (s : SessionState) → IsSession s → (lines : List (List ℕ)) → log_from first s.log (map entry_text (entries_added s lines)) ≡ Ok (session_after s lines).log
+log_reads first s is [] = refl
+log_reads first s is (bytes ∷ lines) = by (reply s bytes).added (fit_reply s bytes) (log_reads first (session_next s bytes) (after_reply s bytes is).is lines)
   where
     later : List Entry
     later = entries_added (session_next s bytes) lines
@@ -139,13 +139,13 @@ log_reads s is (bytes ∷ lines) = by (reply s bytes).added (fit_reply s bytes) 
     end : List Entry
     end = (session_after (session_next s bytes) lines).log
 
-    by : (added : List Entry) → FitAdded s.log added → log_from (s.log ++ added) (map entry_text later) ≡ Ok end → log_from s.log (map entry_text (added ++ later)) ≡ Ok end
-    by [] fit rest = ap (λ l. log_from l (map entry_text later)) (sym (append-nil s.log)) ∙ rest
+    by : (added : List Entry) → FitAdded s.log added → log_from first (s.log ++ added) (map entry_text later) ≡ Ok end → log_from first s.log (map entry_text (added ++ later)) ≡ Ok end
+    by [] fit rest = ap (λ l. log_from first l (map entry_text later)) (sym (append-nil s.log)) ∙ rest
     by (entry ∷ more) fit rest =
-        let one : log_from s.log (entry_text entry ∷ map entry_text later) ≡ log_from (s.log ++ entry ∷ []) (map entry_text later) =
-        ap (λ r. goes_on 1 (length s.log + 1) r (λ e. log_from (s.log ++ e ∷ []) (map entry_text later))) (reads_next s.log entry fit.0) in
-        ap (λ m. log_from s.log (entry_text entry ∷ map entry_text (m ++ later))) fit.1 ∙ one
-        ∙ ap (λ m. log_from (s.log ++ entry ∷ m) (map entry_text later)) (sym fit.1) ∙ rest
+        let one : log_from first s.log (entry_text entry ∷ map entry_text later) ≡ log_from first (s.log ++ entry ∷ []) (map entry_text later) =
+        ap (λ r. goes_on 1 (length s.log + first) r (λ e. log_from first (s.log ++ e ∷ []) (map entry_text later))) (reads_next s.log entry fit.0) in
+        ap (λ m. log_from first s.log (entry_text entry ∷ map entry_text (m ++ later))) fit.1 ∙ one
+        ∙ ap (λ m. log_from first (s.log ++ entry ∷ m) (map entry_text later)) (sym fit.1) ∙ rest
 
 -- ---- the bytes of lines
 

@@ -17,7 +17,7 @@ use Rattle.tcm_session.specs.declared.ending.Ending.{Ending}
 use Rattle.script_session.specs.declared.refused_line.Cause.{Cause}
 use Rattle.script_session.specs.declared.refused_line.Cause.TheVariants as cause
 use Rattle.tcm_session.specs.declared.files.replay.Replay.{Replay}
-use Rattle.tcm_session.proofs.log_files.CutFiles.{behind_held, behind_loaded, files_behind}
+use Rattle.tcm_session.proofs.log_files.HeldFiles.{behind_held, behind_loaded, files_behind}
 use Rattle.wire_json.specs.Reading.{reading}
 use Rattle.wire_json.specs.declared.line.Line.{Line}
 use Rattle.wire_json.specs.declared.line.ReadLineFault.{ReadLineFault}
@@ -27,26 +27,26 @@ use Rattle.script_session.proofs.StepEndLemmas.{read_bad, read_there, unread}
 
 -- ---- a line
 
-pub replayed-read : (replay : Replay) (bytes : List ℕ) (l : Line) → (Ok l ≢ Err read.Memory → Ok l ≡ reading bytes) → line_replayed replay bytes ≡ read_replayed replay (Ok l)
+pub replayed-read : (number : ℕ) (replay : Replay) (bytes : List ℕ) (l : Line) → (Ok l ≢ Err read.Memory → Ok l ≡ reading bytes) → line_replayed number replay bytes ≡ read_replayed number replay (Ok l)
 unfolding line_replayed
-replayed-read replay bytes l meaning = ap (read_replayed replay) (read_there bytes l meaning)
+replayed-read number replay bytes l meaning = ap (read_replayed number replay) (read_there bytes l meaning)
 
-pub replayed-bad : (replay : Replay) (bytes : List ℕ) (fault : ReadLineFault) (rule : ℕ) → fault ≡ read.Bad rule → (unread fault ≢ Err read.Memory → unread fault ≡ reading bytes) → line_replayed replay bytes ≡ Err (cause.Line rule)
+pub replayed-bad : (number : ℕ) (replay : Replay) (bytes : List ℕ) (fault : ReadLineFault) (rule : ℕ) → fault ≡ read.Bad rule → (unread fault ≢ Err read.Memory → unread fault ≡ reading bytes) → line_replayed number replay bytes ≡ Err (cause.Line rule)
 unfolding line_replayed
-replayed-bad replay bytes fault rule is meaning = ap (read_replayed replay) (read_bad bytes fault rule is meaning)
+replayed-bad number replay bytes fault rule is meaning = ap (read_replayed number replay) (read_bad bytes fault rule is meaning)
 
 -- a line whose content was handed to the follower, and then counted
-pub counted : (old mid new : Replay) (step : Handed) (handed : Result Took FollowerFault) (r : Result (Option Cause) Memory) → mid.lines ≡ old.lines → mid.full ≡ old.full → Performs old.follower step handed mid.follower
+pub counted : (old mid new : Replay) (step : Handed) (handed : Result Took FollowerFault) (r : Result (Option Cause) Memory) → mid.lines ≡ old.lines → mid.full ≡ old.full → mid.cluster ≡ old.cluster → Performs old.follower step handed mid.follower
     → IfOk r (λ cause. LeadsTo cause (answered mid mid.follower handed) new) → OnOk r (FoundMemory handed) → IfOk r (λ cause. LeadsTo cause (answered old step.after step.answer) new)
-counted old mid new step handed (Err m) lines full comes leads found = tt
-counted old mid new step (Ok took) (Ok cause) lines full (same, there) leads found =
-    let counts : answered mid mid.follower (Ok took) ≡ answered old step.after (Ok took) = (λ i. Ok (record { follower = there i; lines = lines i + 1; full = full i + full_count took })) in
+counted old mid new step handed (Err m) lines full cluster comes leads found = tt
+counted old mid new step (Ok took) (Ok cause) lines full cluster (same, there) leads found =
+    let counts : answered mid mid.follower (Ok took) ≡ answered old step.after (Ok took) = (λ i. Ok (record { follower = there i; lines = lines i + 1; full = full i + full_count took; cluster = cluster i })) in
     subst (λ given. LeadsTo cause given new) (counts ∙ ap (answered old step.after) same) leads
-counted old mid new step (Err (follower_fault.Fork epoch held came)) (Ok cause) lines full (same, there) leads found = subst (λ given. LeadsTo cause given new) (ap (answered old step.after) same) leads
-counted old mid new step (Err (follower_fault.Refused epoch refusal)) (Ok cause) lines full (same, there) leads found = subst (λ given. LeadsTo cause given new) (ap (answered old step.after) same) leads
-counted old mid new step (Err (follower_fault.BadImage bad)) (Ok cause) lines full (same, there) leads found = subst (λ given. LeadsTo cause given new) (ap (answered old step.after) same) leads
-counted old mid new step (Err follower_fault.Memory) (Ok cause) lines full comes leads found = absurd found
-counted old mid new step (Err (follower_fault.MemoryAt epoch)) (Ok cause) lines full comes leads found = absurd found
+counted old mid new step (Err (follower_fault.Fork epoch held came)) (Ok cause) lines full cluster (same, there) leads found = subst (λ given. LeadsTo cause given new) (ap (answered old step.after) same) leads
+counted old mid new step (Err (follower_fault.Refused epoch refusal)) (Ok cause) lines full cluster (same, there) leads found = subst (λ given. LeadsTo cause given new) (ap (answered old step.after) same) leads
+counted old mid new step (Err (follower_fault.BadImage bad)) (Ok cause) lines full cluster (same, there) leads found = subst (λ given. LeadsTo cause given new) (ap (answered old step.after) same) leads
+counted old mid new step (Err follower_fault.Memory) (Ok cause) lines full cluster comes leads found = absurd found
+counted old mid new step (Err (follower_fault.MemoryAt epoch)) (Ok cause) lines full cluster comes leads found = absurd found
 
 -- ---- the lines of a file
 
@@ -55,20 +55,20 @@ pub record Hands (file : ℕ) (before : Replay) (bytes : List ℕ) (number : ℕ
   pub is : lines_replayed file 1 before (whole_lines bytes) ≡ lines_replayed file number replay (whole_lines rest)
 
 module _ (file : ℕ) (before : Replay) (bytes : List ℕ) (number : ℕ) (replay : Replay) (rest l more : List ℕ) (so_far : Hands file before bytes number replay rest) (e : rest ≡ l ++ 10 ∷ more) (plain : HasNoFeed l) where
-  next_line : lines_replayed file 1 before (whole_lines bytes) ≡ goes_on file number (line_replayed replay l) (λ next. lines_replayed file (number + 1) next (whole_lines more))
+  next_line : lines_replayed file 1 before (whole_lines bytes) ≡ goes_on file number (line_replayed number replay l) (λ next. lines_replayed file (number + 1) next (whole_lines more))
   next_line = so_far.is ∙ ap (λ x. lines_replayed file number replay (whole_lines x)) e ∙ ap (lines_replayed file number replay) (whole_lines-line l more plain)
 
   -- the next line is handed over
-  pub hands_line : (o : Option Cause) (after : Replay) → o ≡ None → LeadsTo o (line_replayed replay l) after → Hands file before bytes (number + 1) after more
+  pub hands_line : (o : Option Cause) (after : Replay) → o ≡ None → LeadsTo o (line_replayed number replay l) after → Hands file before bytes (number + 1) after more
   hands_line o after none leads =
-      let handed : line_replayed replay l ≡ Ok after = subst (λ x. LeadsTo x (line_replayed replay l) after) none leads in
+      let handed : line_replayed number replay l ≡ Ok after = subst (λ x. LeadsTo x (line_replayed number replay l) after) none leads in
       record { is = next_line ∙ ap (λ r. goes_on file number r (λ next. lines_replayed file (number + 1) next (whole_lines more))) handed }
 
   -- the next line is refused
-  pub hands_refused : (o : Option Cause) (after : Replay) (cause : Cause) → o ≡ Some cause → LeadsTo o (line_replayed replay l) after
+  pub hands_refused : (o : Option Cause) (after : Replay) (cause : Cause) → o ≡ Some cause → LeadsTo o (line_replayed number replay l) after
       → lines_replayed file 1 before (whole_lines bytes) ≡ Err (record { file = file; line = number; cause = cause })
   hands_refused o after cause some leads =
-      let refused : line_replayed replay l ≡ Err cause = subst (λ x. LeadsTo x (line_replayed replay l) after) some leads in
+      let refused : line_replayed number replay l ≡ Err cause = subst (λ x. LeadsTo x (line_replayed number replay l) after) some leads in
       next_line ∙ ap (λ r. goes_on file number r (λ next. lines_replayed file (number + 1) next (whole_lines more))) refused
 
 -- no line is left
@@ -79,7 +79,7 @@ hands_end file before bytes number replay rest so_far plain = so_far.is ∙ ap (
 -- ---- files
 
 -- files as the first load finds them, and then as the later loads do
-abbrev and_later : Files → (ℕ → Files) → ℕ → Files
+abbrev pub and_later : Files → (ℕ → Files) → ℕ → Files
 and_later first later zero = first
 and_later first later (suc i) = later i
 
@@ -92,7 +92,7 @@ seen_held (Some these) all held = λ i. sym held
 pub seen_any : (files : Option Files) → AreSeen files (λ _. files_behind files [] None)
 seen_any files = seen_held files (files_behind files [] None) (behind_held files [] None)
 
-seen_later : (files : Option Files) (first : Files) (later : ℕ → Files) → MayHold files first → AreSeen files later → AreSeen files (and_later first later)
+pub seen_later : (files : Option Files) (first : Files) (later : ℕ → Files) → MayHold files first → AreSeen files later → AreSeen files (and_later first later)
 seen_later None first later held seen = tt
 seen_later (Some these) first later held seen = each
   where

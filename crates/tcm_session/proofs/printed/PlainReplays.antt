@@ -1,5 +1,5 @@
 -- What a replay prints: no line of it begins with the word of an answer with quorums.
-use Rattle.std.proofs.Common.{filter, nat_lt, ◌≡◌, ◌≢◌, ℕ, suc, ◌+◌, Bool, true, false, if◌then◌else◌, List, [], ◌∷◌, ◌++◌, flat_map, length, nat_le, Option, Some, None, Result, Ok, Err, IfErr, codes, decimal, refl, arith}
+use Rattle.std.proofs.Common.{filter, nat_lt, ◌≡◌, ◌≢◌, ℕ, suc, ◌+◌, ◌==◌, Bool, true, false, if◌then◌else◌, List, [], ◌∷◌, ◌++◌, flat_map, length, nat_le, Option, Some, None, Result, Ok, Err, IfErr, codes, decimal, refl, arith}
 use Rattle.std.specs.List.{AllByRecursion}
 use Rattle.std.specs.Option.{IfSome}
 use Rattle.cluster_terms.proofs.lists.AscendingLemmas.{All-put}
@@ -23,6 +23,7 @@ use Rattle.follower_log.specs.declared.fault.FollowerFault.TheVariants as fault
 use Rattle.follower_log.specs.declared.took.Took.{Took}
 use Rattle.follower_log.specs.declared.took.Took.TheVariants as took
 use Rattle.wire_json.proofs.entries.EntryCommands.{reading_commands}
+use Rattle.wire_json.proofs.headers.HeaderNames.{reading_name}
 use Rattle.wire_json.specs.Reading.{reading}
 use Rattle.wire_json.specs.declared.line.Line.{Line}
 use Rattle.wire_json.specs.declared.line.Line.TheVariants as line
@@ -32,17 +33,18 @@ use Rattle.script_lang.proofs.SaidLemmas.{IsFormed}
 use Rattle.script_lang.specs.AnswerTexts.{nodes_text, place_text}
 use Rattle.tcm_session.specs.Limits.{input_limit, too_large_text}
 use Rattle.script_session.specs.Lines.{whole_lines}
-use Rattle.script_session.specs.LogFiles.{goes_on}
-use Rattle.tcm_session.specs.files.Replay.{answered, ending_of, files_replayed, line_replayed, lines_replayed, loaded_replayed, nothing_replayed, read_replayed, replay_ending, report_head, report_text, then_replayed, unless_ended}
+use Rattle.script_session.specs.LogFiles.{goes_on, other_cluster}
+use Rattle.tcm_session.specs.files.Replay.{answered, ending_of, files_replayed, headed, header_replayed, line_replayed, lines_replayed, loaded_replayed, nothing_replayed, read_replayed, replay_ending, report_head, report_text, then_replayed, unless_ended}
 use Rattle.session_laws.specs.Shown.{IsOfNoQuorum}
 use Rattle.tcm_session.specs.declared.ending.Ending.{Ending}
 use Rattle.script_session.specs.declared.refused_line.Cause.{Cause}
+use Rattle.script_session.specs.declared.refused_line.Cause.TheVariants as cause
 use Rattle.script_session.specs.declared.refused_line.RefusedLine.{RefusedLine}
 use Rattle.tcm_session.specs.declared.files.replay.Replay.{Replay}
 use Rattle.session_laws.proofs.quorums.AnswerLines.{nodes_lines, other_line, place_lines}
-use Rattle.session_laws.proofs.FileLogs.{HasPlainCause, formed_kinds, refused_text_lines}
+use Rattle.session_laws.proofs.FileLogs.{HasPlainCause, IfPlain, formed_kinds, plain_cluster, refused_text_lines}
 use Rattle.session_laws.proofs.texts.PlainImages.{IsPlainImage, next_plain, plain_empty, refusal_plain}
-use Rattle.session_laws.proofs.texts.PlainTexts.{HasPlainNames, is_plain, plain_decimal, plain_joined}
+use Rattle.session_laws.proofs.texts.PlainTexts.{HasPlainNames, is_plain, plain_decimal, plain_joined, plain_name}
 use Rattle.session_laws.proofs.texts.WholeLines.{AreLines, AreLines-append, AreLines-flat_map}
 
 -- ---- followers
@@ -112,33 +114,47 @@ plain_imaged f image plain is = bad (bad_of image)
 
 -- ---- lines
 
-abbrev IsPlainReplay : Replay → Type 0
-IsPlainReplay replay = IsPlainFollower replay.follower
+-- the names that a replay holds: those of its follower, and the cluster's
+record IsPlainReplay (replay : Replay) : Type 0 where
+  follower : IsPlainFollower replay.follower
+  cluster : IfSome replay.cluster (λ name. is_plain name ≡ true)
 
 -- a replay goes on plainly, or the cause to refuse a line is plain
 abbrev GoesOnPlainly : Result Replay Cause → Type 0
 GoesOnPlainly (Ok replay) = IsPlainReplay replay
 GoesOnPlainly (Err c) = HasPlainCause c
 
-plain_answered : (replay : Replay) (after : FollowerState) (answer : Result Took FollowerFault) → IsPlainFollower after → IfErr answer IsPlainFault → GoesOnPlainly (answered replay after answer)
-plain_answered replay after (Ok t) is names = is
-plain_answered replay after (Err (fault.Fork epoch held came)) is names = tt
-plain_answered replay after (Err (fault.Refused epoch refusal)) is names = names
-plain_answered replay after (Err (fault.BadImage bad)) is names = tt
-plain_answered replay after (Err fault.Memory) is names = tt
-plain_answered replay after (Err (fault.MemoryAt epoch)) is names = tt
+plain_answered : (replay : Replay) (after : FollowerState) (answer : Result Took FollowerFault) → IsPlainReplay replay → IsPlainFollower after → IfErr answer IsPlainFault → GoesOnPlainly (answered replay after answer)
+plain_answered replay after (Ok t) is plain names = record { follower = plain; cluster = is.cluster }
+plain_answered replay after (Err (fault.Fork epoch held came)) is plain names = tt
+plain_answered replay after (Err (fault.Refused epoch refusal)) is plain names = names
+plain_answered replay after (Err (fault.BadImage bad)) is plain names = tt
+plain_answered replay after (Err fault.Memory) is plain names = tt
+plain_answered replay after (Err (fault.MemoryAt epoch)) is plain names = tt
 
-plain_line : (replay : Replay) (bytes : List ℕ) → IsPlainReplay replay → GoesOnPlainly (line_replayed replay bytes)
-unfolding line_replayed
-plain_line replay bytes is = by (reading bytes) refl
+plain_header : (number : ℕ) (replay : Replay) (came : List ℕ) → is_plain came ≡ true → IsPlainReplay replay → GoesOnPlainly (header_replayed number replay came)
+plain_header number replay came plain is = by (number == 1) (of (other_cluster replay.cluster came) (plain_cluster replay.cluster came is.cluster plain))
   where
-    by : (r : Result Line ReadLineFault) → reading bytes ≡ r → GoesOnPlainly (read_replayed replay r)
+    of : (o : Option Cause) → IfPlain o → GoesOnPlainly (headed replay came o)
+    of None names = record { follower = is.follower; cluster = plain }
+    of (Some c) names = names
+
+    by : (b : Bool) → GoesOnPlainly (headed replay came (other_cluster replay.cluster came)) → GoesOnPlainly (if b then headed replay came (other_cluster replay.cluster came) else Err cause.Header)
+    by true next = next
+    by false next = tt
+
+plain_line : (number : ℕ) (replay : Replay) (bytes : List ℕ) → IsPlainReplay replay → GoesOnPlainly (line_replayed number replay bytes)
+unfolding line_replayed
+plain_line number replay bytes is = by (reading bytes) refl
+  where
+    by : (r : Result Line ReadLineFault) → reading bytes ≡ r → GoesOnPlainly (read_replayed number replay r)
+    by (Ok (line.Header came)) there = plain_header number replay came (plain_name came (reading_name bytes came there)) is
     by (Ok (line.Entry entry)) there =
-        let step = plain_handed replay.follower entry (reading_commands IsFormed formed_kinds bytes entry there) is in
-        plain_answered replay (hand_entry replay.follower entry).after (hand_entry replay.follower entry).answer step.after step.answer
+        let step = plain_handed replay.follower entry (reading_commands IsFormed formed_kinds bytes entry there) is.follower in
+        plain_answered replay (hand_entry replay.follower entry).after (hand_entry replay.follower entry).answer is step.after step.answer
     by (Ok (line.Snapshot image)) there =
-        let step = plain_imaged replay.follower image (plain_read bytes image there) is in
-        plain_answered replay (hand_image replay.follower image).after (hand_image replay.follower image).answer step.after step.answer
+        let step = plain_imaged replay.follower image (plain_read bytes image there) is.follower in
+        plain_answered replay (hand_image replay.follower image).after (hand_image replay.follower image).answer is step.after step.answer
     by (Err (read.Bad rule)) there = tt
     by (Err read.Memory) there = tt
 
@@ -148,7 +164,7 @@ AreLinesPlain (Err refused) = HasPlainCause refused.cause
 
 plain_file_lines : (file number : ℕ) (replay : Replay) (lines : List (List ℕ)) → IsPlainReplay replay → AreLinesPlain (lines_replayed file number replay lines)
 plain_file_lines file number replay [] is = is
-plain_file_lines file number replay (bytes ∷ lines) is = by (line_replayed replay bytes) (plain_line replay bytes is) (λ next plain. plain_file_lines file (number + 1) next lines plain)
+plain_file_lines file number replay (bytes ∷ lines) is = by (line_replayed number replay bytes) (plain_line number replay bytes is) (λ next plain. plain_file_lines file (number + 1) next lines plain)
   where
     by : (r : Result Replay Cause) → GoesOnPlainly r → ((next : Replay) → IsPlainReplay next → AreLinesPlain (lines_replayed file (number + 1) next lines))
         → AreLinesPlain (goes_on file number r (λ next. lines_replayed file (number + 1) next lines))
@@ -209,12 +225,12 @@ unfolding report_text
 report_lines replay is =
     let image = replay.follower.image in
     AreLines-append IsOfNoQuorum (report_head replay ++ nodes_text image) (flat_map (place_text image) image.keyspaces)
-    (AreLines-append IsOfNoQuorum (report_head replay) (nodes_text image) (head_lines replay) (nodes_lines image is.image))
+    (AreLines-append IsOfNoQuorum (report_head replay) (nodes_text image) (head_lines replay) (nodes_lines image is.follower.image))
     (AreLines-flat_map IsOfNoQuorum (place_text image) image.keyspaces
-    (all_weaker (λ (k : KeyspaceRow). is_plain k.name ≡ true) (λ k. AreLines IsOfNoQuorum (place_text image k)) (place_lines image) image.keyspaces is.image.keyspaces))
+    (all_weaker (λ (k : KeyspaceRow). is_plain k.name ≡ true) (λ k. AreLines IsOfNoQuorum (place_text image k)) (place_lines image) image.keyspaces is.follower.image.keyspaces))
 
 pub replay_lines : (names : List (List ℕ)) (seen : ℕ → Files) → (replay_ending names seen).status ≢ 7 → AreLines IsOfNoQuorum (replay_ending names seen).text
-replay_lines names seen = by (files_replayed 1 nothing_replayed names seen) (plain_files names 1 nothing_replayed seen (record { image = plain_empty; waiting = tt }))
+replay_lines names seen = by (files_replayed 1 nothing_replayed names seen) (plain_files names 1 nothing_replayed seen (record { follower = record { image = plain_empty; waiting = tt }; cluster = tt }))
   where
     by : (r : Result Replay Ending) → EndsPlainly r → IsPlainEnding (ending_of r)
     by (Ok replay) plain = λ other. report_lines replay plain

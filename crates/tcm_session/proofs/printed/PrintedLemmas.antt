@@ -1,5 +1,5 @@
 -- The lines that a run prints, and the quorums in them.
-use Rattle.std.proofs.Common.{if◌then◌else◌, ◌≡◌, ◌≢◌, ℕ, Bool, true, false, List, [], Option, Some, None, Result, Ok, Err, length, nat_le, codes, refl, sym, ap, ◌∙◌, subst, drop, arith, cond}
+use Rattle.std.proofs.Common.{if◌then◌else◌, ◌≡◌, ◌≢◌, ℕ, Bool, true, false, List, [], ◌++◌, Option, Some, None, Result, Ok, Err, length, nat_le, codes, decimal, refl, sym, ap, ◌∙◌, subst, drop, arith, cond}
 use Rattle.std.proofs.KnownBytes.{starts_with_rest}
 use Rattle.tcm_edges.specs.Files.{Files, file_of, loaded_of}
 use Rattle.tcm_edges.specs.declared.store.Loaded.{Loaded}
@@ -8,21 +8,23 @@ use Rattle.transformations.specs.declared.entry.Entry.{Entry}
 use Rattle.script_lang.specs.AnswerTexts.{no_text}
 use Rattle.tcm_session.specs.declared.ending.Ending.{Ending}
 use Rattle.tcm_session.specs.Left.{LeavesFiles}
-use Rattle.script_session.specs.LogFiles.{cut_to_lines, log_of, refused_line_text}
+use Rattle.script_session.specs.LogFiles.{base_of, log_for, log_of, old_log_of, refused_line_text}
 use Rattle.script_session.specs.Machine.{answers, no_epoch, session_over}
-use Rattle.tcm_session.specs.Commit.{Start, commit_outcome, large_outcome, outcome_from, outcome_loaded, script_outcome, whole_outcome}
+use Rattle.tcm_session.specs.Commit.{Start, large_outcome, outcome_from, outcome_loaded, script_outcome, whole_outcome}
 use Rattle.tcm_session.specs.Gen.{gen_ending}
+use Rattle.tcm_session.specs.Mend.{mended_end, mending, mending_from, mending_loaded, mending_to, with_made}
 use Rattle.tcm_session.specs.Outcome.{Outcome, ended_outcome, input_limit, printed_by, too_large_text, unread_outcome}
-use Rattle.tcm_session.specs.Outcomes.{outcome, usage_end}
-use Rattle.tcm_session.specs.Request.{Commit, CommitTo, Gen, Replay, Request, Snapshot, named_log}
+use Rattle.tcm_session.specs.Outcomes.{outcome, usage_end, usage_text}
+use Rattle.tcm_session.specs.Request.{Cms, Commit, CommitTo, Gen, Mend, Replay, Request, Snapshot}
 use Rattle.tcm_session.specs.Run.{IsFinal, IsRun}
 use Rattle.tcm_session.specs.code.Runs.{IsEnd, RunsSeen}
 use Rattle.session_laws.specs.Shown.{IsOfNoQuorum, shown}
 use Rattle.script_session.specs.declared.refused_line.RefusedLine.{RefusedLine}
 use Rattle.session_laws.proofs.quorums.AnswerLines.{other_line}
-use Rattle.session_laws.proofs.FileLogs.{refused_lines, session_file}
+use Rattle.session_laws.proofs.FileLogs.{old_refused_lines, refused_lines, session_for}
 use Rattle.script_session.proofs.SessionLemmas.{IsSession, session_empty}
 use Rattle.tcm_session.specs.files.ReplayPrefix.{ReportsPrefix, taken_of_files}
+use Rattle.tcm_session.specs.files.MemberRoute.{IsSafeRoute, route_ending}
 use Rattle.tcm_session.specs.files.Replay.{replay_ending}
 use Rattle.tcm_session.specs.files.StateLine.{file_ending, log_ending, snapshot_ending, state_ending}
 use Rattle.session_laws.proofs.texts.PlainSnapshots.{snapshot_is_line}
@@ -31,6 +33,12 @@ use Rattle.transformations.specs.Log.{commands_of}
 use Rattle.transformations.specs.declared.image.Image.{Image}
 use Rattle.wire_json.specs.SnapshotTexts.{snapshot_line}
 use Rattle.tcm_session.proofs.printed.GeneratedTexts.{summary_lines}
+use Rattle.session_laws.proofs.texts.PlainTexts.{plain_decimal, plain_name}
+use Rattle.cluster_terms.specs.Name.{is_name}
+use Rattle.std.specs.FinMap as map
+use Rattle.tcm_session.proofs.members.ListedNodes.{listed_route}
+use Rattle.tcm_session.proofs.members.RouteTexts.{route_lines}
+use Rattle.tcm_session.proofs.printed.RequestForms.{HasForms}
 use Rattle.tcm_session.proofs.printed.PlainReplays.{replay_lines, too_large_lines}
 use Rattle.tcm_session.proofs.log_files.ReplayReports.{refuses_no_line, reports_prefix}
 use Rattle.tcm_session.proofs.runs.RunLemmas.{final_end}
@@ -57,21 +65,18 @@ of_script start input is = by (nat_le (length input) input_limit)
 of_unread : (status : ℕ) (last : List ℕ) (all : Files) → (status ≢ 7 → AreLines IsOfNoQuorum last) → IsPlainOutcome (unread_outcome status last all)
 of_unread status last all lines = record { last = lines; is = session_empty }
 
-of_file : (name : List ℕ) (all : Files) (file : List ℕ) (r : Result (List Entry) RefusedLine) → log_of file ≡ r → (input : List ℕ) → IsPlainOutcome (outcome_from name all file r input)
-of_file name all file (Ok log) is input = of_script (record { log = log; file = Some name; files = cut_to_lines name file all }) input (session_file file log is)
-of_file name all file (Err refused) is input = of_unread 3 (refused_line_text refused) all (λ _. refused_lines file refused is)
+module _ (name cluster : List ℕ) (named : is_name cluster ≡ true) (all : Files) where
+  of_file : (file : List ℕ) (r : Result (List Entry) RefusedLine) → log_for (Some cluster) file ≡ r → (input : List ℕ) → IsPlainOutcome (outcome_from name cluster all file r input)
+  of_file file (Ok log) is input = of_script (record { log = log; file = Some name; files = map.insert all name (base_of cluster file) }) input (session_for (Some cluster) file log is)
+  of_file file (Err refused) is input = of_unread 3 (refused_line_text refused) all (λ _. refused_lines (Some cluster) file refused (plain_name cluster named) is)
 
-of_loaded : (name : List ℕ) (all : Files) (it : Loaded) (input : List ℕ) → IsPlainOutcome (outcome_loaded name all it input)
-of_loaded name all loaded.Absent input = of_script (record { log = []; file = Some name; files = all }) input session_empty
-of_loaded name all (loaded.TooLarge size) input = of_unread 8 too_large_text all (λ _. too_large_lines)
-of_loaded name all (loaded.Bytes file) input = of_file name all file (log_of file) refl input
-
-of_commit : (file : Option (List ℕ)) (all : Files) (input : List ℕ) → IsPlainOutcome (commit_outcome file all input)
-of_commit None all input = of_script (record { log = []; file = None; files = all }) input session_empty
-of_commit (Some name) all input = of_loaded name all (loaded_of (file_of all name) input_limit) input
+  of_loaded : (it : Loaded) (input : List ℕ) → IsPlainOutcome (outcome_loaded name cluster all it input)
+  of_loaded loaded.Absent input = of_file [] (log_for (Some cluster) []) refl input
+  of_loaded (loaded.TooLarge size) input = of_unread 8 too_large_text all (λ _. too_large_lines)
+  of_loaded (loaded.Bytes file) input = of_file file (log_for (Some cluster) file) refl input
 
 usage_lines : AreLines IsOfNoQuorum usage_end.text
-usage_lines = other_line (codes "usage: tcm commit [LOG] | replay FILE.. | snapshot LOG E | gen START N") refl (λ e. omega arith) (λ e. omega arith)
+usage_lines = other_line usage_text refl (λ e. omega arith) (λ e. omega arith)
 
 state_lines : (e : ℕ) (log : List Entry) → (state_ending e log).status ≢ 7 → AreLines IsOfNoQuorum (state_ending e log).text
 state_lines e log = by (nat_le e (length log))
@@ -88,7 +93,7 @@ state_lines e log = by (nat_le e (length log))
 
 log_lines : (e : ℕ) (file : List ℕ) (r : Result (List Entry) RefusedLine) → log_of file ≡ r → (log_ending e r).status ≢ 7 → AreLines IsOfNoQuorum (log_ending e r).text
 log_lines e file (Ok log) is other = state_lines e log other
-log_lines e file (Err refused) is other = refused_lines file refused is
+log_lines e file (Err refused) is other = refused_lines None file refused tt is
 
 -- the text of the state of a log, unless the name of an absent file or an epoch is printed
 snapshot_lines : (name : List ℕ) (e : ℕ) (seen : ℕ → Files) → (snapshot_ending name e seen).status ≢ 7 → AreLines IsOfNoQuorum (snapshot_ending name e seen).text
@@ -99,17 +104,43 @@ snapshot_lines name e seen = by (loaded_of (file_of (seen 0) name) input_limit)
     by (loaded.TooLarge size) other = too_large_lines
     by (loaded.Bytes file) other = log_lines e file (log_of file) refl other
 
+mended_lines : (n : ℕ) → AreLines IsOfNoQuorum (mended_end n).text
+mended_lines n = other_line (codes "MENDED " ++ decimal n) (plain_decimal n) (λ e. omega arith) (λ e. omega arith)
+
+to_lines : (new cluster : List ℕ) (log : List Entry) (found : Option (List ℕ)) → (mending_to new cluster log found).ending.status ≢ 7 → AreLines IsOfNoQuorum (mending_to new cluster log found).ending.text
+to_lines new cluster log None other = mended_lines (length log)
+to_lines new cluster log (Some file) other = absurd (other refl)
+
+from_lines : (new cluster file : List ℕ) (r : Result (List Entry) RefusedLine) → old_log_of file ≡ r → (found : Option (List ℕ)) → (mending_from new cluster r found).ending.status ≢ 7 → AreLines IsOfNoQuorum (mending_from new cluster r found).ending.text
+from_lines new cluster file (Ok log) is found other = to_lines new cluster log found other
+from_lines new cluster file (Err refused) is found other = old_refused_lines file refused is
+
+-- the text of a log file that is made, unless the name of a file is printed
+mend_lines : (old new cluster : List ℕ) (seen : ℕ → Files) → (mending old new cluster seen).ending.status ≢ 7 → AreLines IsOfNoQuorum (mending old new cluster seen).ending.text
+mend_lines old new cluster seen = by (loaded_of (file_of (seen 0) old) input_limit)
+  where
+    found : Option (List ℕ)
+    found = file_of (seen 1) new
+
+    by : (it : Loaded) → (mending_loaded old new cluster it found).ending.status ≢ 7 → AreLines IsOfNoQuorum (mending_loaded old new cluster it found).ending.text
+    by loaded.Absent other = absurd (other refl)
+    by (loaded.TooLarge size) other = too_large_lines
+    by (loaded.Bytes file) other = from_lines new cluster file (old_log_of file) refl found other
+
 of_ended : (ending : Ending) (all : Files) → (ending.status ≢ 7 → AreLines IsOfNoQuorum ending.text) → IsPlainOutcome (ended_outcome ending all)
 of_ended ending all lines = of_unread ending.status ending.text all lines
 
-plain_outcome : (request : Option Request) (seen : ℕ → Files) (input : List ℕ) → IsPlainOutcome (outcome request seen input)
+plain_outcome : (request : Option Request) → HasForms request → (seen : ℕ → Files) (input : List ℕ) → IsPlainOutcome (outcome request seen input)
 unfolding outcome
-plain_outcome (Some Commit) seen input = of_commit None (seen 0) input
-plain_outcome (Some (CommitTo log)) seen input = of_commit (Some log) (seen 0) input
-plain_outcome (Some (Replay files)) seen input = of_ended (replay_ending files seen) (seen 0) (replay_lines files seen)
-plain_outcome (Some (Snapshot log epoch)) seen input = of_ended (snapshot_ending log epoch seen) (seen 0) (snapshot_lines log epoch seen)
-plain_outcome (Some (Gen start rounds)) seen input = of_ended (gen_ending start rounds) (seen 0) (λ _. summary_lines start rounds)
-plain_outcome None seen input = of_ended usage_end (seen 0) (λ _. usage_lines)
+plain_outcome (Some Commit) named seen input = of_script (record { log = []; file = None; files = seen 0 }) input session_empty
+plain_outcome (Some (CommitTo log cluster)) named seen input = of_loaded log cluster named (seen 0) (loaded_of (file_of (seen 0) log) input_limit) input
+plain_outcome (Some (Replay files)) named seen input = of_ended (replay_ending files seen) (seen 0) (replay_lines files seen)
+plain_outcome (Some (Snapshot log epoch)) named seen input = of_ended (snapshot_ending log epoch seen) (seen 0) (snapshot_lines log epoch seen)
+plain_outcome (Some (Gen start rounds)) named seen input = of_ended (gen_ending start rounds) (seen 0) (λ _. summary_lines start rounds)
+plain_outcome (Some (Mend old new cluster)) named seen input =
+    let made = mending old new cluster seen in of_ended made.ending (with_made new made.made (seen 0)) (mend_lines old new cluster seen)
+plain_outcome (Some (Cms log from to)) named seen input = of_ended (route_ending log from to seen) (seen 0) (route_lines log from to seen)
+plain_outcome None named seen input = of_ended usage_end (seen 0) (λ _. usage_lines)
 
 printed_lines : (o : Outcome) → o.status ≢ 7 → IsPlainOutcome o → AreLines (IsTold (shown (session_over o.log) o.lines)) (printed_by o)
 printed_lines o other plain =
@@ -127,11 +158,16 @@ of_replay : (request : Option Request) (names : List (List ℕ)) → request ≡
 unfolding outcome
 of_replay request names is seen input = ap (λ r. outcome r seen input) is
 
+-- the route of a request for one
+safe_route : (request : Option Request) → HasForms request → (log from to : List ℕ) → request ≡ Some (Cms log from to) → IsSafeRoute from to
+safe_route request named log from to is =
+    let are : HasForms (Some (Cms log from to)) = subst HasForms is named in listed_route from to are.0 are.1
+
 pub is_run : {S : Type 0} (request : Option Request) (left : S → Option (List ℕ)) (input input' : S) (w w' : Option (List ℕ)) (f f' : Option Files) (status : ℕ)
-    → RunsSeen (outcome request) (LeavesFiles (named_log request) f f') left input input' w w' f f' status → IsRun request left input input' w w' f f' status
-is_run request left input input' w w' f f' status on =
+    → HasForms request → RunsSeen (outcome request) (LeavesFiles request f f') left input input' w w' f f' status → IsRun request left input input' w w' f f' status
+is_run request left input input' w w' f f' status named on =
     let o = outcome request on.seen on.runs.given in
-    let plain = plain_outcome request on.seen on.runs.given in
+    let plain = plain_outcome request named on.seen on.runs.given in
     record {
       given = record { input = on.runs.given; seen = on.seen; told_input = on.runs.told; told_files = on.held };
       comes = on.runs.comes;
@@ -141,7 +177,7 @@ is_run request left input input' w w' f f' status on =
           let ended : (n : ℕ) → status ≡ n → IsEnd n → (replay_ending names on.seen).status ≡ n =
           λ n e end. sym (on.runs.comes.status (final_at n status e end) ∙ ap (λ (x : Outcome). x.status) same) ∙ e in
           record {
-            unrefused = λ three. refuses_no_line names on.seen log of all (ended 3 three refl);
+            unrefused = λ cluster headed three. refuses_no_line names on.seen log of all cluster headed (ended 3 three refl);
             reports = λ zero. subst (ReportsPrefix log (taken_of_files names on.seen)) (sym (on.runs.comes.whole (final_at 0 status zero refl) ∙ ap printed_by same)) (reports_prefix names on.seen log of all (ended 0 zero refl));
           };
       quorums = λ other. record {
@@ -151,4 +187,5 @@ is_run request left input input' w w' f f' status on =
       };
       followers = followers_show o.log o.lines plain.is;
       leaves = on.runs.leaves;
+      routes = safe_route request named;
     }

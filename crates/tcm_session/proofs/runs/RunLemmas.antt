@@ -5,6 +5,7 @@ use Rattle.std.proofs.KnownBytes.{Appends-nil, Appends-trans, Consumes-nil, Keep
 use Rattle.std.proofs.lemmas.Bool.{eq-eqb}
 use Rattle.std.proofs.lemmas.Bool.Decides.{eqb_tells, leb_tells}
 use Rattle.std.proofs.Transfers.{starts_with_of_append, starts_with_of_eq}
+use Rattle.std.specs.FinMap as map
 use Rattle.tcm_edges.specs.Files.{Files, IsLoad}
 use Rattle.tcm_edges.specs.declared.store.Loaded.{Loaded}
 use Rattle.tcm_edges.specs.Owed.{WritesPrefix}
@@ -16,9 +17,9 @@ use Rattle.tcm_edges.specs.declared.fault.LoadFault.TheVariants as load
 use Rattle.tcm_session.specs.code.RunFaults.{counts_after, counts_by, of_load}
 use Rattle.tcm_session.specs.Left.{StopsNext}
 use Rattle.script_session.specs.Lines.{whole_lines}
-use Rattle.script_session.specs.LogFiles.{Gains, cut_to_lines, entry_lines, log_of, refused_line_text}
+use Rattle.script_session.specs.LogFiles.{Gains, base_of, entry_lines, log_for, refused_line_text}
 use Rattle.script_session.specs.Machine.{answers, entries_added, session_over}
-use Rattle.tcm_session.specs.Commit.{Start, commit_outcome, outcome_from, outcome_loaded, script_outcome}
+use Rattle.tcm_session.specs.Commit.{Start, commit_to_outcome, outcome_from, outcome_in, outcome_loaded, script_outcome}
 use Rattle.tcm_session.specs.Outcome.{Outcome, input_limit, printed_by, unread_outcome}
 use Rattle.tcm_session.specs.Outcomes.{outcome}
 use Rattle.tcm_session.specs.Request.{Request}
@@ -31,7 +32,7 @@ use Rattle.tcm_session.specs.declared.status.Status.{Status}
 use Rattle.script_session.specs.declared.refused_line.RefusedLine.{RefusedLine}
 use Rattle.tcm_session.specs.declared.scripts.pieces.ReadEnd.{ReadEnd}
 use Rattle.tcm_session.specs.declared.scripts.pieces.ReadEnd.TheVariants as end
-use Rattle.tcm_session.proofs.log_files.CutFiles.{behind_held, behind_loaded, files_behind}
+use Rattle.tcm_session.proofs.log_files.HeldFiles.{behind_held, behind_loaded, files_behind}
 use Rattle.tcm_session.proofs.inputs.BegunLines.{IsBegun-nil}
 use Rattle.tcm_session.proofs.inputs.ReadLemmas.{StopsAt-none}
 use Rattle.tcm_session.proofs.log_files.ReplayLemmas.{seen_held}
@@ -363,23 +364,23 @@ runs_early Left left input w outcome_of f' e other leaves =
 
 module _ {S : Type 0} (Left : Outcome → List ℕ → ℕ → Type 0) (left : S → Option (List ℕ)) (input input' : S) (w w' : Option (List ℕ)) where
   -- the log is refused, or a script runs from it
-  pub runs_refused : (name : List ℕ) (all : Files) (file : List ℕ) (refused : RefusedLine) (f' : Option Files) (status : ℕ) → log_of file ≡ Err refused
-      → RunsFor (λ _. unread_outcome 3 (refused_line_text refused) all) Left left input input' w w' f' status → RunsFor (outcome_from name all file (log_of file)) Left left input input' w w' f' status
-  runs_refused name all file refused f' status is runs = subst (λ r. RunsFor (outcome_from name all file r) Left left input input' w w' f' status) (sym is) runs
+  pub runs_refused : (name cluster : List ℕ) (all : Files) (file : List ℕ) (refused : RefusedLine) (f' : Option Files) (status : ℕ) → log_for (Some cluster) file ≡ Err refused
+      → RunsFor (λ _. unread_outcome 3 (refused_line_text refused) all) Left left input input' w w' f' status → RunsFor (outcome_in name cluster all file) Left left input input' w w' f' status
+  runs_refused name cluster all file refused f' status is runs = subst (λ r. RunsFor (outcome_from name cluster all file r) Left left input input' w w' f' status) (sym is) runs
 
-  pub runs_resumed : (name : List ℕ) (all : Files) (file : List ℕ) (log : List Entry) (f' : Option Files) (status : ℕ) → log_of file ≡ Ok log
-      → RunsFor (script_outcome (record { log = log; file = Some name; files = cut_to_lines name file all })) Left left input input' w w' f' status → RunsFor (outcome_from name all file (log_of file)) Left left input input' w w' f' status
-  runs_resumed name all file log f' status is runs = subst (λ r. RunsFor (outcome_from name all file r) Left left input input' w w' f' status) (sym is) runs
+  pub runs_resumed : (name cluster : List ℕ) (all : Files) (file : List ℕ) (log : List Entry) (f' : Option Files) (status : ℕ) → log_for (Some cluster) file ≡ Ok log
+      → RunsFor (script_outcome (record { log = log; file = Some name; files = map.insert all name (base_of cluster file) })) Left left input input' w w' f' status → RunsFor (outcome_in name cluster all file) Left left input input' w w' f' status
+  runs_resumed name cluster all file log f' status is runs = subst (λ r. RunsFor (outcome_from name cluster all file r) Left left input input' w w' f' status) (sym is) runs
 
   -- some file was loaded
-  pub runs_loaded : (name : List ℕ) (files f' : Option Files) (loaded : Loaded) (load : IsLoad files name input_limit loaded) (status : ℕ)
-      → RunsFor (outcome_loaded name (files_behind files name load.file) loaded) Left left input input' w w' f' status → RunsOn (commit_outcome (Some name)) Left left input input' w w' files f' status
-  runs_loaded name files f' loaded load status runs =
+  pub runs_loaded : (name cluster : List ℕ) (files f' : Option Files) (loaded : Loaded) (load : IsLoad files name input_limit loaded) (status : ℕ)
+      → RunsFor (outcome_loaded name cluster (files_behind files name load.file) loaded) Left left input input' w w' f' status → RunsOn (commit_to_outcome name cluster) Left left input input' w w' files f' status
+  runs_loaded name cluster files f' loaded load status runs =
       let all = files_behind files name load.file in
       record {
         all = all;
         held = behind_held files name load.file;
-        runs = subst (λ it. RunsFor (outcome_loaded name all it) Left left input input' w w' f' status) (behind_loaded files name input_limit loaded load) runs;
+        runs = subst (λ it. RunsFor (outcome_loaded name cluster all it) Left left input input' w w' f' status) (behind_loaded files name input_limit loaded load) runs;
       }
 
   -- some files, where nothing is known of them
@@ -390,14 +391,14 @@ module _ {S : Type 0} (Left : Outcome → List ℕ → ℕ → Type 0) (left : S
       let held = behind_held files [] None in
       record { all = all; held = held; runs = runs all held }
 
-  -- it is asked for
-  pub runs_commit : (Left' : Outcome → List ℕ → ℕ → Type 0) (file : Option (List ℕ)) (files f' : Option Files) (status : ℕ) → ((o : Outcome) (printed : List ℕ) (ended : ℕ) → Left o printed ended → Left' o printed ended)
-      → RunsOn (commit_outcome file) Left left input input' w w' files f' status → RunsSeen (λ seen. commit_outcome file (seen 0)) Left' left input input' w w' files f' status
-  runs_commit Left' file files f' status step on =
+  -- by the files that its first load finds
+  pub runs_first : (Left' : Outcome → List ℕ → ℕ → Type 0) (outcome_of : Files → List ℕ → Outcome) (files f' : Option Files) (status : ℕ) → ((o : Outcome) (printed : List ℕ) (ended : ℕ) → Left o printed ended → Left' o printed ended)
+      → RunsOn outcome_of Left left input input' w w' files f' status → RunsSeen (λ seen. outcome_of (seen 0)) Left' left input input' w w' files f' status
+  runs_first Left' outcome_of files f' status step on =
       record {
         seen = λ _. on.all;
         held = seen_held files on.all on.held;
-        runs = runs_left (commit_outcome file on.all) Left Left' left input input' w w' f' status step on.runs;
+        runs = runs_left (outcome_of on.all) Left Left' left input input' w w' f' status step on.runs;
       }
 
 -- the fault of a load is none of the source

@@ -10,11 +10,11 @@ use Rattle.tcm_edges.specs.Owed.{WritesPrefix}
 use Rattle.tcm_edges.proofs.FileLemmas.{file_of-put, file_of-put_other}
 use Rattle.transformations.specs.declared.entry.Entry.{Entry}
 use Rattle.wire_json.specs.EntryTexts.{entry_line}
-use Rattle.tcm_session.specs.Left.{GainsThese, StopsIn, StopsNext, next_added, next_text}
+use Rattle.tcm_session.specs.Left.{StopsIn, StopsNext, next_added, next_text}
 use Rattle.script_session.specs.LogFiles.{Gains, entry_lines}
 use Rattle.script_session.specs.Machine.{Reply, SessionState, answers, entries_added, replied, reply, session_after}
 use Rattle.script_session.specs.StepEnds.{Leaves}
-use Rattle.tcm_session.specs.code.Stops.{Adds, Stopped, StopsThere}
+use Rattle.tcm_session.specs.code.Stops.{Adds, GainsThese, Stopped, StopsThere}
 use Rattle.script_session.specs.declared.fault.StepFault.{StepFault}
 use Rattle.script_session.specs.declared.fault.StepFault.TheVariants as fault
 use Rattle.script_session.proofs.AnswersLemmas.{answers-append, answers-same, entries_added-append, entries_added-same, session_after-append, session_after-same}

@@ -1,11 +1,14 @@
 -- Where a fault stops a run.
-use Rattle.std.specs.Prelude.{◌≡◌, ◌⊎◌, ℕ, true, List, [], Option, Some, None, IfSome}
+use Rattle.std.specs.Prelude.{◌≡◌, ◌⊎◌, ℕ, true, List, [], ◌++◌, Option, Some, None}
 use Rattle.std.specs.Io.KnownBytes.{Appends}
-use Rattle.tcm_edges.specs.Files.{ChangesFile, Files, OthersKept, file_of}
-use Rattle.tcm_session.specs.Left.{GainsThese, LeavesFiles, StopsIn}
-use Rattle.script_session.specs.LogFiles.{lines_part}
+use Rattle.tcm_edges.specs.Files.{ChangesFile, Files, OthersKept, content}
+use Rattle.tcm_session.specs.Left.{StopsIn}
 use Rattle.script_session.specs.Machine.{SessionState, session_over}
 use Rattle.tcm_session.specs.Outcome.{Outcome}
+
+-- a file gained these bytes; if there are none, an absent file may stay absent
+abbrev pub GainsThese : List ℕ → Option (List ℕ) → Option (List ℕ) → Type 0
+GainsThese bytes old new = (new ≡ Some (content old ++ bytes)) ⊎ ((new ≡ old) × (bytes ≡ []))
 
 -- bytes are added to the file with this name, if one is named
 abbrev pub Adds : Option (List ℕ) → List ℕ → Option Files → Option Files → Type 0
@@ -32,12 +35,3 @@ pub record LeavesScript (name : Option (List ℕ)) (files files' : Option Files)
   pub stops : StopsIn (session_over o.log) o.lines o.last printed added
   pub adds : Adds name added files files'
   pub read_fault : status ≡ 4 → (stops.front ≡ []) × (stops.part ≡ [])
-
--- a run from the log in a file, if the store held this file
-abbrev pub LeavesLoaded : List ℕ → List ℕ → Option Files → Option Files → Outcome → List ℕ → ℕ → Type 0
-LeavesLoaded name file files files' o printed status =
-    IfSome files (λ all. file_of all name ≡ Some file) → LeavesFiles (Some name) files files' o printed status
-
--- a file is as before, or cut to its whole lines
-abbrev pub IsKeptOrCut : List ℕ → List ℕ → Option Files → Option Files → Type 0
-IsKeptOrCut name file files files' = ChangesFile (λ old new. (new ≡ old) ⊎ (new ≡ Some (lines_part file))) files files' name × OthersKept files files' name

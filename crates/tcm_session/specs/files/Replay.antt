@@ -1,5 +1,5 @@
 -- The replay of files: their lines are handed to one follower, one after another.
-use Rattle.std.specs.Prelude.{ℕ, suc, ◌+◌, List, [], ◌∷◌, ◌++◌, flat_map, length, Result, Ok, Err, codes, decimal}
+use Rattle.std.specs.Prelude.{ℕ, suc, ◌+◌, ◌==◌, if◌then◌else◌, List, [], ◌∷◌, ◌++◌, flat_map, length, Option, Some, None, Result, Ok, Err, codes, decimal}
 use Rattle.tcm_edges.specs.Files.{Files, file_of, loaded_of}
 use Rattle.tcm_edges.specs.declared.store.Loaded.{Loaded}
 use Rattle.tcm_edges.specs.declared.store.Loaded.TheVariants as loaded
@@ -19,7 +19,7 @@ use Rattle.script_lang.specs.AnswerTexts.{line as with_feed, nodes_text, place_t
 use Rattle.tcm_session.specs.Limits.{input_limit}
 use Rattle.script_session.specs.Lines.{whole_lines}
 use Rattle.tcm_session.specs.files.FileEnds.{absent_end, refused_end, too_large_end}
-use Rattle.script_session.specs.LogFiles.{goes_on}
+use Rattle.script_session.specs.LogFiles.{goes_on, other_cluster}
 use Rattle.tcm_session.specs.declared.ending.Ending.{Ending}
 use Rattle.script_session.specs.declared.refused_line.Cause.{Cause}
 use Rattle.script_session.specs.declared.refused_line.Cause.TheVariants as cause
@@ -28,7 +28,7 @@ use Rattle.tcm_session.specs.declared.files.replay.Replay.{Replay}
 
 -- the replay before the first line
 abbrev pub nothing_replayed : Replay
-nothing_replayed = record { follower = empty_follower; lines = 0; full = 0 }
+nothing_replayed = record { follower = empty_follower; lines = 0; full = 0; cluster = None }
 
 -- ---- a line
 
@@ -40,7 +40,8 @@ full_count _ = 0
 -- the replay after a line was answered; a fork, an entry whose command is refused, and an image that isn't valid refuse
 -- the line (a step of a follower is never without memory)
 abbrev pub answered : Replay → FollowerState → Result Took FollowerFault → Result Replay Cause
-answered replay after (Ok took) = Ok (record { follower = after; lines = replay.lines + 1; full = replay.full + full_count took })
+answered replay after (Ok took) =
+    Ok (record replay { follower = after; lines = replay.lines + 1; full = replay.full + full_count took })
 answered replay after (Err (fault.Fork epoch held came)) = Err (cause.Fork epoch held came)
 answered replay after (Err (fault.Refused epoch refusal)) = Err (cause.Command epoch refusal)
 answered replay after (Err (fault.BadImage bad)) = Err (cause.Image bad)
@@ -54,16 +55,28 @@ entry_replayed replay entry = (let step = hand_entry replay.follower entry in an
 abbrev pub image_replayed : Replay → Image → Result Replay Cause
 image_replayed replay image = (let step = hand_image replay.follower image in answered replay step.after step.answer)
 
--- what was read as a line; a line that breaks a rule is refused (a reading is never without memory)
-abbrev pub read_replayed : Replay → Result Line ReadLineFault → Result Replay Cause
-read_replayed replay (Ok (line.Entry entry)) = entry_replayed replay entry
-read_replayed replay (Ok (line.Snapshot image)) = image_replayed replay image
-read_replayed replay (Err (read.Bad rule)) = Err (cause.Line rule)
-read_replayed replay (Err read.Memory) = Err (cause.Line 0)
+-- a header, unless there is a cause to refuse it: it counts as a line, and changes no follower
+abbrev pub headed : Replay → List ℕ → Option Cause → Result Replay Cause
+headed replay came None = Ok (record replay { lines = replay.lines + 1; cluster = Some came })
+headed replay came (Some cause) = Err cause
+
+-- a header stands on line 1 of its file, and names the cluster of the headers before it
+abbrev pub header_replayed : ℕ → Replay → List ℕ → Result Replay Cause
+header_replayed number replay came =
+    if number == 1 then headed replay came (other_cluster replay.cluster came) else Err cause.Header
+
+-- what was read as the line with this number of its file; a line that breaks a rule is refused (a reading is never
+-- without memory)
+abbrev pub read_replayed : ℕ → Replay → Result Line ReadLineFault → Result Replay Cause
+read_replayed number replay (Ok (line.Header came)) = header_replayed number replay came
+read_replayed number replay (Ok (line.Entry entry)) = entry_replayed replay entry
+read_replayed number replay (Ok (line.Snapshot image)) = image_replayed replay image
+read_replayed number replay (Err (read.Bad rule)) = Err (cause.Line rule)
+read_replayed number replay (Err read.Memory) = Err (cause.Line 0)
 
 -- the replay after a line, or the cause to refuse it
-unfoldable pub line_replayed : Replay → List ℕ → Result Replay Cause
-line_replayed replay bytes = read_replayed replay (reading bytes)
+unfoldable pub line_replayed : ℕ → Replay → List ℕ → Result Replay Cause
+line_replayed number replay bytes = read_replayed number replay (reading bytes)
 
 -- ---- the lines of a file
 
@@ -71,7 +84,7 @@ line_replayed replay bytes = read_replayed replay (reading bytes)
 abbrev pub lines_replayed : ℕ → ℕ → Replay → List (List ℕ) → Result Replay RefusedLine
 lines_replayed file number replay [] = Ok replay
 lines_replayed file number replay (bytes ∷ lines) =
-    goes_on file number (line_replayed replay bytes) (λ next. lines_replayed file (number + 1) next lines)
+    goes_on file number (line_replayed number replay bytes) (λ next. lines_replayed file (number + 1) next lines)
 
 -- ---- files
 

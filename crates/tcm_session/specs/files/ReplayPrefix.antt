@@ -1,5 +1,5 @@
 -- The entries and images of one log that a replay takes, and their longest gapless prefix.
-use Rattle.std.specs.Prelude.{◌≡◌, ◌≢◌, ℕ, suc, List, [], ◌∷◌, Result, Ok, Err}
+use Rattle.std.specs.Prelude.{◌≡◌, ℕ, suc, List, [], ◌∷◌, Result, Ok, Err}
 use Rattle.std.specs.List.{AllByRecursion}
 use Rattle.tcm_edges.specs.Files.{Files, file_of, loaded_of}
 use Rattle.tcm_edges.specs.declared.store.Loaded.{Loaded}
@@ -16,7 +16,6 @@ use Rattle.tcm_session.specs.Limits.{input_limit}
 use Rattle.script_session.specs.Lines.{whole_lines}
 use Rattle.tcm_session.specs.files.Replay.{report_text}
 use Rattle.script_session.specs.Taken.{ShowsPrefix, unless_full}
-use Rattle.tcm_session.specs.declared.ending.Ending.{Ending}
 use Rattle.tcm_session.specs.declared.files.replay.Replay.{Replay}
 
 -- ---- what is taken
@@ -42,6 +41,7 @@ image_taken so_far image =
 
 -- a line is handed over, and lines, one after another
 abbrev pub read_taken : Taking → Result Line ReadLineFault → Taking
+read_taken so_far (Ok (line.Header cluster)) = so_far
 read_taken so_far (Ok (line.Entry entry)) = entry_taken so_far entry
 read_taken so_far (Ok (line.Snapshot image)) = image_taken so_far image
 read_taken so_far (Err fault) = so_far
@@ -66,8 +66,9 @@ taken_of_files names seen = (files_taken nothing_yet names seen).taken
 
 -- ---- files of one log
 
--- a line reads as an entry of a log, or as an image of it
+-- a line reads as an entry of a log, or as an image of it; or it is a header, of which nothing is asked
 abbrev pub ReadsAsPart : List Entry → Result Line ReadLineFault → Type 0
+ReadsAsPart log (Ok (line.Header cluster)) = Unit {0}
 ReadsAsPart log (Ok (line.Entry entry)) = IsEntryOf log entry
 ReadsAsPart log (Ok (line.Snapshot image)) = IsImageOf log image
 ReadsAsPart log (Err fault) = ⊥
@@ -75,17 +76,35 @@ ReadsAsPart log (Err fault) = ⊥
 abbrev pub AreLinesOf : List Entry → List (List ℕ) → Type 0
 AreLinesOf log lines = AllByRecursion (λ bytes. ReadsAsPart log (reading bytes)) lines
 
--- each whole line of these files reads as an entry of a log, or as an image of it
+-- each whole line of these files that isn't a header reads as an entry of a log, or as an image of it
 abbrev pub AreFilesOf : List Entry → List (List ℕ) → (ℕ → Files) → Type 0
 AreFilesOf log [] seen = Unit {0}
 AreFilesOf log (name ∷ names) seen =
     AreLinesOf log (loaded_lines (loaded_of (file_of (seen 0) name) input_limit)) × AreFilesOf log names (λ i. seen (suc i))
 
--- a replay comes to a follower that shows the longest gapless prefix of what it took; or a file is absent or too large,
--- and no line is refused
-abbrev pub ComesToPrefix : List Entry → Taken → Result Replay Ending → Type 0
-ComesToPrefix log taken (Ok replay) = ShowsPrefix log taken replay.follower
-ComesToPrefix log taken (Err ending) = ending.status ≢ 3
+-- ---- headers
+
+-- a line that is a header names this cluster; and a line isn't a header
+abbrev pub MayHead : List ℕ → Result Line ReadLineFault → Type 0
+MayHead cluster (Ok (line.Header came)) = came ≡ cluster
+MayHead cluster read = Unit {0}
+
+abbrev pub IsNoHeader : Result Line ReadLineFault → Type 0
+IsNoHeader (Ok (line.Header came)) = ⊥
+IsNoHeader read = Unit {0}
+
+-- of the lines of a file at most the first is a header, and then it names this cluster
+abbrev pub AreHeaded : List ℕ → List (List ℕ) → Type 0
+AreHeaded cluster [] = Unit {0}
+AreHeaded cluster (bytes ∷ lines) = MayHead cluster (reading bytes) × AllByRecursion (λ later. IsNoHeader (reading later)) lines
+
+abbrev pub AreHeadedFiles : List ℕ → List (List ℕ) → (ℕ → Files) → Type 0
+AreHeadedFiles cluster [] seen = Unit {0}
+AreHeadedFiles cluster (name ∷ names) seen =
+    AreHeaded cluster (loaded_lines (loaded_of (file_of (seen 0) name) input_limit))
+    × AreHeadedFiles cluster names (λ i. seen (suc i))
+
+-- ---- the report
 
 -- the printed bytes are the report of a replay whose follower shows the longest gapless prefix
 pub record ReportsPrefix (log : List Entry) (taken : Taken) (printed : List ℕ) : Type 0 where

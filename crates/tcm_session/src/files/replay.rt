@@ -13,20 +13,21 @@ use crate::ending::Ending;
 use crate::limits::FILE_LIMIT;
 use crate::run_fault::RunFault;
 use crate::scripts::lines::cut_line;
-use cluster_terms::Memory;
+use cluster_terms::{Memory, Name, TryCopy};
 use follower_log::{Follower, FollowerFault, Took};
-use script_session::{Cause, RefusedLine};
+use script_session::{Cause, RefusedLine, other_cluster};
 use std::alloc::Global;
 use tcm_edges::{Loaded, Store};
 use transformations::{Entry, Image};
 use wire_json::{Line, ReadLineFault, read_line};
 
-/// A follower that is handed the lines of files, the number of lines that were read, and how many of them were answered
-/// `Full`. The value must be consumed, by `close`.
+/// A follower that is handed the lines of files, the number of lines that were read, how many of them were answered
+/// `Full`, and the cluster that the headers name, if there was a header. The value must be consumed, by `close`.
 pub struct Replay {
     pub follower: Follower,
     pub lines: u64,
     pub full: u64,
+    pub cluster: Option<Name>,
 }
 
 impl Replay {
@@ -38,6 +39,7 @@ impl Replay {
             follower: Follower::empty(alloc)?,
             lines: 0,
             full: 0,
+            cluster: None,
         })
     }
 
@@ -47,36 +49,60 @@ impl Replay {
             follower,
             lines: _,
             full: _,
+            cluster: _,
         } = self;
         follower.close();
     }
 
-    /// Hands over a line, which comes without its line feed; or returns the first cause to refuse it. Fails only if
-    /// memory runs out; the entry or the image may have been taken by then.
-    pub fn hand_line(&mut self, alloc: Global, line: &[u8]) -> Result<Option<Cause>, Memory>
+    /// Hands over the line with this number of its file, which comes without its line feed; or returns the first cause to
+    /// refuse it. Fails only if memory runs out; the entry or the image may have been taken by then.
+    pub fn hand_line(
+        &mut self,
+        alloc: Global,
+        number: u64,
+        line: &[u8],
+    ) -> Result<Option<Cause>, Memory>
         requires { CanCount 1 self.old }
-        ensures leads { IfOk result (λ cause. LeadsTo cause (spec.line_replayed self.old line.now) self.new) }
+        ensures leads { IfOk result (λ cause. LeadsTo cause (spec.line_replayed number self.old line.now) self.new) }
         ensures grows { GrowsBy 1 self.old self.new }
     {
         match read_line(alloc, line) {
-            Ok(content) => self.hand_content(content),
+            Ok(content) => self.hand_content(number, content),
             Err(ReadLineFault::Bad(rule)) => Ok(Some(Cause::Line(rule))),
             Err(ReadLineFault::Memory) => Err(Memory),
         }
     }
 
     /// Hands over the content of a line, as `hand_line` does.
-    fn hand_content(&mut self, content: Line) -> Result<Option<Cause>, Memory>
+    fn hand_content(&mut self, number: u64, content: Line) -> Result<Option<Cause>, Memory>
         requires counts { CanCount 1 self.old }
         requires tokens { reading.HasTokens content }
         requires epoch { reading.HasEpoch content }
-        ensures leads { IfOk result (λ cause. LeadsTo cause (spec.read_replayed self.old (Ok content)) self.new) }
+        ensures leads { IfOk result (λ cause. LeadsTo cause (spec.read_replayed number self.old (Ok content)) self.new) }
         ensures grows { GrowsBy 1 self.old self.new }
     {
         match content {
+            Line::Header(cluster) => self.hand_header(number, cluster),
             Line::Entry(entry) => self.hand_entry(&entry),
             Line::Snapshot(image) => self.hand_image(image),
         }
+    }
+
+    /// Counts a header, or returns the cause to refuse it. Fails only if memory runs out.
+    fn hand_header(&mut self, number: u64, cluster: Name) -> Result<Option<Cause>, Memory>
+        requires { CanCount 1 self.old }
+        ensures leads { IfOk result (λ cause. LeadsTo cause (spec.header_replayed number self.old cluster) self.new) }
+        ensures grows { GrowsBy 1 self.old self.new }
+    {
+        if number != 1 {
+            return Ok(Some(Cause::Header));
+        }
+        if let Some(cause) = other_cluster(self.cluster.as_ref(), cluster.copy()?)? {
+            return Ok(Some(cause));
+        }
+        self.lines += 1;
+        self.cluster = Some(cluster);
+        Ok(None)
     }
 
     /// Hands over an entry, as `hand_line` does.
@@ -153,7 +179,7 @@ fn hand_lines(
     let mut number = 1;
     let mut rest = bytes;
     while let Some((line, more)) = cut_line(rest) {
-        if let Some(cause) = replay.hand_line(alloc, line)? {
+        if let Some(cause) = replay.hand_line(alloc, number, line)? {
             return Ok(Some(RefusedLine {
                 file,
                 line: number,

@@ -35,7 +35,7 @@ fn at_epoch(alloc: Global, session: &Session, epoch: u64) -> Result<Ending, Memo
 fn in_file(alloc: Global, file: &[u8], epoch: u64) -> Result<Ending, Memory>
     ensures { IfOk result (λ ending. ending ≡ spec.log_ending epoch (log_of file.now)) }
 {
-    match open_log(alloc, file) {
+    match open_log(alloc, None, file) {
         Ok((session, _size)) => {
             let ending = at_epoch(alloc, &session, epoch);
             session.close();

@@ -1,21 +1,24 @@
 //! Runs a script, from an empty log or from the log in a file.
 
-ghost use Rattle.std.specs.Prelude.{◌≡◌, [], Some, Ok, IfOk, OnErr, OnOk};
+ghost use Rattle.std.specs.Prelude.{◌≡◌, length, None, Some, IfOk, OnErr, OnOk};
 ghost use Rattle.std.specs.Option.{option_copied};
 ghost use Rattle.tcm_session.specs.Counts.{counts};
-ghost use Rattle.tcm_session.specs.Commit.{commit_outcome, outcome_from, script_outcome};
+ghost use Rattle.tcm_session.specs.Commit.{commit_outcome, commit_to_outcome, outcome_in, script_outcome};
 ghost use Rattle.tcm_session.specs.Left.{LeavesFiles, StopsNext};
+ghost use Rattle.tcm_session.specs.Request.{CommitTo};
 ghost use Rattle.tcm_session.specs.code.Endings as spec;
-ghost use Rattle.tcm_session.specs.code.Loading.{IsCut, IsLinesPart};
+ghost use Rattle.tcm_session.specs.code.Loading.{HoldsFile, IsKeptOrWritten, IsWritten};
 ghost use Rattle.tcm_session.specs.code.RunFaults.{counts_by};
 ghost use Rattle.tcm_session.specs.code.Runs.{IsEnd, LeavesStore, RunsOn, RunsOnAny, Writes};
-ghost use Rattle.tcm_session.specs.code.Stops.{IsKeptOrCut, LeavesLoaded, LeavesScript, Stopped};
-ghost use Rattle.script_session.specs.LogFiles.{Gains, entry_lines, log_of};
+ghost use Rattle.tcm_session.specs.code.Stops.{LeavesScript, Stopped};
+ghost use Rattle.script_session.specs.LogFiles.{Gains, base_of, entry_lines};
+ghost use Rattle.script_session.specs.Lines.{open_line};
 ghost use Rattle.script_session.specs.LogFiles as log_file;
 ghost use Rattle.script_session.specs.Machine.{entries_added, session_over};
 
 use crate::ending::{Ending, end_with, print_text};
-use crate::files::log_file::{LogFault, open_log};
+use crate::files::log_file::{LogFault, LogFile, open_log};
+use crate::files::written::write_file;
 use crate::limits::{FILE_LIMIT, TOO_LARGE};
 use crate::run_fault::RunFault;
 use crate::scripts::answering::answer_line;
@@ -24,7 +27,8 @@ use crate::status::Status;
 use cluster_terms::ByteText;
 use script_session::{RefusedLine, Session};
 use std::alloc::Global;
-use tcm_edges::{Loaded, Sink, Source, Store, WriteFault};
+use tcm_edges::{Loaded, Sink, Source, Store};
+use wire_json::header_line;
 
 /// The status of a run after its script was read.
 fn end_status(ending: ReadEnd) -> Status
@@ -96,26 +100,24 @@ fn run_script<S: Source, K: Sink, D: Store>(
     Ok(end_status(ending))
 }
 
-/// Runs a script from an empty log. If a file is named, the lines of new entries are added to it.
+/// Runs a script from an empty log, without a file.
 pub fn commit<S: Source, K: Sink, D: Store>(
     alloc: Global,
-    log: Option<&str>,
     input: &mut S,
     out: &mut K,
     store: &mut D,
 ) -> Result<Status, RunFault>
-    ensures runs { RunsOnAny
-        (λ all. script_outcome (record { log = []; file = option_copied log.entry; files = all }))
-        (LeavesScript (option_copied log.entry) (D.files store.old) (D.files store.new))
+    ensures runs { RunsOnAny commit_outcome
+        (LeavesScript None (D.files store.old) (D.files store.new))
         S.left input.old input.new (K.written out.old) (K.written out.new)
         (D.files store.old) (D.files store.new) (spec.status_by result) }
     ensures cause { counts (S.faults input.new) (K.faults out.new) (D.faults store.new)
         ≡ counts_by result (counts (S.faults input.old) (K.faults out.old) (D.faults store.old)) }
     ensures ended { IfOk result (λ status. IsEnd status.0) }
-    ensures unnamed { LeavesStore (option_copied log.entry) store.old store.new result }
+    ensures unnamed { LeavesStore None store.old store.new result }
 {
     let mut session = Session::empty(alloc)?;
-    let result = run_script(alloc, &mut session, log, input, out, store);
+    let result = run_script(alloc, &mut session, None, input, out, store);
     session.close();
     result
 }
@@ -134,56 +136,62 @@ fn refuse_log<K: Sink>(
     ending.print(out)
 }
 
-/// Cuts off the bytes after the whole lines of a file, if there are any. After a fault the file is as before or cut.
-fn cut_file<D: Store>(
-    name: &str,
+/// Makes a log file ready for a script: cuts off its bytes after the last line feed, or writes the header if it has no
+/// whole line; `tail` is the number of these bytes. After a fault, the file is as before or ready.
+fn settle_file<D: Store>(
+    alloc: Global,
+    log: &LogFile<'_>,
     file: ByteText,
-    size: usize,
+    tail: usize,
     store: &mut D,
 ) -> Result<(), RunFault>
-    requires { IsLinesPart size file }
-    ensures cut { OnOk result (IsCut name.now file (D.files store.old) (D.files store.new)) }
-    ensures stopped { OnErr result (IsKeptOrCut name.now file (D.files store.old) (D.files store.new)) }
+    requires tail { tail ≡ length (open_line file) }
+    requires holds { HoldsFile log.now.name.now file (D.files store.old) }
+    ensures settled { OnOk result
+        (IsWritten log.now.name.now (base_of log.now.cluster file) (D.files store.old) (D.files store.new)) }
+    ensures stopped { OnErr result
+        (IsKeptOrWritten log.now.name.now (base_of log.now.cluster file) (D.files store.old) (D.files store.new)) }
     ensures cause { counts 0 0 (D.faults store.new)
         ≡ counts_by result (counts 0 0 (D.faults store.old)) }
 {
     let bytes = file.as_slice();
-    if size < bytes.len() {
-        match store.replace(name, &bytes[..size]) {
-            Ok(()) => Ok(()),
-            Err(WriteFault::Failed) => Err(RunFault::Store),
-            Err(WriteFault::Memory) => Err(RunFault::Memory),
-        }
-    } else {
-        Ok(())
+    let size = bytes.len() - tail;
+    if size == 0 {
+        let header = header_line(alloc, &log.cluster)?;
+        return write_file(log.name, header.as_slice(), store);
     }
+    if tail == 0 {
+        return Ok(());
+    }
+    write_file(log.name, &bytes[..size], store)
 }
 
-/// Cuts off an open line at the end of a log file, and runs a script from its log on. If a line of the log is refused,
-/// prints this line and its cause instead.
+/// Runs a script from the log in a file, which is that of its cluster, once the file is ready. If a line of the log is
+/// refused, prints this line and its cause instead.
 fn commit_from<S: Source, K: Sink, D: Store>(
     alloc: Global,
-    name: &str,
+    log: &LogFile<'_>,
     file: ByteText,
     input: &mut S,
     out: &mut K,
     store: &mut D,
 ) -> Result<Status, RunFault>
-    ensures runs { RunsOnAny (λ all. outcome_from name.now all file (log_of file))
-        (LeavesLoaded name.now file (D.files store.old) (D.files store.new))
+    requires { HoldsFile log.now.name.now file (D.files store.old) }
+    ensures runs { RunsOnAny (λ all. outcome_in log.now.name.now log.now.cluster all file)
+        (LeavesFiles (Some (CommitTo log.now.name.now log.now.cluster)) (D.files store.old) (D.files store.new))
         S.left input.old input.new (K.written out.old) (K.written out.new)
         (D.files store.old) (D.files store.new) (spec.status_by result) }
     ensures cause { counts (S.faults input.new) (K.faults out.new) (D.faults store.new)
         ≡ counts_by result (counts (S.faults input.old) (K.faults out.old) (D.faults store.old)) }
     ensures ended { IfOk result (λ status. IsEnd status.0) }
 {
-    match open_log(alloc, file.as_slice()) {
-        Ok((mut session, size)) => {
-            if let Err(fault) = cut_file(name, file, size, store) {
+    match open_log(alloc, Some(&log.cluster), file.as_slice()) {
+        Ok((mut session, tail)) => {
+            if let Err(fault) = settle_file(alloc, log, file, tail, store) {
                 session.close();
                 return Err(fault);
             }
-            let result = run_script(alloc, &mut session, Some(name), input, out, store);
+            let result = run_script(alloc, &mut session, Some(log.name), input, out, store);
             session.close();
             result
         }
@@ -192,25 +200,25 @@ fn commit_from<S: Source, K: Sink, D: Store>(
     }
 }
 
-/// Runs a script from a log file. A file that is absent is an empty log.
+/// Runs a script from a log file. A file that is absent has no line.
 pub fn commit_to<S: Source, K: Sink, D: Store>(
     alloc: Global,
-    name: &str,
+    log: &LogFile<'_>,
     input: &mut S,
     out: &mut K,
     store: &mut D,
 ) -> Result<Status, RunFault>
-    ensures runs { RunsOn (commit_outcome (Some name.now))
-        (LeavesFiles (Some name.now) (D.files store.old) (D.files store.new))
+    ensures runs { RunsOn (commit_to_outcome log.now.name.now log.now.cluster)
+        (LeavesFiles (Some (CommitTo log.now.name.now log.now.cluster)) (D.files store.old) (D.files store.new))
         S.left input.old input.new (K.written out.old) (K.written out.new)
         (D.files store.old) (D.files store.new) (spec.status_by result) }
     ensures cause { counts (S.faults input.new) (K.faults out.new) (D.faults store.new)
         ≡ counts_by result (counts (S.faults input.old) (K.faults out.old) (D.faults store.old)) }
     ensures ended { IfOk result (λ status. IsEnd status.0) }
 {
-    match store.load(name, FILE_LIMIT)? {
-        Loaded::Absent => commit(alloc, Some(name), input, out, store),
+    match store.load(log.name, FILE_LIMIT)? {
+        Loaded::Absent => commit_from(alloc, log, ByteText::empty(alloc), input, out, store),
         Loaded::TooLarge(_size) => end_with(TOO_LARGE.as_bytes(), 8, out),
-        Loaded::Bytes(file) => commit_from(alloc, name, file, input, out, store),
+        Loaded::Bytes(file) => commit_from(alloc, log, file, input, out, store),
     }
 }

@@ -25,9 +25,9 @@ use Rattle.wire_json.specs.EntryTexts.{command_data, entry_data, goal_word, move
 use Rattle.wire_json.specs.Values.{list_of, token_of}
 use Rattle.wire_json.specs.declared.line.Line.TheVariants as line
 use Rattle.wire_json.proofs.json_values.ListItems.{each_there, AreWhole-list, depth-list}
-use Rattle.wire_json.proofs.json_values.ReadingLemmas.{reading-line, value_is}
+use Rattle.wire_json.proofs.json_values.ReadingLemmas.{reading-text}
 use Rattle.wire_json.proofs.json_values.TextBytes.{IsShort-name, IsShort-replication, IsUtf8-replication, IsUtf8-tested, IsUtf8-name}
-use Rattle.wire_json.proofs.json_values.WholeData.{Fits-text, IsWhole, AreWhole, IsWholeNumber, items_most, most, read-text}
+use Rattle.wire_json.proofs.json_values.WholeData.{Fits-text, IsWhole, AreWhole, IsWholeNumber, items_most, most}
 
 -- ---- values that are there
 
@@ -252,6 +252,5 @@ unfolding entry_text
 entry_reads_back entry is =
     let value = entry_data entry in
     let whole = whole_entry entry is in
-    let fits = Fits-text value whole in
-    let short : length (compact_text value) ≤ most_bytes = omega (arith, fits.1, short_entry entry is) in
-    reading-line (compact_text value) value short (value_is (compact_text value) value fits.0 (read-text value whole (flat_entry entry is))) ∙ line_there entry is
+    let short : length (compact_text value) ≤ most_bytes = omega (arith, (Fits-text value whole).1, short_entry entry is) in
+    reading-text value whole (flat_entry entry is) short ∙ line_there entry is

@@ -1,5 +1,5 @@
 -- What holds of the commands of each kind holds of the commands of lines.
-use Rattle.std.proofs.Common.{◌≡◌, ℕ, ℤ, Bool, true, false, cond, if◌then◌else◌, List, [], ◌∷◌, Option, Some, None, option_map, option_and_then, Result, Ok, codes, length, nat_le, refl, sym, subst}
+use Rattle.std.proofs.Common.{◌≡◌, ℕ, ℤ, Bool, true, false, cond, if◌then◌else◌, List, [], ◌∷◌, Option, Some, None, option_map, option_and_then, Ok, codes, refl, sym, subst}
 use Rattle.std.specs.List.{AllByRecursion, find}
 use Rattle.std.specs.Option.{IfSome}
 use Rattle.std.specs.Str.{bytes_eq}
@@ -15,13 +15,12 @@ use Rattle.transformations.specs.declared.entry.Entry.{Entry}
 use Rattle.wire_json.specs.Kinds as spec
 use Rattle.wire_json.specs.code.NodeCommands as code
 use Rattle.wire_json.specs.Kinds.{Kind}
-use Rattle.wire_json.specs.Reading.{◌>>=◌, entry_of, found, holds, line_in, most_bytes, reading, value_of}
+use Rattle.wire_json.specs.Reading.{entry_of, reading}
 use Rattle.wire_json.specs.Values.{each_of, has_keys, list_of, name_at, node_at, text_at, token_at, token_of, tokens_at}
-use Rattle.wire_json.specs.declared.line.Line.{Line}
 use Rattle.wire_json.specs.declared.line.Line.TheVariants as line
-use Rattle.wire_json.specs.declared.line.ReadLineFault.{ReadLineFault}
-use Rattle.wire_json.proofs.entries.EntryParts.{entry_parts, line_entry}
+use Rattle.wire_json.proofs.entries.EntryParts.{entry_parts}
 use Rattle.wire_json.proofs.json_values.KindsLemmas.{no_node_command, node_command}
+use Rattle.wire_json.proofs.json_values.LineParts.{reading_parts}
 
 -- ---- what holds of the value in an option
 
@@ -54,7 +53,7 @@ IfSome-test test x = by (test x) refl
 abbrev IsName : List ℕ → Type 0
 IsName name = is_name name ≡ true
 
-of_name : (key : List ℕ) (value : Data) → IfSome (name_at key value) IsName
+pub of_name : (key : List ℕ) (value : Data) → IfSome (name_at key value) IsName
 of_name key value = IfSome-option_and_then _ IsName (IfSome-test is_name) (text_at key value)
 
 abbrev AreTokens : List ℤ → Type 0
@@ -177,16 +176,4 @@ module _ (Q : Command → Type 0) (of : HoldsOfKinds Q) where
 
   -- a line
   pub reading_commands : (bytes : List ℕ) (entry : Entry) → reading bytes ≡ Ok (line.Entry entry) → Q entry.cmd
-  unfolding reading
-  reading_commands bytes entry is = by (nat_le (length bytes) most_bytes) (value_of bytes) is
-    where
-      read_by : Bool → Option Data → Result Line ReadLineFault
-      read_by short value = do
-        short ← holds 1 short
-        value ← found 2 value
-        line_in value
-
-      by : (short : Bool) (value : Option Data) → read_by short value ≡ Ok (line.Entry entry) → Q entry.cmd
-      by false value is = absurd (cc)
-      by true None is = absurd (cc)
-      by true (Some value) is = entry_commands value entry (line_entry value entry is)
+  reading_commands bytes entry is = (let parts = reading_parts bytes (line.Entry entry) is in entry_commands parts.value entry parts.made)

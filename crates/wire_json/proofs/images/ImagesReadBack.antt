@@ -4,7 +4,6 @@ use Rattle.cluster_terms.proofs.texts.RoundTrip.{round_trip}
 use Rattle.cluster_terms.specs.declared.node.NodeRow.{NodeRow}
 use Rattle.cluster_terms.specs.declared.token.Pair.{Pair}
 use Rattle.serde_json.specs.Data.{depth, items_depth}
-use Rattle.serde_json.specs.Written.{compact_text}
 use Rattle.transformations.specs.declared.image.Image.{Image}
 use Rattle.transformations.specs.declared.keyspace.KeyspaceRow.{KeyspaceRow}
 use Rattle.transformations.specs.declared.sequence.Kind.{Kind}
@@ -20,9 +19,9 @@ use Rattle.wire_json.specs.EntryTexts.{list_items, movement_word, phase_word}
 use Rattle.wire_json.specs.declared.line.Line.TheVariants as line
 use Rattle.wire_json.proofs.entries.EntriesReadBack.{name_there, node_there, token_there, whole_token}
 use Rattle.wire_json.proofs.json_values.ListItems.{AreWhole-list, depth-list, each_there}
-use Rattle.wire_json.proofs.json_values.ReadingLemmas.{reading-line, value_is}
+use Rattle.wire_json.proofs.json_values.ReadingLemmas.{reading-text}
 use Rattle.wire_json.proofs.json_values.TextBytes.{IsUtf8-name, IsUtf8-replication, IsUtf8-tested}
-use Rattle.wire_json.proofs.json_values.WholeData.{Fits-text, IsWhole, read-text}
+use Rattle.wire_json.proofs.json_values.WholeData.{IsWhole}
 
 -- ---- the object of an image is the image
 
@@ -183,7 +182,4 @@ flat_snapshot image =
 
 pub image_reads_back : (image : Image) → FitsLine image → length (image_text image) ≤ most_bytes → reading (image_text image) ≡ Ok (line.Snapshot image)
 unfolding image_text
-image_reads_back image is short =
-    let value = snapshot_data image in
-    let whole = whole_snapshot image is in
-    reading-line (compact_text value) value short (value_is (compact_text value) value (Fits-text value whole).0 (read-text value whole (flat_snapshot image))) ∙ line_there image is
+image_reads_back image is short = reading-text (snapshot_data image) (whole_snapshot image is) (flat_snapshot image) short ∙ line_there image is

@@ -1,21 +1,19 @@
 -- The names in an image that is read are names.
-use Rattle.std.proofs.Common.{◌≡◌, ℕ, Bool, true, false, if◌then◌else◌, List, ◌∷◌, Option, None, Some, option_map, option_and_then, Result, Ok, Err, IsTrue, nat_le, length, codes, refl, subst}
+use Rattle.std.proofs.Common.{◌≡◌, ℕ, List, ◌∷◌, Option, None, Some, option_map, option_and_then, Ok, IsTrue, codes, subst}
 use Rattle.std.specs.List.{AllByRecursion}
 use Rattle.std.specs.Option.{IfSome}
 use Rattle.cluster_terms.specs.Name.{is_name}
 use Rattle.cluster_terms.specs.declared.node.NodeRow.{NodeRow}
 use Rattle.serde_json.specs.Data.{Data, Items, no_items, item}
 use Rattle.serde_json.specs.Find.{as_array, get}
-use Rattle.transformations.specs.declared.entry.Entry.{Entry}
 use Rattle.transformations.specs.declared.image.Image.{Image}
 use Rattle.transformations.specs.declared.keyspace.KeyspaceRow.{KeyspaceRow}
-use Rattle.wire_json.proofs.entries.EntryCommands.{IfSome-option_and_then, IfSome-where}
-use Rattle.wire_json.specs.Reading.{◌>>=◌, entry_of, found, holds, line_in, most_bytes, reading, value_of}
+use Rattle.wire_json.proofs.entries.EntryCommands.{IfSome-option_and_then, IfSome-where, of_name}
+use Rattle.wire_json.proofs.json_values.LineParts.{reading_parts}
+use Rattle.wire_json.specs.Reading.{reading}
 use Rattle.wire_json.specs.Snapshots as spec
-use Rattle.wire_json.specs.Values.{each_at, each_of, flag_at, has_keys, name_at, node_at, number_at, replication_at, text_at}
-use Rattle.wire_json.specs.declared.line.Line.{Line}
+use Rattle.wire_json.specs.Values.{each_at, each_of, flag_at, name_at, node_at, number_at, replication_at}
 use Rattle.wire_json.specs.declared.line.Line.TheVariants as line
-use Rattle.wire_json.specs.declared.line.ReadLineFault.{ReadLineFault}
 
 abbrev IsName : List ℕ → Type 0
 IsName name = IsTrue (is_name name)
@@ -30,13 +28,6 @@ HasName k = IsName k.name
 pub record AreNamed (image : Image) : Type 0 where
   pub nodes : AllByRecursion HasNames image.nodes
   pub keyspaces : AllByRecursion HasName image.keyspaces
-
-named : (key : List ℕ) (value : Data) → IfSome (name_at key value) IsName
-named key value = IfSome-option_and_then (λ text. if is_name text then Some text else None) IsName (λ text. by text (is_name text) refl) (text_at key value)
-  where
-    by : (text : List ℕ) (b : Bool) → is_name text ≡ b → IfSome (if b then Some text else None) IsName
-    by text true is = is
-    by text false is = tt
 
 -- ---- the items of a list
 
@@ -68,9 +59,9 @@ node_named value =
     (λ name n. IfSome-where IsName _ HasNames
     (λ dc d. IfSome-where IsName _ HasNames
     (λ rack r. IfSome-option_and_then _ HasNames (λ left. (n, d, r)) (flag_at (codes "left") value))
-    (name_at (codes "rack") value) (named (codes "rack") value))
-    (name_at (codes "dc") value) (named (codes "dc") value))
-    (name_at (codes "name") value) (named (codes "name") value))
+    (name_at (codes "rack") value) (of_name (codes "rack") value))
+    (name_at (codes "dc") value) (of_name (codes "dc") value))
+    (name_at (codes "name") value) (of_name (codes "name") value))
     (node_at (codes "id") value))
     (spec.having spec.node_row_keys value)
 
@@ -80,7 +71,7 @@ keyspace_named value =
     IfSome-option_and_then _ HasName
     (λ keys. IfSome-where IsName _ HasName
     (λ name n. IfSome-option_and_then _ HasName (λ replication. n) (replication_at (codes "replication") value))
-    (name_at (codes "name") value) (named (codes "name") value))
+    (name_at (codes "name") value) (of_name (codes "name") value))
     (spec.having spec.keyspace_row_keys value)
 
 image_named : (value : Data) → IfSome (spec.image_in value) AreNamed
@@ -105,36 +96,7 @@ snapshot_named value = IfSome-option_and_then spec.image_in AreNamed image_named
 
 -- ---- lines
 
-abbrev line_by : Bool → Option Image → Result Entry ReadLineFault → Result Line ReadLineFault
-line_by snapshot image entry =
-    if snapshot then (do
-      image ← found 6 image
-      Ok (line.Snapshot image))
-    else (do
-      entry ← entry
-      Ok (line.Entry entry))
-
-line_named : (value : Data) (image : Image) → line_in value ≡ Ok (line.Snapshot image) → AreNamed image
-unfolding line_in
-line_named value image is = by (has_keys spec.snapshot_keys value) (spec.snapshot_at (codes "snapshot") value) (snapshot_named value) (entry_of value) is
-  where
-    by : (snapshot : Bool) (o : Option Image) → IfSome o AreNamed → (r : Result Entry ReadLineFault) → line_by snapshot o r ≡ Ok (line.Snapshot image) → AreNamed image
-    by true None names r is = absurd (cc)
-    by true (Some i) names r is = (let same : i ≡ image = cc in subst AreNamed same names)
-    by false o names (Ok e) is = absurd (cc)
-    by false o names (Err fault) is = absurd (cc)
-
 pub read_named : (bytes : List ℕ) (image : Image) → reading bytes ≡ Ok (line.Snapshot image) → AreNamed image
-unfolding reading
-read_named bytes image is = by (nat_le (length bytes) most_bytes) (value_of bytes) is
-  where
-    read_by : Bool → Option Data → Result Line ReadLineFault
-    read_by short value = do
-      short ← holds 1 short
-      value ← found 2 value
-      line_in value
-
-    by : (short : Bool) (value : Option Data) → read_by short value ≡ Ok (line.Snapshot image) → AreNamed image
-    by false value is = absurd (cc)
-    by true None is = absurd (cc)
-    by true (Some value) is = line_named value image is
+read_named bytes image is =
+    let parts = reading_parts bytes (line.Snapshot image) is in
+    subst (λ o. IfSome o AreNamed) parts.made (snapshot_named parts.value)

@@ -4,8 +4,10 @@ use Rattle.std.specs.Str.{is_utf8}
 use Rattle.std.proofs.lemmas.Bool.{le-leb}
 use Rattle.std.proofs.lemmas.Bool.Decides.{nat_tests}
 use Rattle.std.proofs.lemmas.Str.{IsUtf8-from_is_utf8, is_utf8-from_IsUtf8}
-use Rattle.serde_json.specs.Data.{Data}
-use Rattle.serde_json.specs.Read.{read}
+use Rattle.serde_json.specs.Data.{Data, depth}
+use Rattle.serde_json.specs.Read.{max_depth, read}
+use Rattle.serde_json.specs.Written.{compact_text}
+use Rattle.wire_json.proofs.json_values.WholeData.{Fits-text, IsWhole, read-text}
 use Rattle.wire_json.specs.Reading.{found, line_in, most_bytes, reading, value_of}
 use Rattle.wire_json.specs.code.ReadResults.{Gives}
 use Rattle.wire_json.specs.declared.line.Line.{Line}
@@ -15,7 +17,7 @@ use Rattle.wire_json.specs.declared.line.ReadLineFault.TheVariants.{Bad, Memory}
 -- ---- values
 
 -- bytes that are UTF-8 and JSON are a value
-pub value_is : (bytes : List ℕ) (d : Data) → IsUtf8 bytes → read bytes ≡ Some d → value_of bytes ≡ Some d
+value_is : (bytes : List ℕ) (d : Data) → IsUtf8 bytes → read bytes ≡ Some d → value_of bytes ≡ Some d
 value_is bytes d utf8 is = rw (is_utf8-from_IsUtf8 bytes utf8) is
 
 pub value_there : (bytes : List ℕ) (d : Data) → IsUtf8 bytes × (read bytes ≡ Some d) → found 2 (value_of bytes) ≡ Ok d
@@ -48,8 +50,9 @@ reading-value : (bytes : List ℕ) (d : Data) → length bytes ≤ most_bytes �
 unfolding reading
 reading-value bytes d short is = rw (le-leb _ _ short, is)
 
-pub reading-line : (bytes : List ℕ) (d : Data) → length bytes ≤ most_bytes → value_of bytes ≡ Some d → reading bytes ≡ line_in d
-reading-line bytes d short is = reading-value bytes d short (ap (found 2) is)
+-- the text of data says what the data says
+pub reading-text : (d : Data) → IsWhole d → depth d ≤ max_depth → length (compact_text d) ≤ most_bytes → reading (compact_text d) ≡ line_in d
+reading-text d whole shallow short = reading-value (compact_text d) d short (value_there (compact_text d) d ((Fits-text d whole).0, read-text d whole shallow))
 
 -- what is passed on of a fault, and of what a value says
 pub passed_no_value : {X : Type 0} (view : X → Data) (bytes : List ℕ) (e : ReadLineFault) (r : Result Line ReadLineFault) → length bytes ≤ most_bytes → Gives view (Err e) (found 2 (value_of bytes)) → r ≡ Err e → r ≢ Err Memory

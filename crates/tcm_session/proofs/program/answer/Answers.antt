@@ -1,23 +1,43 @@
-use Rattle.std.proofs.Common.{None, Some, map, string_bytes, refl}
+use Rattle.std.proofs.Common.{map, string_bytes, refl}
+use Rattle.tcm_session.specs.Commit.{commit_outcome, commit_to_outcome}
 use Rattle.tcm_session.specs.Gen.{gen_ending}
 use Rattle.tcm_session.specs.Outcomes.{outcome}
 use Rattle.tcm_session.specs.declared.run_fault.RunFault.TheVariants as fault
+use Rattle.tcm_session.specs.files.MemberRoute.{route_ending}
 use Rattle.tcm_session.specs.files.Replay.{replay_ending}
 use Rattle.tcm_session.specs.files.StateLine.{snapshot_ending}
 use Rattle.tcm_session.proofs.log_files.EndedRuns.{ended_at_end, ends_alone, replay_ends, runs_ended, runs_unended, snapshot_ends}
+use Rattle.tcm_session.proofs.log_files.MendRuns.{mended_at_end, runs_mended, runs_unmended}
+use Rattle.tcm_session.proofs.members.RouteRuns.{route_ends}
 use Rattle.tcm_session.proofs.runs.RunCauses.{not_source}
-use Rattle.tcm_session.proofs.runs.RunLemmas.{memory_not_source, runs_commit, runs_unloaded}
+use Rattle.tcm_session.proofs.runs.RunLemmas.{memory_not_source, runs_first, runs_unloaded}
 use Rattle.tcm_session.proofs.program.answer.Goals as goal
 
 pub returns-in-Commit-clause-runs : goal.returns-in-Commit-clause-runs
 unfolding outcome
 returns-in-Commit-clause-runs g c =
-    rw c.in-Commit.is (runs_commit _ _ _ _ _ _ _ None _ _ _ (λ o printed ended left. left.adds) (runs_unloaded _ _ _ _ _ _ _ _ _ _ c.commit.ensures.runs))
+    rw c.in-Commit.is (runs_first _ _ _ _ _ _ _ commit_outcome _ _ _ (λ o printed ended left. left.adds) (runs_unloaded _ _ _ _ _ _ _ _ _ _ c.commit.ensures.runs))
 
 pub returns-in-CommitTo-clause-runs : goal.returns-in-CommitTo-clause-runs
 unfolding outcome
 returns-in-CommitTo-clause-runs g c =
-    rw c.in-CommitTo.is (runs_commit _ _ _ _ _ _ _ (Some c.in-CommitTo.log.now) _ _ _ (λ o printed ended left. left) c.commit_to.ensures.runs)
+    rw c.in-CommitTo.is (runs_first _ _ _ _ _ _ _ (commit_to_outcome _ _) _ _ _ (λ o printed ended left. left) c.commit_to.ensures.runs)
+
+pub returns-in_err-mend-in-Mend-clause-runs : goal.returns-in_err-mend-in-Mend-clause-runs
+unfolding outcome
+returns-in_err-mend-in-Mend-clause-runs g c =
+    let failed = c.in_err-mend-in-Mend.ensures in
+    let passed = c.from_residual-in_err-mend-in-Mend in
+    rw c.in-Mend.is (runs_unmended _ _ _ _ _ _ _ _ passed.result _ (not_source _ _ _ refl refl failed.cause) passed.ensures.1 failed.stopped)
+
+pub returns-in_ok-mend-in-Mend-clause-runs : goal.returns-in_ok-mend-in-Mend-clause-runs
+unfolding outcome
+returns-in_ok-mend-in-Mend-clause-runs g c =
+    let shown = c.print-in-Mend in
+    rw c.in-Mend.is (runs_mended _ _ _ _ _ _ c.in_ok-mend-in-Mend.ensures.mends shown.result shown.ensures.status _ _ _ _ _ _ refl refl shown.ensures.writes)
+
+pub returns-in_ok-mend-in-Mend-clause-ended : goal.returns-in_ok-mend-in-Mend-clause-ended
+returns-in_ok-mend-in-Mend-clause-ended g c = (let shown = c.print-in-Mend in mended_at_end _ _ _ _ _ _ c.in_ok-mend-in-Mend.ensures.mends shown.result shown.ensures.status)
 
 pub returns-in_err-replay_files-in-Replay-clause-runs : goal.returns-in_err-replay_files-in-Replay-clause-runs
 unfolding outcome
@@ -62,3 +82,17 @@ unfolding outcome
 returns-in_ok-count_answers-in-Gen-clause-runs g c =
     let shown = c.print-in-Gen in
     rw c.in-Gen.is (runs_ended (λ _. gen_ending _ _) _ _ shown.result (ends_alone _ _ _ c.in_ok-count_answers-in-Gen.ensures) (λ seen. refl) shown.ensures.status _ _ _ _ _ _ _ refl refl refl shown.ensures.writes)
+
+pub returns-in_err-show_route-in-Cms-clause-runs : goal.returns-in_err-show_route-in-Cms-clause-runs
+unfolding outcome
+returns-in_err-show_route-in-Cms-clause-runs g c =
+    let failed = c.in_err-show_route-in-Cms.ensures in
+    let passed = c.from_residual-in_err-show_route-in-Cms in
+    rw c.in-Cms.is (runs_unended (route_ending _ c.in-Cms.from c.in-Cms.to) _ _ _ _ _ passed.result _ (not_source _ _ _ refl refl failed.cause) passed.ensures.1 failed.files)
+
+pub returns-in_ok-show_route-in-Cms-clause-runs : goal.returns-in_ok-show_route-in-Cms-clause-runs
+unfolding outcome
+returns-in_ok-show_route-in-Cms-clause-runs g c =
+    let ended = c.in_ok-show_route-in-Cms.ensures in
+    let shown = c.print-in-Cms in
+    rw c.in-Cms.is (runs_ended (route_ending _ c.in-Cms.from c.in-Cms.to) _ _ shown.result ended.ends (route_ends _ c.in-Cms.from c.in-Cms.to) shown.ensures.status _ _ _ _ _ _ _ refl refl ended.files shown.ensures.writes)

@@ -5,4 +5,4 @@ use Rattle.tcm_session.proofs.files.replay.Replay.hand_entry.Goals as goal
 
 pub returns-clause-leads : goal.returns-clause-leads
 returns-clause-leads c =
-    counted c.args.self.now _ _ (hand_entry c.args.self.now.follower c.args.entry.now) c.deliver-handed.result c.count.result refl refl c.deliver-handed.ensures.step c.count.ensures.leads c.count.ensures.memory
+    counted c.args.self.now _ _ (hand_entry c.args.self.now.follower c.args.entry.now) c.deliver-handed.result c.count.result refl refl refl c.deliver-handed.ensures.step c.count.ensures.leads c.count.ensures.memory

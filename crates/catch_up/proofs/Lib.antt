@@ -1,0 +1,3 @@
+pub mod KeptReplies
+pub mod ReplyLemmas
+pub mod ReplyRows

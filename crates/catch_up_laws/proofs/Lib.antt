@@ -1,0 +1,4 @@
+pub mod GivenLemmas
+pub mod GivenRows
+pub mod PartLemmas
+pub mod ReadySteps

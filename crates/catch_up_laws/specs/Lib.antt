@@ -1,0 +1,3 @@
+pub mod Given
+pub mod Parts
+pub mod Ready

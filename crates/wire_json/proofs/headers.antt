@@ -1,0 +1,5 @@
+-- Headers of logs: read and written.
+pub mod HeaderFloats
+pub mod HeaderNames
+pub mod HeaderRows
+pub mod HeadersReadBack
