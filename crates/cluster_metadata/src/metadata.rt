@@ -9,6 +9,9 @@ ghost use Rattle.transformations.specs.CutSteps.{SameAcross};
 ghost use Rattle.transformations.specs.History.{empty_image, is_command, most_epochs, next_image};
 ghost use Rattle.transformations.specs.ImageRules.{bad_of};
 ghost use Rattle.transformations.specs.declared.keyspace.KeyspaceRow.{KeyspaceRow as Keyspace};
+ghost use Rattle.transformations.specs.Movements.{movement_of};
+ghost use Rattle.transformations.specs.declared.sequence.Phase.TheVariants as phase;
+ghost use Rattle.transformations.specs.declared.sequence.SeqRow.{SeqRow as MovementRow};
 ghost use Rattle.transformations.specs.Meeting.{HaveReplications, MeetsAfter, QuorumsExistTogether, QuorumsMeet, ReadsAreWritten, is_unsafe_join, makes_movement_epoch};
 ghost use Rattle.transformations.specs.Refusals.{early_refusal_of, prepared_by, refusal_of};
 ghost use Rattle.transformations.specs.Rings.{cuts, writes_at};
@@ -18,6 +21,7 @@ ghost use Rattle.cluster_metadata.specs.CutDeltas.{ActsByDelta, CutsMove, Deltas
 ghost use Rattle.cluster_metadata.specs.code.MetadataParts.{DiffersInNumbers};
 ghost use Rattle.cluster_metadata.specs.ImageFaults.{IsCause};
 ghost use Rattle.sequence_plans.specs.Locks.{AreLocksOf};
+ghost use Rattle.sequence_plans.specs.PlanDeltas.{HasDeltas};
 ghost use Rattle.placement_maps.specs.Maps.{placement_rows};
 ghost use Rattle.placement_maps.specs.Served as spec;
 
@@ -30,12 +34,13 @@ use crate::changes::next_image::empty_image;
 use crate::image_fault::ImageFault;
 use crate::image_numbers::differs_in_numbers;
 use crate::metadata_parts::parts_of;
-use crate::movements::running::{Running, close_all};
+use crate::movements::running::{Running, close_all, find_running};
 use crate::permit::{Permit, first_refusal, grown_to, room_for};
-use cluster_terms::{Memory, Name, Replication, Room, Steps, Token, TryCopy};
+use cluster_terms::{Memory, Name, NodeId, Replication, Room, Steps, Token, TryCopy};
 use locked_ranges::LockTable;
 use node_directory::Directory;
 use node_sets::NodeSet;
+use placement_deltas::Plan;
 use placement_maps::{MapBook, find_map};
 use range_placements::PlacementMap;
 use std::alloc::Global;
@@ -128,6 +133,11 @@ impl Metadata {
             }),
             Err(fault) => Err((image, fault)),
         }
+    }
+
+    /// The allocator of which the metadata takes its memory.
+    pub fn allocator(&self) -> Global {
+        self.alloc
     }
 
     /// The epoch: the number of commands that have been enacted.
@@ -437,6 +447,25 @@ impl Metadata {
         ensures locks { AreLocksOf self.now self.now.sequences result.now }
     {
         &self.locks
+    }
+
+    /// The plan of the movement of a node. Returns `None` if and only if the node has no movement. The plan was made
+    /// when the movement was prepared, or anew when a keyspace was last set or dropped.
+    ///
+    /// Its row is that of the movement at `Prepared`. Its deltas are exact in the image as it is: at each token, under
+    /// each replication of the keyspaces, they are the nodes that the movement gains and loses. It has neither cuts nor
+    /// ranges: the cuts change with each movement, and `locks` has the ranges.
+    ///
+    /// Takes no memory. Cost: a comparison with each movement.
+    pub fn plan_of(&self, node: NodeId) -> Option<&Plan>
+        ensures row { option_map (λ plan. plan.now.row) result
+            ≡ option_map (λ (s : MovementRow). record s { phase = phase.Prepared }) (movement_of self.now node) }
+        ensures deltas { IfSome result (λ plan. HasDeltas self.now plan.now) }
+    {
+        match find_running(self.running.as_slice(), node) {
+            Some(movement) => Some(movement.plan()),
+            None => None,
+        }
     }
 
     /// Consumes the metadata, with the values of the movements in flight and their locks.

@@ -1,5 +1,5 @@
 -- The numbers and the tokens that words write: nodes, and tokens that may be a command's.
-use Rattle.std.proofs.Common.{◌≡◌, ◌<ℤ◌, ◌<◌, ◌^◌, ℕ, ℤ, ◌&&◌, true, List, [], ◌∷◌, filter_map, is_some, Option, Some, None, option_map, IsTrue, decimal, nat_lt, refl, sym, arith}
+use Rattle.std.proofs.Common.{◌≡◌, ◌<ℤ◌, ◌<◌, ◌≤◌, ◌^◌, if◌then◌else◌, ℕ, ℤ, Bool, ◌&&◌, true, false, List, [], ◌∷◌, filter_map, is_some, Option, Some, None, option_and_then, option_map, IsTrue, decimal, nat_le, nat_lt, refl, sym, arith}
 use Rattle.std.specs.List.{AllByRecursion, cons_option, list_all}
 use Rattle.std.specs.List.Sorted.{IsStrictlySortedBy}
 use Rattle.std.specs.Option.{IfSome}
@@ -44,6 +44,18 @@ IsNode n = n < 2 ^ 32
 
 pub of_node : (text : List ℕ) → IfSome (spec.node_of text) IsNode
 of_node text = of_number (2 ^ 32) text
+
+-- how many entries a reply may have
+pub of_max : (text : List ℕ) → IfSome (spec.max_of text) (λ n. (1 ≤ n) × (n ≤ 1024))
+of_max text = by (spec.number_below 1025 text) (of_number 1025 text)
+  where
+    ranged : (n : ℕ) (b : Bool) → nat_le 1 n ≡ b → n < 1025 → IfSome (if b then Some n else None) (λ n. (1 ≤ n) × (n ≤ 1024))
+    ranged n true low below = (grind (arith, nat_tests), omega (arith, below))
+    ranged n false low below = tt
+
+    by : (o : Option ℕ) → IfSome o (λ n. n < 1025) → IfSome (option_and_then (λ n. if nat_le 1 n then Some n else None) o) (λ n. (1 ≤ n) × (n ≤ 1024))
+    by None below = tt
+    by (Some n) below = ranged n (nat_le 1 n) refl below
 
 -- a token, and the tokens of words
 pub of_token : (text : List ℕ) → IfSome (spec.token_of text) IsToken

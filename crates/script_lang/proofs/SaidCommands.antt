@@ -1,5 +1,5 @@
 -- What holds of the command of each form holds of the commands of lines.
-use Rattle.std.proofs.Common.{◌≡◌, ℕ, ◌^◌, ◌<◌, if◌then◌else◌, ℤ, Bool, true, false, ◌&&◌, nat_le, List, [], ◌∷◌, length, Option, Some, None, option_and_then, option_map, codes, IsTrue, refl}
+use Rattle.std.proofs.Common.{◌≡◌, ℕ, ◌^◌, ◌<◌, ◌≤◌, if◌then◌else◌, ℤ, Bool, true, false, ◌&&◌, nat_le, List, [], ◌∷◌, length, Option, Some, None, option_and_then, option_map, codes, IsTrue, refl}
 use Rattle.std.specs.List.{AllByRecursion}
 use Rattle.std.specs.Option.{IfSome}
 use Rattle.std.specs.Str.{bytes_eq}
@@ -14,8 +14,8 @@ use Rattle.transformations.specs.declared.command.Command.{Command}
 use Rattle.transformations.specs.declared.command.Command.TheVariants.{Register, UnsafeJoin, Keyspace, DropKeyspace, PrepareJoin, PrepareMove, PrepareReplace}
 use Rattle.script_lang.specs.Grammar as spec
 use Rattle.script_lang.specs.declared.script_line.ScriptLine.{ScriptLine}
-use Rattle.script_lang.specs.declared.script_line.ScriptLine.TheVariants.{Commit, Follower, Deliver, Snapshot, Place, Nodes, Quorum, Local}
-use Rattle.script_lang.proofs.LineTokens.{AreNodeAndTokens, AreTokens, IsNode, of_node, of_node_and_tokens, of_number, of_token}
+use Rattle.script_lang.specs.declared.script_line.ScriptLine.TheVariants.{Commit, Follower, Deliver, Snapshot, Ask, Give, Place, Nodes, Quorum, Local}
+use Rattle.script_lang.proofs.LineTokens.{AreNodeAndTokens, AreTokens, IsNode, of_max, of_node, of_node_and_tokens, of_number, of_token}
 use Rattle.script_lang.proofs.OptionValues.{chained, each_chained, each_found, each_mapped, either, mapped, where_true}
 use Rattle.script_lang.proofs.ReplicationWords.{of_replication}
 
@@ -30,9 +30,10 @@ pub record HoldsOfForms (P : Command → Type 0) : Type 0 where
   pub prepare_replace : (node gone : ℕ) → IsNode node → IsNode gone → P (PrepareReplace node gone)
   pub of_node : (node : ℕ) → IsNode node → AllByRecursion (λ row. P (row.1 node)) spec.node_commands
 
--- what a line holds if P holds of its command: an id below 2^64, and the token of a query
+-- what a line holds if P holds of its command: an id below 2^64, the token of a query, and how many entries a reply may have
 abbrev pub HoldsOfLine : (Command → Type 0) → ScriptLine → Type 0
 HoldsOfLine P (Commit id command) = (id < 2 ^ 64) × P command
+HoldsOfLine P (Ask name max) = (1 ≤ max) × (max ≤ 1024)
 HoldsOfLine P (Quorum target keyspace token) = IsToken token
 HoldsOfLine P (Local target keyspace dc token) = IsToken token
 HoldsOfLine P said = Unit {0}
@@ -143,7 +144,7 @@ module _ (P : Command → Type 0) (of : HoldsOfForms P) where
   of_follower (name ∷ []) = where_true IsSo (is_name name) (Follower name) (λ e. tt)
   of_follower (name ∷ word ∷ words) = tt
 
-  -- a follower's name and an epoch
+  -- a follower's name and a number
   of_handed : (line : List ℕ → ℕ → ScriptLine) (holds : (name : List ℕ) (epoch : ℕ) → IsSo (line name epoch)) (name epoch : List ℕ)
       → IfSome (if is_name name then option_map (line name) (spec.number_below (2 ^ 64) epoch) else None) IsSo
   of_handed line holds name epoch = either IsSo (is_name name) _ None (each_mapped (line name) IsSo (holds name) (spec.number_below (2 ^ 64) epoch)) tt
@@ -161,6 +162,20 @@ module _ (P : Command → Type 0) (of : HoldsOfForms P) where
   of_snapshot (name ∷ []) = tt
   of_snapshot (name ∷ epoch ∷ []) = of_handed Snapshot (λ name epoch. tt) name epoch
   of_snapshot (name ∷ epoch ∷ word ∷ words) = tt
+
+  of_ask : (words : List (List ℕ)) → IfSome (spec.ask_in words) IsSo
+  unfolding spec.ask_in
+  of_ask [] = tt
+  of_ask (name ∷ []) = tt
+  of_ask (name ∷ max ∷ []) = either IsSo (is_name name) _ None (mapped (Ask name) IsSo (spec.max_of max) (of_max max)) tt
+  of_ask (name ∷ max ∷ word ∷ words) = tt
+
+  of_give : (words : List (List ℕ)) → IfSome (spec.give_in words) IsSo
+  unfolding spec.give_in
+  of_give [] = tt
+  of_give (name ∷ []) = tt
+  of_give (name ∷ number ∷ []) = of_handed Give (λ name number. tt) name number
+  of_give (name ∷ number ∷ word ∷ words) = tt
 
   of_place : (words : List (List ℕ)) → IfSome (spec.place_line words) IsSo
   unfolding spec.place_line
@@ -202,10 +217,12 @@ module _ (P : Command → Type 0) (of : HoldsOfForms P) where
       (either _ (bytes_eq word (codes "follower")) _ _ (of_follower words)
       (either _ (bytes_eq word (codes "deliver")) _ _ (of_deliver words)
       (either _ (bytes_eq word (codes "snapshot")) _ _ (of_snapshot words)
+      (either _ (bytes_eq word (codes "ask")) _ _ (of_ask words)
+      (either _ (bytes_eq word (codes "give")) _ _ (of_give words)
       (either _ (bytes_eq word (codes "place")) _ _ (of_place words)
       (either _ (bytes_eq word (codes "nodes")) _ _ (of_nodes words)
       (either _ (bytes_eq word (codes "quorum")) _ _ (of_quorum words)
-      (either _ (bytes_eq word (codes "local")) _ _ (of_local words) tt)))))))
+      (either _ (bytes_eq word (codes "local")) _ _ (of_local words) tt)))))))))
 
   pub of_line : (bytes : List ℕ) → IfSome (spec.line_of bytes) IsSo
   unfolding spec.line_of

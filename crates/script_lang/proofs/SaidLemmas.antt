@@ -8,9 +8,9 @@ use Rattle.transformations.specs.History.{is_command}
 use Rattle.transformations.specs.Meeting.{HasReplication}
 use Rattle.transformations.specs.declared.command.Command.{Command}
 use Rattle.transformations.specs.declared.command.Command.TheVariants.{Register, Keyspace}
-use Rattle.script_lang.specs.Grammar.{HasTokens, line_of, line_of_words}
+use Rattle.script_lang.specs.Grammar.{IsInRange, line_of, line_of_words}
 use Rattle.script_lang.specs.declared.script_line.ScriptLine.{ScriptLine}
-use Rattle.script_lang.specs.declared.script_line.ScriptLine.TheVariants.{Commit}
+use Rattle.script_lang.specs.declared.script_line.ScriptLine.TheVariants.{Commit, Ask}
 use Rattle.script_lang.proofs.SaidCommands.{HoldsOfForms, HoldsOfLine, of_line, of_words}
 
 -- the names of a command that a line commits are names, and a keyspace that it makes has a replication
@@ -43,7 +43,7 @@ IsSaid = HoldsOfLine IsFormed
 pub said_by : (bytes : List ℕ) → IfSome (line_of bytes) IsSaid
 said_by = of_line IsFormed formed_forms
 
--- ---- tokens
+-- ---- ranges
 
 -- a command has tokens that it may have, where it has any
 abbrev IsCommand : Command → Type 0
@@ -62,12 +62,13 @@ command_forms =
       of_node = λ node n. (refl, (refl, (refl, (refl, (refl, (refl, (refl, (refl, (refl, (refl, (refl, (refl, (refl, (refl, (refl, tt)))))))))))))));
     }
 
-tokens_in : (line : ScriptLine) → HoldsOfLine IsCommand line → HasTokens line
-tokens_in (Commit id c) h = h.1
-tokens_in _ h = tt
+ranges_in : (line : ScriptLine) → HoldsOfLine IsCommand line → IsInRange line
+ranges_in (Commit id c) h = h.1
+ranges_in (Ask name max) h = h
+ranges_in _ h = tt
 
-pub of_words_tokens : (words : List (List ℕ)) → IfSome (line_of_words words) HasTokens
-of_words_tokens words = IfSome_then (line_of_words words) {P = HoldsOfLine IsCommand} {Q = HasTokens} (of_words IsCommand command_forms words) tokens_in
+pub of_words_in_range : (words : List (List ℕ)) → IfSome (line_of_words words) IsInRange
+of_words_in_range words = IfSome_then (line_of_words words) {P = HoldsOfLine IsCommand} {Q = IsInRange} (of_words IsCommand command_forms words) ranges_in
 
-pub tokens_by : (bytes : List ℕ) → IfSome (line_of bytes) HasTokens
-tokens_by bytes = IfSome_then (line_of bytes) {P = HoldsOfLine IsCommand} {Q = HasTokens} (of_line IsCommand command_forms bytes) tokens_in
+pub in_range_by : (bytes : List ℕ) → IfSome (line_of bytes) IsInRange
+in_range_by bytes = IfSome_then (line_of bytes) {P = HoldsOfLine IsCommand} {Q = IsInRange} (of_line IsCommand command_forms bytes) ranges_in

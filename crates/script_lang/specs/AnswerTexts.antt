@@ -123,6 +123,11 @@ no_text reason = line (codes "NO " ++ reason)
 abbrev pub epoch_text : List ℕ → ℕ → List ℕ
 epoch_text word epoch = line (word ++ codes " " ++ decimal epoch)
 
+-- the answer to a follower that asks for a reply: the reply's number, what it starts from, and how many entries it has
+abbrev pub reply_text : ℕ → List ℕ → ℕ → ℕ → List ℕ
+reply_text number word epoch count =
+    line (codes "REPLY " ++ decimal number ++ codes " " ++ word ++ codes " " ++ decimal epoch ++ codes " entries " ++ decimal count)
+
 -- a row with its read replicas and its write replicas
 unfoldable pub placed_text : TokenRange → List ℕ → List ℕ → List ℕ
 placed_text row reads writes =

@@ -1,5 +1,5 @@
 -- The grammar of script lines.
-use Rattle.std.specs.Prelude.{ℕ, ◌+◌, ◌^◌, Bool, ◌&&◌, if◌then◌else◌, ℤ, pos, neg_ℤ, List, [], ◌∷◌, length, filter_map, Option, Some, None, is_some, option_map, option_and_then, nat_lt, nat_le, ◌==◌, codes, decimal, IsTrue}
+use Rattle.std.specs.Prelude.{ℕ, ◌+◌, ◌^◌, ◌≤◌, Bool, ◌&&◌, if◌then◌else◌, ℤ, pos, neg_ℤ, List, [], ◌∷◌, length, filter_map, Option, Some, None, is_some, option_map, option_and_then, nat_lt, nat_le, ◌==◌, codes, decimal, IsTrue}
 use Rattle.std.specs.List.{list_all, find}
 use Rattle.std.specs.Ordering.{int_cmp, int_eq}
 use Rattle.std.specs.Set.{distinct_count}
@@ -14,7 +14,7 @@ use Rattle.transformations.specs.declared.sequence.Goal.TheVariants.{Start, Mid,
 use Rattle.transformations.specs.declared.sequence.Kind.TheVariants.{Join, Move, Leave, Replace}
 use Rattle.transformations.specs.History.{is_command}
 use Rattle.script_lang.specs.declared.script_line.ScriptLine.{ScriptLine}
-use Rattle.script_lang.specs.declared.script_line.ScriptLine.TheVariants.{Commit, Follower, Deliver, Snapshot, Place, Nodes, Quorum, Local}
+use Rattle.script_lang.specs.declared.script_line.ScriptLine.TheVariants.{Commit, Follower, Deliver, Snapshot, Ask, Give, Place, Nodes, Quorum, Local}
 use Rattle.script_lang.specs.declared.script_line.Target.{Target}
 use Rattle.script_lang.specs.declared.script_line.Target.TheVariants.{Epoch, Named}
 
@@ -143,6 +143,20 @@ unfoldable pub snapshot_in : List (List ℕ) → Option ScriptLine
 snapshot_in (name ∷ epoch ∷ []) = if is_name name then option_map (Snapshot name) (number_below (2 ^ 64) epoch) else None
 snapshot_in _ = None
 
+-- MAX: how many entries a reply may have at most, a number from 1 to 1,024
+abbrev pub max_of : List ℕ → Option ℕ
+max_of text = option_and_then (λ n. if nat_le 1 n then Some n else None) (number_below 1025 text)
+
+-- F MAX
+unfoldable pub ask_in : List (List ℕ) → Option ScriptLine
+ask_in (name ∷ max ∷ []) = if is_name name then option_map (Ask name) (max_of max) else None
+ask_in _ = None
+
+-- F I
+unfoldable pub give_in : List (List ℕ) → Option ScriptLine
+give_in (name ∷ number ∷ []) = if is_name name then option_map (Give name) (number_below (2 ^ 64) number) else None
+give_in _ = None
+
 -- a target: @ and an epoch, or the name of a follower
 unfoldable pub target_of : List ℕ → Option Target
 target_of [] = None
@@ -180,6 +194,8 @@ line_of_words (word ∷ words) =
     else if bytes_eq word (codes "follower") then follower_in words
     else if bytes_eq word (codes "deliver") then deliver_in words
     else if bytes_eq word (codes "snapshot") then snapshot_in words
+    else if bytes_eq word (codes "ask") then ask_in words
+    else if bytes_eq word (codes "give") then give_in words
     else if bytes_eq word (codes "place") then place_line words
     else if bytes_eq word (codes "nodes") then nodes_line words
     else if bytes_eq word (codes "quorum") then quorum_line words
@@ -190,7 +206,9 @@ line_of_words (word ∷ words) =
 unfoldable pub line_of : List ℕ → Option ScriptLine
 line_of bytes = if nat_le (length bytes) 16384 then line_of_words (words_of bytes) else None
 
--- if a line commits a command that lists tokens, they are 1 to 256 and ascend
-abbrev pub HasTokens : ScriptLine → Type 0
-HasTokens (Commit id command) = IsTrue (is_command command)
-HasTokens _ = Unit {0}
+-- if a line commits a command that lists tokens, they are 1 to 256 and ascend; if it asks for a reply, this may have 1 to
+-- 1,024 entries
+abbrev pub IsInRange : ScriptLine → Type 0
+IsInRange (Commit id command) = IsTrue (is_command command)
+IsInRange (Ask name max) = (1 ≤ max) × (max ≤ 1024)
+IsInRange _ = Unit {0}

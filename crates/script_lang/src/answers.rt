@@ -56,3 +56,51 @@ pub fn epoch_text(word: &[u8], epoch: u64, out: &mut ByteText) -> Result<(), Mem
     labelled(b" ", &epoch, out)?;
     out.extend(b"\n")
 }
+
+/// Adds `REPLY number word epoch`.
+fn start_text(number: u64, word: &[u8], epoch: u64, out: &mut ByteText) -> Result<(), Memory>
+    ensures added { OnOk result (out.new
+        ≡ out.old ++ (codes "REPLY " ++ decimal number ++ codes " " ++ word.now ++ codes " " ++ decimal epoch)) }
+    ensures kept { take (length out.old) out.new ≡ out.old }
+{
+    labelled(b"REPLY ", &number, out)?;
+    out.extend(b" ")?;
+    out.extend(word)?;
+    labelled(b" ", &epoch, out)
+}
+
+/// Adds ` entries count`, and ends the line.
+fn count_text(count: u64, out: &mut ByteText) -> Result<(), Memory>
+    ensures added { OnOk result (out.new ≡ out.old ++ spec.line (codes " entries " ++ decimal count)) }
+    ensures kept { take (length out.old) out.new ≡ out.old }
+{
+    labelled(b" entries ", &count, out)?;
+    out.extend(b"\n")
+}
+
+/// Adds `REPLY number word epoch entries count`, the answer to a follower that asks for a reply. The word tells what
+/// the reply starts from: `image`, the image of the epoch, or `since`, the epoch asked from. Fails only if memory runs
+/// out.
+pub fn reply_text(
+    number: u64,
+    word: &[u8],
+    epoch: u64,
+    count: u64,
+    out: &mut ByteText,
+) -> Result<(), Memory>
+    ensures added { OnOk result (out.new ≡ out.old ++ spec.reply_text number word.now epoch count) }
+    ensures kept { take (length out.old) out.new ≡ out.old }
+{
+    start_text(number, word, epoch, out)?;
+    count_text(count, out)
+}
+
+/// Adds `NO REPLY last`, the answer to a line that gives a reply whose number isn't that of any reply; `last` is the
+/// number of the last reply, or 0. Fails only if memory runs out.
+pub fn no_reply_text(last: u64, out: &mut ByteText) -> Result<(), Memory>
+    ensures added { OnOk result (out.new ≡ out.old ++ spec.no_text (codes "REPLY " ++ decimal last)) }
+    ensures kept { take (length out.old) out.new ≡ out.old }
+{
+    labelled(b"NO REPLY ", &last, out)?;
+    out.extend(b"\n")
+}

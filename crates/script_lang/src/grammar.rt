@@ -4,7 +4,7 @@ ghost use Rattle.std.specs.Prelude.{◌≡◌, ◌<◌, length, map, IfOk, IfSom
 ghost use Rattle.script_lang.specs.Grammar as spec;
 
 use crate::command_words::command_of;
-use crate::number::number_of;
+use crate::number::{max_of, number_of};
 use crate::script_line::{ScriptLine, Target};
 use crate::token_words::token_of;
 use crate::words::{USUAL_WORDS, is_word, put_words, words_of};
@@ -15,7 +15,8 @@ use std::alloc::Global;
 const LINE_LIMIT: usize = 16_384;
 
 /// Reads a line of a script; `bytes` is the line without its line feed. Returns `None` if and only if the line isn't in
-/// the grammar or has more than 16,384 bytes. A command that lists tokens has 1 to 256 of them, in ascending order.
+/// the grammar or has more than 16,384 bytes. A command that lists tokens has 1 to 256 of them, in ascending order, and
+/// a reply is asked to have at most 1 to 1,024 entries.
 ///
 /// Fails only if memory runs out. A line that is too long takes no memory. The cost is a few passes over the bytes, and
 /// a sort of the tokens of a command.
@@ -23,7 +24,7 @@ const LINE_LIMIT: usize = 16_384;
 #[inline(always)]
 pub fn parse_line(alloc: Global, bytes: &[u8]) -> Result<Option<ScriptLine>, Memory>
     ensures meaning { IfOk result (λ found. found ≡ spec.line_of bytes.now) }
-    ensures tokens { IfOk result (λ found. IfSome found spec.HasTokens) }
+    ensures ranges { IfOk result (λ found. IfSome found spec.IsInRange) }
     ensures long { 16384 < length bytes.now → IsOk result }
 {
     if bytes.len() > LINE_LIMIT {
@@ -48,6 +49,8 @@ fn line_of_words(alloc: Global, words: &[&[u8]]) -> Result<Option<ScriptLine>, M
         [word, words @ ..] if is_word(word, b"follower") => follower_line(alloc, words),
         [word, words @ ..] if is_word(word, b"deliver") => deliver_line(alloc, words),
         [word, words @ ..] if is_word(word, b"snapshot") => snapshot_line(alloc, words),
+        [word, words @ ..] if is_word(word, b"ask") => ask_line(alloc, words),
+        [word, words @ ..] if is_word(word, b"give") => give_line(alloc, words),
         [word, words @ ..] if is_word(word, b"place") => place_line(alloc, words),
         [word, words @ ..] if is_word(word, b"nodes") => nodes_line(alloc, words),
         [word, words @ ..] if is_word(word, b"quorum") => quorum_line(alloc, words),
@@ -117,6 +120,36 @@ fn snapshot_line(alloc: Global, words: &[&[u8]]) -> Result<Option<ScriptLine>, M
     };
     let name = Name::from_bytes(alloc, name)?;
     Ok(name.map(|name| ScriptLine::Snapshot(name, epoch)))
+}
+
+/// The line `ask F MAX`, from the words after the first. Returns `None` for other words.
+#[tactic(auto, unfolding(crate::specs::Grammar::ask_in))]
+fn ask_line(alloc: Global, words: &[&[u8]]) -> Result<Option<ScriptLine>, Memory>
+    ensures { IfOk result (λ found. found ≡ spec.ask_in (map (λ word. word.now) words.now)) }
+{
+    let [name, max] = words else {
+        return Ok(None);
+    };
+    let Some(max) = max_of(max) else {
+        return Ok(None);
+    };
+    let name = Name::from_bytes(alloc, name)?;
+    Ok(name.map(|name| ScriptLine::Ask(name, max)))
+}
+
+/// The line `give F I`, from the words after the first. Returns `None` for other words.
+#[tactic(auto, unfolding(crate::specs::Grammar::give_in))]
+fn give_line(alloc: Global, words: &[&[u8]]) -> Result<Option<ScriptLine>, Memory>
+    ensures { IfOk result (λ found. found ≡ spec.give_in (map (λ word. word.now) words.now)) }
+{
+    let [name, number] = words else {
+        return Ok(None);
+    };
+    let Some(number) = number_of(number) else {
+        return Ok(None);
+    };
+    let name = Name::from_bytes(alloc, name)?;
+    Ok(name.map(|name| ScriptLine::Give(name, number)))
 }
 
 /// The line `place TARGET KS`, from the words after the first. Returns `None` for other words.

@@ -15,10 +15,13 @@ mod shown;
 mod token_words;
 mod words;
 
-pub use answers::{epoch_text, no_epoch_text, no_text, ok_text, refused_text};
+pub use answer_lists::list_text;
+pub use answers::{
+    epoch_text, no_epoch_text, no_reply_text, no_text, ok_text, refused_text, reply_text,
+};
 pub use grammar::parse_line;
 pub use node_lines::nodes_text;
-pub use number::{number_of, one_spelling};
+pub use number::{node_of, number_of, one_spelling};
 pub use placements::place_text;
 pub use quorum_lines::sets_text;
 pub use refusal_texts::refusal_text;

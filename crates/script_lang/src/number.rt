@@ -9,6 +9,9 @@ ghost use Rattle.script_lang.specs.Grammar as spec;
 
 use cluster_terms::NodeId;
 
+/// The most entries that a reply may be asked to have.
+const MOST_ENTRIES: u64 = 1_024;
+
 /// The number below 2^64 that a text writes in decimal digits. Returns `None` if and only if the text is anything else;
 /// a sign or a leading zero is refused.
 pub fn number_of(text: &[u8]) -> Option<u64>
@@ -49,6 +52,19 @@ fn with_digit(number: u64, byte: u8) -> Option<u64>
         return None;
     }
     number.checked_mul(10)?.checked_add(u64::from(byte - b'0'))
+}
+
+/// The number of entries that a text writes, at most those of a reply: 1 to 1,024. Returns `None` if and only if the
+/// text is anything else.
+#[tactic(auto, using(crate::proofs::Numerals::number_below_is))]
+pub fn max_of(text: &[u8]) -> Option<u64>
+    ensures { result ≡ spec.max_of text.now }
+{
+    let max = number_of(text)?;
+    if max == 0 || max > MOST_ENTRIES {
+        return None;
+    }
+    Some(max)
 }
 
 /// The node whose id a text writes: a number below 2^32.

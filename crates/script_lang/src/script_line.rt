@@ -21,6 +21,10 @@ pub enum ScriptLine {
     Deliver(Name, u64),
     /// `snapshot F E`
     Snapshot(Name, u64),
+    /// `ask F MAX`
+    Ask(Name, u64),
+    /// `give F I`
+    Give(Name, u64),
     /// `place TARGET KS`
     Place(Target, Name),
     /// `nodes TARGET`

@@ -129,6 +129,10 @@ with_itself (g ∷ fs) name f e = by (named name g) refl e (with_itself fs name 
 pub named_follows : (log : List Entry) (fs : List NamedFollower) (name : List ℕ) (f : NamedFollower) → AllFollow log fs → follower_named fs name ≡ Some f → FollowsLog log f.follower
 named_follows log fs name f all found = all_found (λ (f : NamedFollower). FollowsLog log f.follower) (named name) fs f found all
 
+-- it isn't past the log
+pub named_within : (log : List Entry) (fs : List NamedFollower) (name : List ℕ) (f : NamedFollower) (epoch : ℕ) → AllFollow log fs → follower_named fs name ≡ Some f → epoch ≡ f.follower.image.epoch → epoch ≤ length log
+named_within log fs name f epoch all found is = omega (arith, is, (named_follows log fs name f all found).stands.within)
+
 pub all_follow_with : (log : List Entry) (fs : List NamedFollower) (name : List ℕ) (x : FollowerState) → AllFollow log fs → FollowsLog log x → AllFollow log (with_follower fs name x)
 all_follow_with log [] name x all follows = tt
 all_follow_with log (f ∷ fs) name x all follows = by (named name f) (all_follow_with log fs name x all.1 follows)

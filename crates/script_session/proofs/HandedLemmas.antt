@@ -1,5 +1,5 @@
 -- The ends of a step that hands something to a follower, or makes one.
-use Rattle.std.proofs.Common.{◌≡◌, ℕ, ◌+◌, ◌-◌, ◌<◌, ◌≤◌, Bool, true, false, ◌||◌, ◌==◌, if◌then◌else◌, List, [], ◌∷◌, ◌++◌, get_or, set, position, length, Option, None, Some, is_some, Result, Ok, Err, IsErrAnd, IsOk, nat_eq, nat_le, codes, decimal, true≢false, refl, sym, ap, ◌∙◌, subst, append-nil, arith}
+use Rattle.std.proofs.Common.{◌≡◌, ℕ, ◌+◌, ◌-◌, ◌<◌, ◌≤◌, Bool, true, false, ◌||◌, ◌==◌, if◌then◌else◌, List, [], ◌∷◌, ◌++◌, get_or, set, position, length, Option, None, Some, is_some, Result, Ok, Err, IsErrAnd, IsOk, OnOk, nat_eq, nat_le, codes, decimal, true≢false, refl, sym, ap, ◌∙◌, subst, append-nil, arith}
 use Rattle.std.specs.List.{Contains, slice_get}
 use Rattle.std.specs.Option.{IfSome}
 use Rattle.std.specs.Set.{is_member}
@@ -13,6 +13,9 @@ use Rattle.transformations.specs.History.{is_command, state_after}
 use Rattle.transformations.specs.Log.{IsLog, are_numbered, commands_of, have_own_ids}
 use Rattle.transformations.specs.declared.entry.Entry.{Entry}
 use Rattle.transformations.specs.declared.image.Image.{Image}
+use Rattle.catch_up.specs.declared.message.Reply.{Reply as CatchUpReply}
+use Rattle.catch_up_laws.proofs.GivenLemmas.{reply_rises}
+use Rattle.catch_up_laws.specs.Given.{given_reply}
 use Rattle.epoch_log.specs.Epochs.{entry_at}
 use Rattle.snapshot_store.proofs.EntryStates.{is_next}
 use Rattle.follower_log.specs.Follower.{Performs, FollowerState, Handed, hand_entry, hand_image}
@@ -27,8 +30,8 @@ use Rattle.follower_log.proofs.ShowsLemmas.{empty_stands}
 use Rattle.script_lang.specs.Grammar.{line_of}
 use Rattle.script_lang.specs.AnswerTexts.{epoch_text, no_text}
 use Rattle.script_lang.specs.declared.script_line.ScriptLine.{ScriptLine}
-use Rattle.script_lang.specs.declared.script_line.ScriptLine.TheVariants.{Commit, Follower, Deliver, Snapshot, Place, Nodes, Quorum, Local}
-use Rattle.script_session.specs.Machine.{Reply, SessionState, deliver_to, follower_named, follower_reply, follower_unless_full, handed_reply, handed_text, image_at, made_reply, most_followers, new_follower, no_epoch, on_follower, only_answers, reply, reply_of, reply_to, snapshot_to, with_follower}
+use Rattle.script_lang.specs.declared.script_line.ScriptLine.TheVariants.{Commit, Follower, Deliver, Snapshot, Ask, Give, Place, Nodes, Quorum, Local}
+use Rattle.script_session.specs.Machine.{Reply, SessionState, deliver_to, give_to, follower_named, follower_reply, follower_unless_full, handed_reply, handed_text, image_at, made_reply, most_followers, moved_reply, new_follower, no_epoch, on_follower, only_answers, reply, reply_numbered, reply_of, reply_to, snapshot_to, with_follower}
 use Rattle.script_session.specs.StepEnds.{FollowsLog, ForgetsNothing, IsOnTheWay, StandsOn, Stops, StopsAny, handed_by}
 use Rattle.script_session.specs.code.StepParts.{AllFollow, Alone, AnswersHanded, IsOfOneLog, OnlyAnswers}
 use Rattle.script_session.specs.declared.fault.StepFault.{StepFault}
@@ -41,7 +44,7 @@ use Rattle.script_session.proofs.TakenLemmas.{entry_there, epoch_at}
 -- ---- what was taken before
 
 -- a follower that stays forgets nothing
-forgets_nothing : (log : List Entry) (f : FollowerState) → ForgetsNothing log f f
+pub forgets_nothing : (log : List Entry) (f : FollowerState) → ForgetsNothing log f f
 forgets_nothing log f = λ taken stands. record { more = taken; entries = λ e is. is; images = λ e is. is; stands = stands }
 
 -- with one entry or one image more, the others are still taken
@@ -53,16 +56,16 @@ or_twice : (a b c : Bool) → (a || c) ≡ true → (a || (b || c)) ≡ true
 or_twice true b c is = refl
 or_twice false b c is = or_right b c is
 
-on_with_entry : (log : List Entry) (taken : Taken) (epoch : ℕ) (f : FollowerState) → StandsFor log (with_entry taken epoch) f → StandsOn log taken f
+pub on_with_entry : (log : List Entry) (taken : Taken) (epoch : ℕ) (f : FollowerState) → StandsFor log (with_entry taken epoch) f → StandsOn log taken f
 on_with_entry log taken epoch f stands =
     record { more = with_entry taken epoch; entries = λ e is. or_right (nat_eq e epoch) (has_entry taken e) is; images = λ e is. is; stands = stands }
 
-on_with_image : (log : List Entry) (taken : Taken) (epoch : ℕ) (f : FollowerState) → StandsFor log (with_image taken epoch) f → StandsOn log taken f
+pub on_with_image : (log : List Entry) (taken : Taken) (epoch : ℕ) (f : FollowerState) → StandsFor log (with_image taken epoch) f → StandsOn log taken f
 on_with_image log taken epoch f stands =
     record { more = with_image taken epoch; entries = λ e is. is; images = λ e is. or_twice (nat_eq e 0) (nat_eq e epoch) (is_member nat_eq taken.images e) is; stands = stands }
 
 -- after what a call leaves nothing is forgotten
-kept_shown : (log : List Entry) (taken after : Taken) (handed : Result Took FollowerFault) (at : FollowerState) → (StandsFor log after at → StandsOn log taken at) → StandsAfter log taken after handed at → StandsOn log taken at
+pub kept_shown : (log : List Entry) (taken after : Taken) (handed : Result Took FollowerFault) (at : FollowerState) → (StandsFor log after at → StandsOn log taken at) → StandsAfter log taken after handed at → StandsOn log taken at
 kept_shown log taken after (Ok (At e)) at on shows = on shows.0
 kept_shown log taken after (Ok (Old e)) at on shows = on shows
 kept_shown log taken after (Ok (Held e)) at on shows = on shows
@@ -82,15 +85,15 @@ stops_here session name f all found =
     let again : follower_named session.followers f.name ≡ Some f = ap (follower_named session.followers) called ∙ found in
     record {
       at = f.follower;
-      is = ap (λ fs. record { log = session.log; followers = fs }) (sym (with_itself session.followers f.name f again));
+      is = ap (λ fs. record session { followers = fs }) (sym (with_itself session.followers f.name f again));
       between = subst (λ o. IfSome o (λ (g : NamedFollower). IsOnTheWay session.log f.follower g.follower f.follower)) (sym again)
           (record { from = omega arith; to = omega arith; follows = named_follows session.log session.followers name f all found; keeps = forgets_nothing session.log f.follower });
     }
 
-only_alone : {T : Type 0} (session : SessionState) (handed : Option NamedFollower) (text out out' : List ℕ) (r : Result T StepFault) → StopsAny handed session session.followers session
+pub only_alone : {T : Type 0} (session : SessionState) (handed : Option NamedFollower) (text out out' : List ℕ) (r : Result T StepFault) → StopsAny handed session session.followers session
     → OnlyAnswers text out out' r → Alone handed (only_answers session text) session session out out' r
 only_alone session handed text out out' (Ok x) stops only =
-    record { added = refl; text = only.answered; kept = only.kept; next = replied_nothing session (only_answers session text) refl refl; left = tt; memory = tt }
+    record { added = refl; text = only.answered; kept = only.kept; next = replied_nothing session (only_answers session text) refl refl refl; left = tt; memory = tt }
 only_alone session handed text out out' (Err e) stops only =
     record { added = refl; text = tt; kept = only.kept; next = tt; left = stops; memory = only.memory }
 
@@ -103,7 +106,7 @@ alone_found session session' name out out' r reply f found alone = subst (λ o. 
 -- ---- something is handed over
 
 -- the follower after it follows the log
-follows_shown : (log : List Entry) (before after : Taken) (handed : Result Took FollowerFault) (at : FollowerState) → StandsAfter log before after handed at → FollowsLog log at
+pub follows_shown : (log : List Entry) (before after : Taken) (handed : Result Took FollowerFault) (at : FollowerState) → StandsAfter log before after handed at → FollowsLog log at
 follows_shown log before after (Ok (At e)) at shows = record { taken = after; stands = shows.0 }
 follows_shown log before after (Ok (Old e)) at shows = record { taken = after; stands = shows }
 follows_shown log before after (Ok (Held e)) at shows = record { taken = after; stands = shows }
@@ -114,7 +117,7 @@ follows_shown log before after (Err (Fork e held came)) at shows = absurd shows
 follows_shown log before after (Err (Refused e r)) at shows = absurd shows
 follows_shown log before after (Err (BadImage bad)) at shows = absurd shows
 
-one_log_shown : (log : List Entry) (before after : Taken) (handed : Result Took FollowerFault) (at : FollowerState) → StandsAfter log before after handed at → IsOfOneLog handed
+pub one_log_shown : (log : List Entry) (before after : Taken) (handed : Result Took FollowerFault) (at : FollowerState) → StandsAfter log before after handed at → IsOfOneLog handed
 one_log_shown log before after (Ok took) at shows = tt
 one_log_shown log before after (Err (MemoryAt e)) at shows = tt
 one_log_shown log before after (Err Memory) at shows = tt
@@ -123,7 +126,7 @@ one_log_shown log before after (Err (Refused e r)) at shows = absurd shows
 one_log_shown log before after (Err (BadImage bad)) at shows = absurd shows
 
 -- where it stops if memory runs out
-is_between : (log : List Entry) (f at : FollowerState) (step : Handed) (handed : Result Took FollowerFault) → CutsFrom f.image.epoch step → FollowsLog log at → ForgetsNothing log f at → Performs f step handed at → IsOnTheWay log f step.after at
+pub is_between : (log : List Entry) (f at : FollowerState) (step : Handed) (handed : Result Took FollowerFault) → CutsFrom f.image.epoch step → FollowsLog log at → ForgetsNothing log f at → Performs f step handed at → IsOnTheWay log f step.after at
 is_between log f at step handed cuts follows keeps comes = by handed comes
   where
     there : at ≡ step.after → IsOnTheWay log f step.after at
@@ -146,37 +149,52 @@ took_so : (f at : FollowerState) (step : Handed) (handed : Result Took FollowerF
 took_so f at step (Ok took) ok comes = record { answer = comes.0; after = comes.1 }
 took_so f at step (Err e) ok comes = absurd (true≢false (sym ok))
 
+-- a follower comes to where a line leads it, or stops on the way
+alone_way : {T : Type 0} (session session' : SessionState) (name : List ℕ) (f : NamedFollower) (at due : FollowerState) (text out out' : List ℕ) (r : Result T StepFault)
+    → follower_named session.followers name ≡ Some f → session' ≡ record session { followers = with_follower session.followers name at }
+    → IsOnTheWay session.log f.follower due at → OnOk r (at ≡ due) → OnlyAnswers text out out' r → Alone (Some f) (moved_reply session name text due) session session' out out' r
+alone_way session session' name f at due text out out' (Ok x) found is way comes only =
+    let log : session.log ≡ session.log ++ [] = sym (append-nil session.log) in
+    record {
+      added = refl;
+      text = only.answered;
+      kept = only.kept;
+      next = is ∙ (λ i. record { log = log i; followers = with_follower session.followers name (comes i); replies = session.replies });
+      left = tt;
+      memory = tt;
+    }
+alone_way session session' name f at due text out out' (Err e) found is way comes only =
+    let called : f.name ≡ name = named_name session.followers name f found in
+    let after : follower_named (with_follower session.followers name due) f.name ≡ Some (record f { follower = due }) =
+    ap (follower_named (with_follower session.followers name due)) called ∙ with_named session.followers name f due found in
+    record {
+      added = refl;
+      text = tt;
+      kept = only.kept;
+      next = tt;
+      left = record {
+        at = at;
+        is = is ∙ ap (λ n. record session { followers = with_follower session.followers n at }) (sym called);
+        between = subst (λ o. IfSome o (λ (g : NamedFollower). IsOnTheWay session.log f.follower g.follower at)) (sym after) way;
+      };
+      memory = only.memory;
+    }
+
 alone_handed : {T : Type 0} (session session' : SessionState) (name : List ℕ) (f : NamedFollower) (at : FollowerState) (step : Handed) (handed : Result Took FollowerFault) (out out' : List ℕ) (r : Result T StepFault)
     → follower_named session.followers name ≡ Some f → session' ≡ record session { followers = with_follower session.followers name at }
     → CutsFrom f.follower.image.epoch step → FollowsLog session.log at → ForgetsNothing session.log f.follower at → Performs f.follower step handed at → AnswersHanded handed out out' r
     → Alone (Some f) (handed_reply session name step) session session' out out' r
-alone_handed session session' name f at step handed out out' (Ok x) found is cuts follows keeps comes answers =
-    let so = took_so f.follower at step handed answers.took comes in
-    let log : session.log ≡ session.log ++ [] = sym (append-nil session.log) in
-    record {
-      added = refl;
-      text = answers.text ∙ ap (λ a. out ++ handed_text a) so.answer;
-      kept = answers.kept;
-      next = is ∙ (λ i. record { log = log i; followers = with_follower session.followers name (so.after i) });
-      left = tt;
-      memory = tt;
-    }
-alone_handed session session' name f at step handed out out' (Err e) found is cuts follows keeps comes answers =
-    let called : f.name ≡ name = named_name session.followers name f found in
-    let after : follower_named (with_follower session.followers name step.after) f.name ≡ Some (record f { follower = step.after }) =
-    ap (follower_named (with_follower session.followers name step.after)) called ∙ with_named session.followers name f step.after found in
-    record {
-      added = refl;
-      text = tt;
-      kept = answers.kept;
-      next = tt;
-      left = record {
-        at = at;
-        is = is ∙ ap (λ n. record { log = session.log; followers = with_follower session.followers n at }) (sym called);
-        between = subst (λ o. IfSome o (λ (g : NamedFollower). IsOnTheWay session.log f.follower g.follower at)) (sym after) (is_between session.log f.follower at step handed cuts follows keeps comes);
-      };
-      memory = answers.memory;
-    }
+alone_handed session session' name f at step handed out out' r found is cuts follows keeps comes answers =
+    alone_way session session' name f at step.after (handed_text step.answer) out out' r found is (is_between session.log f.follower at step handed cuts follows keeps comes) (came r answers) (only r answers)
+  where
+    came : {T : Type 0} (r : Result T StepFault) → AnswersHanded handed out out' r → OnOk r (at ≡ step.after)
+    came (Ok x) answers = (took_so f.follower at step handed answers.took comes).after
+    came (Err e) answers = tt
+
+    only : {T : Type 0} (r : Result T StepFault) → AnswersHanded handed out out' r → OnlyAnswers (handed_text step.answer) out out' r
+    only (Ok x) answers =
+        record { answered = answers.text ∙ ap (λ a. out ++ handed_text a) (took_so f.follower at step handed answers.took comes).answer; kept = answers.kept; memory = tt }
+    only (Err e) answers = record { answered = tt; kept = answers.kept; memory = answers.memory }
 
 -- ---- the follower at a place
 
@@ -248,16 +266,34 @@ module _ {T : Type 0} (reply : SessionState → FollowerState → Reply) (sessio
       unmoved (subst (λ o. Alone o (reply_of session o (reply session)) session session out out' r) (sym (unplaced name session.followers (sym (at ∙ ap (position (named name)) same))))
       (only_alone session None (no_text (codes "FOLLOWER")) out out' r refl only))
 
+  -- a follower has the name, and the line is refused
+  pub alone_refused : (place : ℕ) (fs : List NamedFollower) (text : List ℕ) → AllFollow session.log session.followers → fs ≡ session.followers → Some place ≡ position (named name) fs
+      → ((f : FollowerState) → reply session f ≡ only_answers session text) → OnlyAnswers text out out' r
+      → Alone (follower_named seen.followers name) (on_follower seen name (reply seen)) seen seen out out' r
+  alone_refused place fs text all same at refused only =
+      let it = follower_at session name place fs all same at in
+      unmoved (alone_found session session name out out' r (reply session) it.0 it.1.found
+      (subst (λ a. Alone (Some it.0) a session session out out' r) (sym (refused it.0.follower))
+      (only_alone session (Some it.0) text out out' r (stops_here session name it.0 all it.1.found) only)))
+
   -- the epoch hasn't come
   pub alone_past : (place last : ℕ) (fs : List NamedFollower) → AllFollow session.log session.followers → fs ≡ session.followers → Some place ≡ position (named name) fs → last ≡ length session.log
       → ((f : FollowerState) → reply session f ≡ only_answers session (no_text (no_epoch (commands_of session.log)))) → OnlyAnswers (no_text (codes "EPOCH " ++ decimal last)) out out' r
       → Alone (follower_named seen.followers name) (on_follower seen name (reply seen)) seen seen out out' r
   alone_past place last fs all same at is past only =
-      let it = follower_at session name place fs all same at in
       let text : no_text (codes "EPOCH " ++ decimal last) ≡ no_text (no_epoch (commands_of session.log)) = ap (λ (n : ℕ). no_text (codes "EPOCH " ++ decimal n)) (is ∙ sym (length-commands_of session.log)) in
-      unmoved (alone_found session session name out out' r (reply session) it.0 it.1.found
-      (subst (λ a. Alone (Some it.0) a session session out out' r) (sym (past it.0.follower))
-      (only_alone session (Some it.0) (no_text (no_epoch (commands_of session.log))) out out' r (stops_here session name it.0 all it.1.found) (subst (λ t. OnlyAnswers t out out' r) text only))))
+      alone_refused place fs (no_text (no_epoch (commands_of session.log))) all same at past (subst (λ t. OnlyAnswers t out out' r) text only)
+
+  -- the follower is led on, and the line is answered
+  pub alone_led : (place : ℕ) (f : NamedFollower) (x due : FollowerState) (text : List ℕ) → HasFollower session name place f → reply session f.follower ≡ moved_reply session name text due → IsOnTheWay session.log f.follower due x
+      → OnOk r (x ≡ due) → OnlyAnswers text out out' r
+      → Alone (follower_named seen.followers name) (on_follower seen name (reply seen)) seen (record session { followers = set session.followers place (record f { follower = x }) }) out out' r
+  alone_led place f x due text has is way comes only =
+      let after : SessionState = record session { followers = set session.followers place (record f { follower = x }) } in
+      subst (λ s. Alone (follower_named s.followers name) (on_follower s name (reply s)) s after out out' r) view
+      (alone_found session after name out out' r (reply session) f has.found
+      (subst (λ a. Alone (Some f) a session after out out' r) (sym is)
+      (alone_way session after name f x due text out out' r has.found (ap (λ fs. record session { followers = fs }) (has.moved x)) way comes only)))
 
   -- something was handed over, and the line is answered
   pub alone_moved : (place : ℕ) (f : NamedFollower) (x : FollowerState) (step : Handed) (handed : Result Took FollowerFault) → IsHanded session name place f x handed → reply session f.follower ≡ handed_reply session name step → CutsFrom f.follower.image.epoch step
@@ -268,7 +304,7 @@ module _ {T : Type 0} (reply : SessionState → FollowerState → Reply) (sessio
       subst (λ s. Alone (follower_named s.followers name) (on_follower s name (reply s)) s after out out' r) view
       (alone_found session after name out out' r (reply session) f it.has.found
       (subst (λ a. Alone (Some f) a session after out out' r) (sym is)
-      (alone_handed session after name f x step handed out out' r it.has.found (ap (λ fs. record { log = session.log; followers = fs }) (it.has.moved x)) cuts it.follows it.keeps comes answers)))
+      (alone_handed session after name f x step handed out out' r it.has.found (ap (λ fs. record session { followers = fs }) (it.has.moved x)) cuts it.follows it.keeps comes answers)))
 
 -- ---- what is handed over
 
@@ -339,7 +375,7 @@ alone_made session seen name fs out out' x view is made text =
       added = refl;
       text = text;
       kept = kept_before out (epoch_text (codes "AT") 0) out' text;
-      next = (λ i. record { log = log i; followers = made i });
+      next = (λ i. record { log = log i; followers = made i; replies = session.replies });
       left = tt;
       memory = tt;
     }))
@@ -369,38 +405,44 @@ alone_unhanded {T} session seen name place epoch out (Err e) fs view all same at
     unmoved reply session seen name out out (Err e) view (alone_found session session name out out (Err e) (reply session) f it.1.found
     (subst (λ a. Alone {T = T} (Some f) a session session out out (Err e)) (sym handed)
     (alone_handed session session name f f.follower (hand_image f.follower image) (Err Memory) out out (Err e) it.1.found
-    (ap (λ fs. record { log = session.log; followers = fs }) (sym (with_itself session.followers name f it.1.found)))
+    (ap (λ fs. record session { followers = fs }) (sym (with_itself session.followers name f it.1.found)))
     (image_from f.follower image) it.1.follows (forgets_nothing session.log f.follower) refl (record { took = tt; text = tt; kept = take_all (length out) out (omega arith); memory = memory }))))
 
 -- ---- memory ran out before a line was read
 
--- the follower that is to be handed something stays
-stops_before : (session : SessionState) (name : List ℕ) (f : NamedFollower) (step : Handed) → AllFollow session.log session.followers → follower_named session.followers name ≡ Some f → CutsFrom f.follower.image.epoch step
-    → Stops f session (with_follower session.followers name step.after) session
-stops_before session name f step all found cuts =
+-- the follower that is to be led on stays
+stops_before : (session : SessionState) (name : List ℕ) (f : NamedFollower) (due : FollowerState) → AllFollow session.log session.followers → follower_named session.followers name ≡ Some f → f.follower.image.epoch ≤ due.image.epoch
+    → Stops f session (with_follower session.followers name due) session
+stops_before session name f due all found up =
     let here = stops_here session name f all found in
     let called : f.name ≡ name = named_name session.followers name f found in
-    let after : follower_named (with_follower session.followers name step.after) f.name ≡ Some (record f { follower = step.after }) =
-    ap (follower_named (with_follower session.followers name step.after)) called ∙ with_named session.followers name f step.after found in
+    let after : follower_named (with_follower session.followers name due) f.name ≡ Some (record f { follower = due }) =
+    ap (follower_named (with_follower session.followers name due)) called ∙ with_named session.followers name f due found in
     let again : follower_named session.followers f.name ≡ Some f = ap (follower_named session.followers) called ∙ found in
     record {
       at = f.follower;
-      is = ap (λ fs. record { log = session.log; followers = fs }) (sym (with_itself session.followers f.name f again));
+      is = ap (λ fs. record session { followers = fs }) (sym (with_itself session.followers f.name f again));
       between = subst (λ o. IfSome o (λ (g : NamedFollower). IsOnTheWay session.log f.follower g.follower f.follower)) (sym after)
-          (record { from = omega arith; to = cuts.up; follows = named_follows session.log session.followers name f all found; keeps = forgets_nothing session.log f.follower });
+          (record { from = omega arith; to = up; follows = named_follows session.log session.followers name f all found; keeps = forgets_nothing session.log f.follower });
     }
 
 stops_delivered : (session : SessionState) (name : List ℕ) (o : Option NamedFollower) (there : Option Entry) → AllFollow session.log session.followers → follower_named session.followers name ≡ o
     → StopsAny o session (reply_of session o (λ f. deliver_to session name f there)).followers session
 stops_delivered session name None there all found = refl
 stops_delivered session name (Some f) None all found = stops_here session name f all found
-stops_delivered session name (Some f) (Some entry) all found = stops_before session name f (hand_entry f.follower entry) all found (entry_from f.follower entry)
+stops_delivered session name (Some f) (Some entry) all found = stops_before session name f (hand_entry f.follower entry).after all found (entry_from f.follower entry).up
 
 stops_imaged : (session : SessionState) (name : List ℕ) (o : Option NamedFollower) (there : Result Image (List ℕ)) → AllFollow session.log session.followers → follower_named session.followers name ≡ o
     → StopsAny o session (reply_of session o (λ f. snapshot_to session name f there)).followers session
 stops_imaged session name None there all found = refl
 stops_imaged session name (Some f) (Err reason) all found = stops_here session name f all found
-stops_imaged session name (Some f) (Ok image) all found = stops_before session name f (hand_image f.follower image) all found (image_from f.follower image)
+stops_imaged session name (Some f) (Ok image) all found = stops_before session name f (hand_image f.follower image).after all found (image_from f.follower image).up
+
+stops_given : (session : SessionState) (name : List ℕ) (o : Option NamedFollower) (there : Option CatchUpReply) → AllFollow session.log session.followers → follower_named session.followers name ≡ o
+    → StopsAny o session (reply_of session o (λ f. give_to session name f there)).followers session
+stops_given session name None there all found = refl
+stops_given session name (Some f) None all found = stops_here session name f all found
+stops_given session name (Some f) (Some given) all found = stops_before session name f (given_reply f.follower given) all found (reply_rises f.follower given)
 
 stops_said : (session : SessionState) (said : Option ScriptLine) → AllFollow session.log session.followers → StopsAny (handed_by session said) session (reply_to session said).followers session
 stops_said session None all = refl
@@ -408,6 +450,8 @@ stops_said session (Some (Commit id command)) all = refl
 stops_said session (Some (Follower name)) all = refl
 stops_said session (Some (Deliver name epoch)) all = stops_delivered session name (follower_named session.followers name) (entry_at session.log epoch) all refl
 stops_said session (Some (Snapshot name epoch)) all = stops_imaged session name (follower_named session.followers name) (image_at (commands_of session.log) epoch) all refl
+stops_said session (Some (Ask name max)) all = refl
+stops_said session (Some (Give name number)) all = stops_given session name (follower_named session.followers name) (reply_numbered session.replies number) all refl
 stops_said session (Some (Place target name)) all = refl
 stops_said session (Some (Nodes target)) all = refl
 stops_said session (Some (Quorum target name t)) all = refl

@@ -102,3 +102,7 @@ kept_on log entry images kept = record {
   states = images_on log entry images kept.states;
   each = subst (λ n. HasEach n images) (sym (length-append log (entry ∷ []))) kept.each;
 }
+
+-- the metadata after all entries is the state of the last epoch
+pub at_end : (log : List Entry) (metadata : Image) → metadata ≡ image_after empty_image (commands_of log) → metadata ≡ state_after (commands_of log) (length log)
+at_end log metadata last = last ∙ ap (image_after empty_image) (sym (take_all (length log) (commands_of log) (omega (arith, length-commands_of log))))

@@ -1,10 +1,14 @@
 pub mod AnswersLemmas
 pub mod FollowerLemmas
 pub mod GainLemmas
+pub mod GivenReplies
 pub mod HandedLemmas
 pub mod KeptImageLemmas
+pub mod KeptReplyLemmas
 pub mod KeyspacePlacements
 pub mod LocalLemmas
+pub mod ReplyLines
 pub mod SessionLemmas
 pub mod StepEndLemmas
 pub mod TakenLemmas
+pub mod WayLemmas

@@ -1,5 +1,5 @@
 -- A session goes on: its log is a log that lines may commit, and its followers follow it.
-use Rattle.std.proofs.Common.{◌≡◌, ℕ, ◌+◌, List, [], ◌∷◌, ◌++◌, length, Option, Some, None, Result, Ok, Err, IsTrue, refl, sym, ap, ◌∙◌, subst, append_assoc, append-nil}
+use Rattle.std.proofs.Common.{◌≡◌, ℕ, ◌+◌, Bool, true, false, if◌then◌else◌, nat_le, codes, List, [], ◌∷◌, ◌++◌, length, Option, Some, None, Result, Ok, Err, IsTrue, refl, sym, ap, ◌∙◌, subst, append_assoc, append-nil}
 use Rattle.std.specs.List.{AllByRecursion}
 use Rattle.std.specs.Option.{IfSome}
 use Rattle.transformations.proofs.histories.HistoryLemmas.{history_empty, history_push}
@@ -11,21 +11,26 @@ use Rattle.transformations.specs.declared.command.Command.{Command}
 use Rattle.transformations.specs.declared.entry.Entry.{Entry}
 use Rattle.transformations.specs.declared.image.Image.{Image}
 use Rattle.transformations.specs.declared.refusal.Refusal.{Refusal}
+use Rattle.catch_up.specs.Replies.{catch_up_reply}
+use Rattle.catch_up.specs.declared.message.Reply.{Reply as CatchUpReply}
 use Rattle.epoch_log.specs.Epochs.{entry_at}
 use Rattle.follower_log.proofs.ShowsLemmas.{empty_stands}
 use Rattle.follower_log.specs.Follower.{FollowerState, empty_follower}
 use Rattle.follower_log.specs.Prefix.{IsImageOf, nothing_taken}
-use Rattle.script_lang.proofs.SaidLemmas.{IsFormed, IsSaid, said_by, tokens_by}
-use Rattle.script_lang.specs.Grammar.{HasTokens, line_of}
+use Rattle.script_lang.proofs.SaidLemmas.{IsFormed, IsSaid, said_by, in_range_by}
+use Rattle.script_lang.specs.AnswerTexts.{no_text}
+use Rattle.script_lang.specs.Grammar.{IsInRange, line_of}
 use Rattle.script_lang.specs.declared.script_line.ScriptLine.{ScriptLine}
-use Rattle.script_lang.specs.declared.script_line.ScriptLine.TheVariants.{Commit, Follower, Deliver, Snapshot, Place, Nodes, Quorum, Local}
+use Rattle.script_lang.specs.declared.script_line.ScriptLine.TheVariants.{Commit, Follower, Deliver, Snapshot, Ask, Give, Place, Nodes, Quorum, Local}
 use Rattle.script_lang.specs.declared.script_line.Target.{Target}
 use Rattle.script_lang.specs.declared.script_line.Target.TheVariants.{Epoch, Named}
-use Rattle.script_session.specs.Machine.{Reply, SessionState, deliver_to, follower_named, follower_reply, image_at, image_named, image_of, made_reply, new_follower, replied, reply, reply_of, reply_to, session_after, session_next, session_over, snapshot_to, with_follower}
+use Rattle.script_session.specs.Machine.{Reply, SessionState, ask_of, asked_reply, deliver_to, give_to, follower_named, follower_reply, image_at, image_named, image_of, made_reply, most_replies, new_follower, only_answers, replied, reply, reply_numbered, reply_of, reply_to, session_after, session_next, session_over, snapshot_to, with_follower}
 use Rattle.script_session.specs.StepEnds.{FollowsLog}
-use Rattle.script_session.specs.code.StepParts.{AllFollow, IsNextEntry, with_next}
+use Rattle.script_session.specs.code.StepParts.{AllFollow, AllFrom, IsNextEntry, with_next}
 use Rattle.script_session.specs.declared.session.followers.NamedFollower.{NamedFollower}
 use Rattle.script_session.proofs.FollowerLemmas.{all_follow_on, all_follow_with, named_follows}
+use Rattle.script_session.proofs.KeptReplyLemmas.{all_from_asked, all_from_on, numbered_from}
+use Rattle.script_session.proofs.GivenReplies.{reply_followed}
 use Rattle.script_session.proofs.TakenLemmas.{entry_followed, entry_there, follower_cases, image_followed, image_there, shows_log}
 
 -- ---- sessions of lines
@@ -43,9 +48,10 @@ pub record IsSession (s : SessionState) : Type 0 where
   pub is_log : IsLog s.log
   pub history : IsFormedHistory (commands_of s.log)
   pub follow : AllFollow s.log s.followers
+  pub replies : AllFrom s.log s.replies
 
 pub session_empty : IsSession (session_over [])
-session_empty = record { is_log = record { entries = entries_empty; history = history_empty }; history = formed_empty; follow = tt }
+session_empty = record { is_log = record { entries = entries_empty; history = history_empty }; history = formed_empty; follow = tt; replies = tt }
 
 -- a history goes on as another
 pub record GoesOnAs (h later : List Command) : Type 0 where
@@ -57,17 +63,21 @@ pub record IsAfter (session later : SessionState) : Type 0 where
   pub is : IsSession later
   pub goes_on : GoesOnAs (commands_of session.log) (commands_of later.log)
 
--- its followers are elsewhere
-moved : (session : SessionState) (fs : List NamedFollower) → IsSession session → AllFollow session.log fs → IsAfter session (record { log = session.log ++ []; followers = fs })
-moved session fs is follow =
-    subst (λ (l : List Entry). IsAfter session (record { log = l; followers = fs })) (sym (append-nil session.log))
+-- its followers and its replies are others
+moved_with : (session : SessionState) (fs : List NamedFollower) (replies : List CatchUpReply) → IsSession session → AllFollow session.log fs → AllFrom session.log replies
+    → IsAfter session (record { log = session.log ++ []; followers = fs; replies = replies })
+moved_with session fs replies is follow from =
+    subst (λ (l : List Entry). IsAfter session (record { log = l; followers = fs; replies = replies })) (sym (append-nil session.log))
     (record {
-      is = record { is_log = is.is_log; history = is.history; follow = follow };
+      is = record { is_log = is.is_log; history = is.history; follow = follow; replies = from };
       goes_on = record { more = []; is = sym (append-nil (commands_of session.log)) };
     })
 
+moved : (session : SessionState) (fs : List NamedFollower) → IsSession session → AllFollow session.log fs → IsAfter session (record { log = session.log ++ []; followers = fs; replies = session.replies })
+moved session fs is follow = moved_with session fs session.replies is follow is.replies
+
 -- nothing changes
-same_session : (session : SessionState) → IsSession session → IsAfter session (record { log = session.log ++ []; followers = session.followers })
+same_session : (session : SessionState) → IsSession session → IsAfter session (record { log = session.log ++ []; followers = session.followers; replies = session.replies })
 same_session session is = moved session session.followers is is.follow
 
 -- an entry is added
@@ -81,12 +91,13 @@ added_entry session entry is next has =
         history = subst IsFormedHistory (sym pushed)
             (record { history = history_push h entry.cmd is.history.history next.formed next.accepted; formed = all_append IsFormed h (entry.cmd ∷ []) is.history.formed (has, tt) });
         follow = all_follow_on session.log entry session.followers next.epoch is.follow;
+        replies = all_from_on session.log entry session.replies is.replies;
       };
       goes_on = record { more = entry.cmd ∷ []; is = pushed };
     }
 
 abbrev with_added : SessionState → List Entry → SessionState
-with_added session added = record { log = session.log ++ added; followers = session.followers }
+with_added session added = record { log = session.log ++ added; followers = session.followers; replies = session.replies }
 
 after_commit : (session : SessionState) (id : ℕ) (c : Command) → IsSession session → IsTrue (is_command c) → IsFormed c → IsAfter session (with_added session (commit_of session.log id c).added)
 after_commit session id c is right has = by (entry_with_id session.log id) refl
@@ -113,7 +124,7 @@ after_follower session name is = follower_cases session name (λ r. IsAfter sess
 
 -- a follower is handed something of the log
 module _ (session : SessionState) (is : IsSession session) (name : List ℕ) where
-  handed : (after : FollowerState) → FollowsLog session.log after → IsAfter session (record { log = session.log ++ []; followers = with_follower session.followers name after })
+  handed : (after : FollowerState) → FollowsLog session.log after → IsAfter session (record { log = session.log ++ []; followers = with_follower session.followers name after; replies = session.replies })
   handed after follows = moved session (with_follower session.followers name after) is (all_follow_with session.log session.followers name after is.follow follows)
 
   after_named : (hand : FollowerState → Reply) → ((f : FollowerState) → FollowsLog session.log f → IsAfter session (replied session (hand f))) → IsAfter session (replied session (reply_of session (follower_named session.followers name) hand))
@@ -137,12 +148,29 @@ module _ (session : SessionState) (is : IsSession session) (name : List ℕ) whe
       by (Err reason) e = same_session session is
       by (Ok image) e = handed _ (image_followed session.log f image is.is_log (image_there session.log epoch image e) follows)
 
-after_said : (session : SessionState) (said : Option ScriptLine) → IsSession session → IfSome said HasTokens → IfSome said IsSaid → IsAfter session (replied session (reply_to session said))
+  after_ask : (max : ℕ) (f : FollowerState) → FollowsLog session.log f → IsAfter session (replied session (ask_of session max f))
+  after_ask max f follows = by (nat_le most_replies (length session.replies))
+    where
+      by : (b : Bool) → IsAfter session (replied session (if b then only_answers session (no_text (codes "REPLIES-FULL")) else asked_reply session (catch_up_reply session.log f.image.epoch max)))
+      by true = same_session session is
+      by false = moved_with session session.followers (session.replies ++ catch_up_reply session.log f.image.epoch max ∷ []) is is.follow
+          (all_from_asked session.log f.image.epoch max session.replies follows.stands.within is.replies)
+
+  after_give : (number : ℕ) (f : FollowerState) → FollowsLog session.log f → IsAfter session (replied session (give_to session name f (reply_numbered session.replies number)))
+  after_give number f follows = by (reply_numbered session.replies number) refl
+    where
+      by : (o : Option CatchUpReply) → reply_numbered session.replies number ≡ o → IsAfter session (replied session (give_to session name f o))
+      by None e = same_session session is
+      by (Some given) e = handed _ (reply_followed session.log f given is.is_log (numbered_from session.log session.replies number given is.replies e) follows)
+
+after_said : (session : SessionState) (said : Option ScriptLine) → IsSession session → IfSome said IsInRange → IfSome said IsSaid → IsAfter session (replied session (reply_to session said))
 after_said session None is right has = same_session session is
 after_said session (Some (Commit id c)) is right has = after_commit session id c is right has.1
 after_said session (Some (Follower name)) is right has = after_follower session name is
 after_said session (Some (Deliver name epoch)) is right has = after_named session is name (λ f. deliver_to session name f (entry_at session.log epoch)) (after_deliver session is name epoch)
 after_said session (Some (Snapshot name epoch)) is right has = after_named session is name (λ f. snapshot_to session name f (image_at (commands_of session.log) epoch)) (after_snapshot session is name epoch)
+after_said session (Some (Ask name max)) is right has = after_named session is name (ask_of session max) (after_ask session is name max)
+after_said session (Some (Give name number)) is right has = after_named session is name (λ f. give_to session name f (reply_numbered session.replies number)) (after_give session is name number)
 after_said session (Some (Place target name)) is right has = same_session session is
 after_said session (Some (Nodes target)) is right has = same_session session is
 after_said session (Some (Quorum target name t)) is right has = same_session session is
@@ -150,7 +178,7 @@ after_said session (Some (Local target name dc t)) is right has = same_session s
 
 pub after_reply : (session : SessionState) (bytes : List ℕ) → IsSession session → IsAfter session (session_next session bytes)
 unfolding reply
-after_reply session bytes is = after_said session (line_of bytes) is (tokens_by bytes) (said_by bytes)
+after_reply session bytes is = after_said session (line_of bytes) is (in_range_by bytes) (said_by bytes)
 
 pub after_lines : (session : SessionState) (lines : List (List ℕ)) → IsSession session → IsAfter session (session_after session lines)
 after_lines session [] is = record { is = is; goes_on = record { more = []; is = sym (append-nil (commands_of session.log)) } }

@@ -3,6 +3,7 @@ use Rattle.std.proofs.Common.{◌≡◌, ◌≢◌, ℕ, ◌+◌, Bool, true, fa
 use Rattle.std.proofs.Math.Seq.{take-append_seam}
 use Rattle.tcm_edges.specs.Files.{ChangesFile, Files, GainsAll, OthersKept}
 use Rattle.tcm_edges.specs.Writes.{TellsAlike}
+use Rattle.catch_up.specs.declared.message.Reply.{Reply as CatchUpReply}
 use Rattle.cluster_metadata.specs.Permission.{Permission}
 use Rattle.transformations.proofs.histories.HistoryLemmas.{image_after-push}
 use Rattle.transformations.proofs.histories.LogLemmas.{commands_of-push, log_push}
@@ -23,21 +24,22 @@ use Rattle.script_lang.specs.AnswerTexts.{no_text, ok_text, refusal_text}
 use Rattle.script_session.specs.code.KeptImages.{AreKept}
 use Rattle.script_session.specs.LogFiles.{Gains, entry_read, header_cause, header_read, next_entry}
 use Rattle.script_session.specs.Machine.{Reply, SessionState, commit_text, replied}
-use Rattle.script_session.specs.code.StepParts.{AllFollow, IsNextEntry, OnlyAnswers}
+use Rattle.script_session.specs.code.StepParts.{AllFollow, AllFrom, IsNextEntry, OnlyAnswers}
 use Rattle.script_session.specs.declared.fault.StepFault.{StepFault}
 use Rattle.script_session.specs.declared.session.followers.NamedFollower.{NamedFollower}
 use Rattle.script_session.specs.declared.refused_line.Cause.TheVariants as cause
 use Rattle.script_session.proofs.FollowerLemmas.{all_follow_on}
 use Rattle.script_session.proofs.GainLemmas.{Gains-of_append}
 use Rattle.script_session.proofs.KeptImageLemmas.{kept_on}
+use Rattle.script_session.proofs.KeptReplyLemmas.{all_from_on}
 
 -- ---- steps that add nothing
 
--- nothing is added, and the followers stay
-pub replied_nothing : (session : SessionState) (reply : Reply) → reply.added ≡ [] → reply.followers ≡ session.followers → session ≡ replied session reply
-replied_nothing session reply none stay =
+-- nothing is added, and the followers and the replies stay
+pub replied_nothing : (session : SessionState) (reply : Reply) → reply.added ≡ [] → reply.followers ≡ session.followers → reply.replies ≡ session.replies → session ≡ replied session reply
+replied_nothing session reply none stay kept =
     let log : session.log ≡ session.log ++ reply.added = sym (ap (λ es. session.log ++ es) none ∙ append-nil session.log) in
-    (λ i. record { log = log i; followers = sym stay i })
+    (λ i. record { log = log i; followers = sym stay i; replies = sym kept i })
 
 -- ---- an entry that is noted
 
@@ -59,15 +61,16 @@ gained_line name entry line files files' is changes others told =
 -- ---- a step in a log
 
 -- an entry whose command is the permit's
-pub session_kept : (before after : List Entry) (fs : List NamedFollower) (images : List Image) (entry : Entry) (image image' : Image) (permit : Permission) → image ≡ image_after empty_image (commands_of before)
-    → IsLog before × AllFollow before fs × AreKept before (length before + 1) images → IsNextEntry before entry → permit.command ≡ entry.cmd → image' ≡ next_image image permit.command → after ≡ before ++ entry ∷ []
-    → (image' ≡ image_after empty_image (commands_of after)) × IsLog after × AllFollow after fs × AreKept after (length after) images
-session_kept before after fs images entry image image' permit is (log, follow, are) next permitted enacted pushed = (
+pub session_kept : (before after : List Entry) (fs : List NamedFollower) (replies : List CatchUpReply) (images : List Image) (entry : Entry) (image image' : Image) (permit : Permission) → image ≡ image_after empty_image (commands_of before)
+    → IsLog before × AllFollow before fs × AreKept before (length before + 1) images × AllFrom before replies → IsNextEntry before entry → permit.command ≡ entry.cmd → image' ≡ next_image image permit.command → after ≡ before ++ entry ∷ []
+    → (image' ≡ image_after empty_image (commands_of after)) × IsLog after × AllFollow after fs × AreKept after (length after) images × AllFrom after replies
+session_kept before after fs replies images entry image image' permit is (log, follow, are, made) next permitted enacted pushed = (
   enacted ∙ (λ i. next_image (is i) (permitted i)) ∙ sym (image_after-push empty_image (commands_of before) entry.cmd)
       ∙ ap (image_after empty_image) (sym (ap commands_of pushed ∙ commands_of-push before entry)),
   subst IsLog (sym pushed) (log_push before entry log next.epoch next.fresh next.formed next.accepted),
   subst (λ l. AllFollow l fs) (sym pushed) (all_follow_on before entry fs next.epoch follow),
   subst (λ l. AreKept l (length l) images) (sym pushed) (kept_on before entry images are),
+  subst (λ l. AllFrom l replies) (sym pushed) (all_from_on before entry replies made),
 )
 
 -- ---- a line of a log file

@@ -1,6 +1,9 @@
--- The session machine: a log and its followers; the answer to each line, and what it makes of both.
-use Rattle.std.specs.Prelude.{ℕ, ℤ, if◌then◌else◌, List, [], ◌∷◌, ◌++◌, find, length, Option, Some, None, is_some, Result, Ok, Err, nat_le, codes, decimal}
+-- The session machine: a log, its followers and the replies to them; the answer to each line, and what it makes of these.
+use Rattle.std.specs.Prelude.{ℕ, ◌+◌, ◌-◌, ◌==◌, ℤ, if◌then◌else◌, List, [], ◌∷◌, ◌++◌, find, length, slice_get, Option, Some, None, is_some, Result, Ok, Err, nat_le, codes, decimal}
 use Rattle.std.specs.Str.{bytes_eq}
+use Rattle.catch_up.specs.Replies.{catch_up_reply, start_epoch}
+use Rattle.catch_up.specs.declared.message.Reply.{Reply as CatchUpReply}
+use Rattle.catch_up_laws.specs.Given.{given_reply}
 use Rattle.cluster_terms.specs.Quorum.{datacenter_of}
 use Rattle.cluster_terms.specs.declared.replication.Replication.{Replication}
 use Rattle.transformations.specs.History.{state_after}
@@ -13,9 +16,9 @@ use Rattle.transformations.specs.declared.keyspace.KeyspaceRow.{KeyspaceRow}
 use Rattle.transformations.specs.declared.refusal.Refusal.{Refusal}
 use Rattle.placement_maps.specs.Served.{keyspace_of}
 use Rattle.script_lang.specs.Grammar.{line_of}
-use Rattle.script_lang.specs.AnswerTexts.{ok_text, no_text, epoch_text, refusal_text, place_text, nodes_text, quorum_text}
+use Rattle.script_lang.specs.AnswerTexts.{ok_text, no_text, epoch_text, reply_text, refusal_text, place_text, nodes_text, quorum_text}
 use Rattle.script_lang.specs.declared.script_line.ScriptLine.{ScriptLine}
-use Rattle.script_lang.specs.declared.script_line.ScriptLine.TheVariants.{Commit, Follower, Deliver, Snapshot, Place, Nodes, Quorum, Local}
+use Rattle.script_lang.specs.declared.script_line.ScriptLine.TheVariants.{Commit, Follower, Deliver, Snapshot, Ask, Give, Place, Nodes, Quorum, Local}
 use Rattle.script_lang.specs.declared.script_line.Target.{Target}
 use Rattle.script_lang.specs.declared.script_line.Target.TheVariants.{Epoch, Named}
 use Rattle.epoch_log.specs.Epochs.{entry_at}
@@ -27,24 +30,28 @@ use Rattle.script_session.specs.declared.session.followers.NamedFollower.{NamedF
 use Rattle.script_session.specs.declared.session.query.Query.{Query}
 use Rattle.script_session.specs.declared.session.query.Query.TheVariants as query
 
--- the session: its log, and its followers in the order in which they were made
+-- the session: its log, its followers in the order in which they were made, and the catch-up replies in the order in
+-- which they were asked for
 pub record SessionState : Type 0 where
   pub log : List Entry
   pub followers : List NamedFollower
+  pub replies : List CatchUpReply
 
--- the session over a log without followers
+-- the session over a log, without followers and replies
 abbrev pub session_over : List Entry → SessionState
-session_over log = record { log = log; followers = [] }
+session_over log = record { log = log; followers = []; replies = [] }
 
--- the answer to a line, the entries that the line adds to the log, one or none, and the followers after it
+-- the answer to a line, the entries that the line adds to the log, one or none, and the followers and the catch-up
+-- replies after it
 pub record Reply : Type 0 where
   pub text : List ℕ
   pub added : List Entry
   pub followers : List NamedFollower
+  pub replies : List CatchUpReply
 
 -- a reply that changes nothing
 abbrev pub only_answers : SessionState → List ℕ → Reply
-only_answers session text = record { text = text; added = []; followers = session.followers }
+only_answers session text = record { text = text; added = []; followers = session.followers; replies = session.replies }
 
 -- a commit is answered with its epoch, or with its refusal
 abbrev pub commit_text : Result ℕ Refusal → List ℕ
@@ -54,7 +61,12 @@ commit_text (Err refusal) = no_text (refusal_text refusal)
 abbrev pub commit_reply : SessionState → ℕ → Command → Reply
 commit_reply session id command =
     let committed = commit_of session.log id command in
-    record { text = commit_text committed.answer; added = committed.added; followers = session.followers }
+    record {
+      text = commit_text committed.answer;
+      added = committed.added;
+      followers = session.followers;
+      replies = session.replies;
+    }
 
 -- the follower with this name; and the followers once it is at another state
 abbrev pub follower_named : List NamedFollower → List ℕ → Option NamedFollower
@@ -80,7 +92,12 @@ new_follower name = record { name = name; follower = empty_follower }
 
 abbrev pub made_reply : SessionState → List ℕ → Reply
 made_reply session name =
-    record { text = epoch_text (codes "AT") 0; added = []; followers = session.followers ++ new_follower name ∷ [] }
+    record {
+      text = epoch_text (codes "AT") 0;
+      added = [];
+      followers = session.followers ++ new_follower name ∷ [];
+      replies = session.replies;
+    }
 
 -- a follower is refused if its name is taken, and else if there are 16 already
 abbrev pub follower_unless_full : SessionState → List ℕ → Reply
@@ -101,9 +118,13 @@ handed_text (Ok (Held epoch)) = epoch_text (codes "HELD") epoch
 handed_text (Ok (Full epoch)) = epoch_text (codes "FULL") epoch
 handed_text (Err fault) = []
 
+-- a line that moves the follower with a name is answered with a text
+abbrev pub moved_reply : SessionState → List ℕ → List ℕ → FollowerState → Reply
+moved_reply session name text after =
+    record { text = text; added = []; followers = with_follower session.followers name after; replies = session.replies }
+
 abbrev pub handed_reply : SessionState → List ℕ → Handed → Reply
-handed_reply session name step =
-    record { text = handed_text step.answer; added = []; followers = with_follower session.followers name step.after }
+handed_reply session name step = moved_reply session name (handed_text step.answer) step.after
 
 -- the reason that an epoch hasn't come; it shows the last epoch
 abbrev pub no_epoch : List Command → List ℕ
@@ -122,6 +143,45 @@ deliver_to session name follower (Some entry) = handed_reply session name (hand_
 abbrev pub snapshot_to : SessionState → List ℕ → FollowerState → Result Image (List ℕ) → Reply
 snapshot_to session name follower (Err reason) = only_answers session (no_text reason)
 snapshot_to session name follower (Ok image) = handed_reply session name (hand_image follower image)
+
+-- the most catch-up replies
+abbrev pub most_replies : ℕ
+most_replies = 64
+
+-- what the entries of a catch-up reply come after: the epoch that was asked from, or that of an image
+abbrev pub start_word : Option Image → List ℕ
+start_word None = codes "since"
+start_word (Some image) = codes "image"
+
+abbrev pub asked_text : ℕ → CatchUpReply → List ℕ
+asked_text number made = reply_text number (start_word made.image) (start_epoch made) (length made.entries)
+
+-- a catch-up reply is kept as the last one
+abbrev pub asked_reply : SessionState → CatchUpReply → Reply
+asked_reply session made =
+    record {
+      text = asked_text (length session.replies + 1) made;
+      added = [];
+      followers = session.followers;
+      replies = session.replies ++ made ∷ [];
+    }
+
+-- a follower asks for at most `max` entries after its epoch; it is refused if there are 64 replies already
+abbrev pub ask_of : SessionState → ℕ → FollowerState → Reply
+ask_of session max follower =
+    if nat_le most_replies (length session.replies) then only_answers session (no_text (codes "REPLIES-FULL"))
+    else asked_reply session (catch_up_reply session.log follower.image.epoch max)
+
+-- the catch-up reply with a number; the first one has number 1
+abbrev pub reply_numbered : List CatchUpReply → ℕ → Option CatchUpReply
+reply_numbered replies number = if number == 0 then None else slice_get replies (number - 1)
+
+-- a follower is given a catch-up reply, and is answered with the epoch that it reaches
+abbrev pub give_to : SessionState → List ℕ → FollowerState → Option CatchUpReply → Reply
+give_to session name follower None = only_answers session (no_text (codes "REPLY " ++ decimal (length session.replies)))
+give_to session name follower (Some given) =
+    let after = given_reply follower given in
+    moved_reply session name (epoch_text (codes "AT") after.image.epoch) after
 
 -- the reply of a follower, if there is one
 abbrev pub reply_of : SessionState → Option NamedFollower → (FollowerState → Reply) → Reply
@@ -182,6 +242,8 @@ reply_to session (Some (Commit id command)) = commit_reply session id command
 reply_to session (Some (Follower name)) = follower_reply session name
 reply_to session (Some (Deliver name epoch)) = on_follower session name (λ f. deliver_to session name f (entry_at session.log epoch))
 reply_to session (Some (Snapshot name epoch)) = on_follower session name (λ f. snapshot_to session name f (image_at (commands_of session.log) epoch))
+reply_to session (Some (Ask name max)) = on_follower session name (ask_of session max)
+reply_to session (Some (Give name number)) = on_follower session name (λ f. give_to session name f (reply_numbered session.replies number))
 reply_to session (Some (Place target name)) = query_reply session target (query.Place name)
 reply_to session (Some (Nodes target)) = query_reply session target query.Nodes
 reply_to session (Some (Quorum target name t)) = query_reply session target (query.Quorum name t)
@@ -193,7 +255,8 @@ reply session bytes = reply_to session (line_of bytes)
 
 -- the session after a reply; after a line; and after lines, one after another
 abbrev pub replied : SessionState → Reply → SessionState
-replied session reply = record { log = session.log ++ reply.added; followers = reply.followers }
+replied session reply =
+    record { log = session.log ++ reply.added; followers = reply.followers; replies = reply.replies }
 
 abbrev pub session_next : SessionState → List ℕ → SessionState
 session_next session bytes = replied session (reply session bytes)

@@ -2,7 +2,7 @@
 use Rattle.follower_log.specs.Follower.{FollowerState}
 use Rattle.follower_log.specs.Prefix.{StandsFor, Taken, has_entry, is_base}
 use Rattle.script_lang.specs.declared.script_line.ScriptLine.{ScriptLine}
-use Rattle.script_lang.specs.declared.script_line.ScriptLine.TheVariants.{Deliver, Snapshot}
+use Rattle.script_lang.specs.declared.script_line.ScriptLine.TheVariants.{Deliver, Snapshot, Give}
 use Rattle.std.specs.Prelude.{◌≡◌, ◌≢◌, ℕ, ◌≤◌, true, List, [], Option, None, Some, IfSome}
 use Rattle.tcm_edges.specs.Files.{ChangesFile, Files, GainsPart, OthersKept}
 use Rattle.transformations.specs.declared.entry.Entry.{Entry}
@@ -35,6 +35,7 @@ pub record FollowsLog (log : List Entry) (follower : FollowerState) : Type 0 whe
 abbrev pub handed_by : SessionState → Option ScriptLine → Option NamedFollower
 handed_by session (Some (Deliver name epoch)) = follower_named session.followers name
 handed_by session (Some (Snapshot name epoch)) = follower_named session.followers name
+handed_by session (Some (Give name number)) = follower_named session.followers name
 handed_by session _ = None
 
 -- a follower stands for a log and for all that was taken from it, and maybe for more

@@ -1,6 +1,8 @@
 -- The entries and images that a follower took in the lines of a script, and that it shows their longest gapless prefix.
 use Rattle.std.specs.Prelude.{◌≡◌, ℕ, if◌then◌else◌, List, [], ◌∷◌, ◌++◌, Option, Some, None, Result, Ok, Err}
 use Rattle.std.specs.Str.{bytes_eq}
+use Rattle.catch_up.specs.declared.message.Reply.{Reply as CatchUpReply}
+use Rattle.catch_up_laws.specs.Given.{given_image}
 use Rattle.epoch_log.specs.Epochs.{entry_at}
 use Rattle.follower_log.specs.Follower.{FollowerState, Handed, hand_entry, hand_image}
 use Rattle.follower_log.specs.Prefix.{IsPrefix, StandsFor, Taken, nothing_taken, with_entry, with_image}
@@ -13,9 +15,9 @@ use Rattle.transformations.specs.declared.entry.Entry.{Entry}
 use Rattle.transformations.specs.declared.image.Image.{Image}
 use Rattle.script_lang.specs.Grammar.{line_of}
 use Rattle.script_lang.specs.declared.script_line.ScriptLine.{ScriptLine}
-use Rattle.script_lang.specs.declared.script_line.ScriptLine.TheVariants.{Deliver, Snapshot}
+use Rattle.script_lang.specs.declared.script_line.ScriptLine.TheVariants.{Deliver, Snapshot, Give}
 use Rattle.script_lang.specs.declared.script_line.Target.TheVariants.{Named}
-use Rattle.script_session.specs.Machine.{SessionState, answer_from, follower_named, image_at, image_of, query_text, session_after, session_next, session_over}
+use Rattle.script_session.specs.Machine.{SessionState, answer_from, follower_named, image_at, image_of, query_text, reply_numbered, session_after, session_next, session_over}
 use Rattle.script_session.specs.declared.session.followers.NamedFollower.{NamedFollower}
 use Rattle.script_session.specs.declared.session.query.Query.{Query}
 
@@ -32,6 +34,21 @@ abbrev pub and_image : FollowerState → Result Image (List ℕ) → Taken → T
 and_image follower (Err reason) taken = taken
 and_image follower (Ok image) taken = unless_full (hand_image follower image).answer taken (with_image taken image.epoch)
 
+-- what it took of a catch-up reply: of its image, if it has one, and of its entries, one after another
+abbrev pub and_entries : FollowerState → List Entry → Taken → Taken
+and_entries follower [] taken = taken
+and_entries follower (entry ∷ entries) taken =
+    and_entries (hand_entry follower entry).after entries (and_entry follower (Some entry) taken)
+
+abbrev pub and_start : FollowerState → Option Image → Taken → Taken
+and_start follower None taken = taken
+and_start follower (Some image) taken = and_image follower (Ok image) taken
+
+abbrev pub and_reply : FollowerState → Option CatchUpReply → Taken → Taken
+and_reply follower None taken = taken
+and_reply follower (Some given) taken =
+    and_entries (given_image follower given.image) given.entries (and_start follower given.image taken)
+
 -- what the follower with this name took, once it is handed something
 abbrev pub by_follower : Option NamedFollower → (FollowerState → Taken) → Taken → Taken
 by_follower None take taken = taken
@@ -47,6 +64,11 @@ taken_by session name (Some (Snapshot to epoch)) taken =
     let image = image_at (commands_of session.log) epoch in
     if bytes_eq to name
     then by_follower (follower_named session.followers name) (λ f. and_image f image taken) taken
+    else taken
+taken_by session name (Some (Give to number)) taken =
+    let given = reply_numbered session.replies number in
+    if bytes_eq to name
+    then by_follower (follower_named session.followers name) (λ f. and_reply f given taken) taken
     else taken
 taken_by session name _ taken = taken
 

@@ -1,10 +1,11 @@
-//! The session: the log of entries, the metadata after it, its followers, and the reply to each line.
+//! The session: the log of entries, the metadata after it, its followers, the catch-up replies, and the answer to each
+//! line.
 
 ghost use Rattle.std.specs.Prelude.{◌≡◌, ◌+◌, ◌≤◌, ◌++◌, [], Ok, codes, decimal, length, take, None, OnOk, IfOk, IfErr, IfSome, IsTrue};
 ghost use Rattle.std.specs.Option.{option_copied};
-ghost use Rattle.script_lang.specs.Grammar.{HasTokens, line_of};
+ghost use Rattle.script_lang.specs.Grammar.{IsInRange, line_of};
 ghost use Rattle.script_lang.specs.AnswerTexts as spec;
-ghost use Rattle.transformations.specs.History.{commit_refusal, empty_image, image_after, is_command};
+ghost use Rattle.transformations.specs.History.{commit_refusal, empty_image, image_after, is_command, state_after};
 ghost use Rattle.transformations.specs.Log.{commands_of, entry_with_id, repeated};
 ghost use Rattle.cluster_metadata.specs.Permission.{AdmitsUnless};
 ghost use Rattle.script_session.specs.Faults.{count_by};
@@ -24,12 +25,14 @@ pub mod place_text;
 pub mod query;
 mod query_lines;
 pub mod quorum_text;
+mod replies;
 
 use crate::fault::StepFault;
 use crate::session::followers::{NamedFollower, close_followers, epoch_of};
 use crate::session::kept_images::keep_image;
 use crate::session::log_entries::note;
 use crate::session::query::Query;
+use catch_up::Reply;
 use cluster_metadata::{AdmitFault, Metadata, Permit};
 use cluster_terms::{ByteText, Memory};
 use epoch_log::Log;
@@ -43,17 +46,19 @@ use transformations::{Command, Entry, Refusal};
 /// The most commands that a session accepts; each accepted command makes an epoch.
 const MOST_EPOCHS: u64 = 65_536;
 
-/// The log, the metadata after its entries, the image of every 256th epoch before the last, and up to 16 followers.
+/// The log, the metadata after its entries, the image of every 256th epoch before the last, up to 16 followers, and up
+/// to 64 replies to followers that asked for what they lack.
 ///
 /// The log's epochs are 1, 2 and so on, no id stands in it twice, and its commands are a history. Each follower shows
-/// a state of the log, and the entries that wait in it are distinct entries of the log, above its epoch. A session
-/// must be ended by `close`.
+/// a state of the log, and the entries that wait in it are distinct entries of the log, above its epoch. Each reply is
+/// one from a prefix of the log. A session must be ended by `close`.
 pub struct Session {
     alloc: Global,
     log: Log,
     metadata: Metadata,
     snapshots: Snapshots,
     followers: Vec<NamedFollower>,
+    replies: Vec<Reply>,
 }
 
 impl Model for Session {
@@ -62,16 +67,21 @@ impl Model for Session {
     ghost use Rattle.transformations.specs.Log.{IsLog, commands_of};
     ghost use Rattle.script_session.specs.code.KeptImages.{AreKept};
     ghost use Rattle.script_session.specs.Machine.{SessionState};
-    ghost use Rattle.script_session.specs.code.StepParts.{AllFollow};
+    ghost use Rattle.script_session.specs.code.StepParts.{AllFollow, AllFrom};
 
     ghost Value = { SessionState };
 
-    ghost view = { λ session. record { log = session.log; followers = session.followers.items } };
+    ghost view = { λ session. record {
+      log = session.log;
+      followers = session.followers.items;
+      replies = session.replies.items;
+    } };
 
     ghost invariant = { λ session.
         (session.metadata ≡ image_after empty_image (commands_of session.log))
         × IsLog session.log × AllFollow session.log session.followers.items
-        × AreKept session.log (length session.log) session.snapshots };
+        × AreKept session.log (length session.log) session.snapshots
+        × AllFrom session.log session.replies.items };
 }
 
 /// Answers a line that is refused for this reason.
@@ -129,10 +139,11 @@ impl Session {
             metadata: Metadata::empty(alloc)?,
             snapshots: Snapshots::empty(alloc),
             followers: Vec::new(alloc),
+            replies: Vec::new(alloc),
         })
     }
 
-    /// Ends the session. Its log and its followers are forgotten.
+    /// Ends the session. Its log, its followers and the replies to them are forgotten.
     pub fn close(self) {
         let Session {
             alloc: _,
@@ -140,6 +151,7 @@ impl Session {
             metadata,
             snapshots: _,
             followers,
+            replies: _,
         } = self;
         metadata.close();
         close_followers(followers);
@@ -150,6 +162,13 @@ impl Session {
         ensures { result.now ≡ self.now.log }
     {
         &self.log
+    }
+
+    /// The metadata in the last state of the log.
+    pub fn metadata(&self) -> &Metadata
+        ensures { result.now ≡ state_after (commands_of self.now.log) (length self.now.log) }
+    {
+        &self.metadata
     }
 
     /// The epoch of the last entry, or 0 if there is none.
@@ -167,21 +186,24 @@ impl Session {
         epoch_of(&self.followers, name)
     }
 
-    /// Answers a line: adds the answer to `out`, the entry of an accepted commit to the log, and moves the follower
-    /// that the line hands something to. If `log` names a file, the line of the entry is added to this file, too,
-    /// before the commit takes effect; from then on the commit can't fail. Without a name, the store isn't used.
+    /// Answers a line: adds the answer to `out`, the entry of an accepted commit to the log, a reply that is asked for
+    /// to the replies, and moves the follower that the line hands something to. If `log` names a file, the line of the
+    /// entry is added to this file, too, before the commit takes effect; from then on the commit can't fail. Without a
+    /// name, the store isn't used.
     ///
-    /// After a fault, the log is unchanged, no follower was made, and `out` still begins with its old content. Fails
-    /// with `Memory` if memory runs out; then the files are unchanged, and so is each follower, but for the one that
-    /// the line hands something to: it follows the log, no further back than before and no further on than the line
-    /// would have moved it. Fails with `Store` only if `log` names a file, the line adds an entry, and the store failed
-    /// in this step; then the followers are unchanged, and the file may have gained the entry's line or a prefix of it.
+    /// After a fault, the log and the replies are unchanged, no follower was made, and `out` still begins with its old
+    /// content. Fails with `Memory` if memory runs out; then the files are unchanged, and so is each follower, but for
+    /// the one that the line hands something to: it follows the log, no further back than before and no further on than
+    /// the line would have moved it. Fails with `Store` only if `log` names a file, the line adds an entry, and the
+    /// store failed in this step; then the followers are unchanged, and the file may have gained the entry's line or a
+    /// prefix of it.
     ///
     /// Cost: a commit costs one look-up of its id, and the cost of `Metadata::admit`. The first one that is accepted
-    /// after each 256th epoch also copies the image. A line on a follower costs a comparison with the names of the followers,
-    /// and the cost of `Follower::deliver` or `Follower::snapshot`; a follower that lacks this entry alone may cost a
-    /// copy of the metadata instead. The image of an earlier epoch costs as
-    /// `Snapshots::state_at` says, with at most 255 commands.
+    /// after each 256th epoch also copies the image. A line on a follower costs a comparison with the names of the
+    /// followers, and the cost of `Follower::deliver` or `Follower::snapshot`; a follower that lacks this entry alone
+    /// may cost a copy of the metadata instead. The image of an earlier epoch costs as `Snapshots::state_at` says, with
+    /// at most 255 commands. Asking for a reply costs a copy of its entries, and of its image as that of an earlier
+    /// epoch. Giving it costs as handing over its image and each of its entries.
     pub fn step<D: Store>(
         &mut self,
         line: &[u8],
@@ -214,7 +236,7 @@ impl Session {
         store: &mut D,
         out: &mut ByteText,
     ) -> Result<(), StepFault>
-        requires { IfSome said (λ line. HasTokens line) }
+        requires { IfSome said (λ line. IsInRange line) }
         ensures steps { StepEnds (handed_by self.old said) (reply_to self.old said) (option_copied log.entry)
             self.old self.new out.old out.new
             (D.files store.old) (D.files store.new) (D.faults store.old) (D.faults store.new) result }
@@ -226,15 +248,17 @@ impl Session {
             Some(ScriptLine::Follower(name)) => self.make_follower(name, out),
             Some(ScriptLine::Deliver(name, epoch)) => self.deliver(&name, epoch, out),
             Some(ScriptLine::Snapshot(name, epoch)) => self.snapshot(&name, epoch, out),
+            Some(ScriptLine::Ask(name, max)) => self.ask(&name, max, out),
+            Some(ScriptLine::Give(name, number)) => self.give(&name, number, out),
             Some(ScriptLine::Place(target, keyspace)) => {
-                self.ask(target, Query::Place(keyspace), out)
+                self.answer_query(target, Query::Place(keyspace), out)
             }
-            Some(ScriptLine::Nodes(target)) => self.ask(target, Query::Nodes, out),
+            Some(ScriptLine::Nodes(target)) => self.answer_query(target, Query::Nodes, out),
             Some(ScriptLine::Quorum(target, keyspace, t)) => {
-                self.ask(target, Query::Quorum(keyspace, t), out)
+                self.answer_query(target, Query::Quorum(keyspace, t), out)
             }
             Some(ScriptLine::Local(target, keyspace, dc, t)) => {
-                self.ask(target, Query::Local(keyspace, dc, t), out)
+                self.answer_query(target, Query::Local(keyspace, dc, t), out)
             }
         }
     }

@@ -1,3 +1,5 @@
+pub mod AskedReplies
+pub mod CatchUpLines
 pub mod FileLogs
 pub mod LinesLemmas
 pub mod TakenLines

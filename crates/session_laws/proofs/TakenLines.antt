@@ -1,5 +1,5 @@
 -- A follower of a session shows the longest gapless prefix of what it took in the lines.
-use Rattle.std.proofs.Common.{◌≡◌, ℕ, ◌+◌, Bool, true, false, if◌then◌else◌, List, [], ◌∷◌, ◌++◌, length, Option, Some, None, Result, Ok, Err, refl, sym, ap, ◌∙◌, subst, append-nil}
+use Rattle.std.proofs.Common.{◌≡◌, ℕ, ◌+◌, Bool, true, false, if◌then◌else◌, List, [], ◌∷◌, ◌++◌, length, nat_le, codes, Option, Some, None, Result, Ok, Err, refl, sym, ap, ◌∙◌, subst, append-nil}
 use Rattle.std.specs.Option.{option_or}
 use Rattle.std.specs.Str.{bytes_eq}
 use Rattle.std.proofs.lemmas.List.Folds.{find-append}
@@ -9,18 +9,25 @@ use Rattle.transformations.specs.declared.command.Command.{Command}
 use Rattle.transformations.specs.declared.entry.Entry.{Entry}
 use Rattle.transformations.specs.declared.image.Image.{Image}
 use Rattle.transformations.specs.declared.refusal.Refusal.{Refusal}
+use Rattle.catch_up.specs.Replies.{catch_up_reply}
+use Rattle.catch_up.specs.declared.message.Reply.{Reply as CatchUpReply}
+use Rattle.catch_up_laws.specs.Given.{given_reply}
 use Rattle.epoch_log.specs.Epochs.{entry_at}
 use Rattle.follower_log.proofs.GrowthLemmas.{stands_on}
 use Rattle.follower_log.proofs.ShowsLemmas.{empty_stands, prefix_ends}
 use Rattle.follower_log.specs.Follower.{FollowerState, empty_follower, hand_entry, hand_image}
 use Rattle.follower_log.specs.Prefix.{Taken, nothing_taken}
+use Rattle.script_lang.specs.AnswerTexts.{no_text}
 use Rattle.script_lang.specs.Grammar.{line_of}
 use Rattle.script_lang.specs.declared.script_line.ScriptLine.{ScriptLine}
-use Rattle.script_lang.specs.declared.script_line.ScriptLine.TheVariants.{Commit, Follower, Deliver, Snapshot, Place, Nodes, Quorum, Local}
-use Rattle.script_session.specs.Machine.{Reply, SessionState, answer_from, deliver_to, follower_named, follower_reply, image_at, image_named, new_follower, query_text, replied, reply, reply_of, reply_to, session_after, session_next, session_over, snapshot_to, with_follower}
-use Rattle.script_session.specs.Taken.{AllShowPrefixes, AnswerAsLog, FollowersShow, ShowsPrefix, and_entry, and_image, by_follower, taken_by, taken_in}
+use Rattle.script_lang.specs.declared.script_line.ScriptLine.TheVariants.{Commit, Follower, Deliver, Snapshot, Ask, Give, Place, Nodes, Quorum, Local}
+use Rattle.script_session.specs.Machine.{Reply, SessionState, answer_from, ask_of, asked_reply, deliver_to, give_to, most_replies, only_answers, reply_numbered, follower_named, follower_reply, image_at, image_named, new_follower, query_text, replied, reply, reply_of, reply_to, session_after, session_next, session_over, snapshot_to, with_follower}
+use Rattle.script_session.specs.Taken.{AllShowPrefixes, AnswerAsLog, FollowersShow, ShowsPrefix, and_entry, and_image, and_reply, by_follower, taken_by, taken_in}
 use Rattle.script_session.specs.declared.session.followers.NamedFollower.{NamedFollower}
 use Rattle.script_session.proofs.SessionLemmas.{IsSession, after_reply}
+use Rattle.script_session.specs.code.StepParts.{AllFrom}
+use Rattle.script_session.proofs.GivenReplies.{reply_shown}
+use Rattle.script_session.proofs.KeptReplyLemmas.{numbered_from}
 use Rattle.script_session.proofs.FollowerLemmas.{named_follows, other_with, same_bytes, with_named}
 use Rattle.script_session.proofs.TakenLemmas.{entry_shown, entry_there, follower_cases, image_shown, image_there, shows_log}
 
@@ -141,26 +148,49 @@ module _ (session : SessionState) (is : IsLog session.log) (name : List ℕ) (ta
       (took to f (hand_image f.follower image).after there (λ g. and_image g (Ok image) taken)
       (λ shown. image_shown session.log taken f.follower image is (image_there session.log epoch image is_at) shown))
 
-  on_said : (said : Option ScriptLine) → ShowsIn (replied session (reply_to session said)) name (taken_by session name said taken)
-  on_said None = named_still session.log taken _ shows
-  on_said (Some (Commit id c)) = on_commit session.log id c taken _ shows
-  on_said (Some (Follower to)) = on_follower_line to
-  on_said (Some (Deliver to epoch)) =
+  on_ask : (max : ℕ) (f : FollowerState) → ShowsIn (replied session (ask_of session max f)) name taken
+  on_ask max f = by (nat_le most_replies (length session.replies))
+    where
+      by : (b : Bool) → ShowsIn (replied session (if b then only_answers session (no_text (codes "REPLIES-FULL")) else asked_reply session (catch_up_reply session.log f.image.epoch max))) name taken
+      by true = named_still session.log taken _ shows
+      by false = named_still session.log taken _ shows
+
+  on_ask_line : (max : ℕ) (o : Option NamedFollower) → ShowsIn (replied session (reply_of session o (ask_of session max))) name taken
+  on_ask_line max None = named_still session.log taken _ shows
+  on_ask_line max (Some f) = on_ask max f.follower
+
+  on_give : AllFrom session.log session.replies → (to : List ℕ) (f : NamedFollower) → follower_named session.followers to ≡ Some f → (o : Option CatchUpReply) (number : ℕ) → reply_numbered session.replies number ≡ o
+      → ShowsIn (replied session (give_to session to f.follower o)) name (then_taken to (λ g. and_reply g o taken))
+  on_give from to f there None number is_at = named_still session.log _ _ (not_taken (bytes_eq to name) (follower_named session.followers name) shows (λ g. taken) (λ g. refl))
+  on_give from to f there (Some given) number is_at =
+      named_still session.log _ _
+      (took to f (given_reply f.follower given) there (λ g. and_reply g (Some given) taken)
+      (λ shown. reply_shown session.log taken f.follower given is (numbered_from session.log session.replies number given from is_at) shown))
+
+  on_said : AllFrom session.log session.replies → (said : Option ScriptLine) → ShowsIn (replied session (reply_to session said)) name (taken_by session name said taken)
+  on_said from None = named_still session.log taken _ shows
+  on_said from (Some (Commit id c)) = on_commit session.log id c taken _ shows
+  on_said from (Some (Follower to)) = on_follower_line to
+  on_said from (Some (Deliver to epoch)) =
       on_named to (λ f. deliver_to session to f (entry_at session.log epoch)) (λ g. and_entry g (entry_at session.log epoch) taken)
       (λ f there. on_deliver to f there (entry_at session.log epoch) epoch refl)
-  on_said (Some (Snapshot to epoch)) =
+  on_said from (Some (Snapshot to epoch)) =
       on_named to (λ f. snapshot_to session to f (image_at (commands_of session.log) epoch)) (λ g. and_image g (image_at (commands_of session.log) epoch) taken)
       (λ f there. on_snapshot to f there (image_at (commands_of session.log) epoch) epoch refl)
-  on_said (Some (Place target keyspace)) = named_still session.log taken _ shows
-  on_said (Some (Nodes target)) = named_still session.log taken _ shows
-  on_said (Some (Quorum target keyspace t)) = named_still session.log taken _ shows
-  on_said (Some (Local target keyspace dc t)) = named_still session.log taken _ shows
+  on_said from (Some (Ask to max)) = on_ask_line max (follower_named session.followers to)
+  on_said from (Some (Give to number)) =
+      on_named to (λ f. give_to session to f (reply_numbered session.replies number)) (λ g. and_reply g (reply_numbered session.replies number) taken)
+      (λ f there. on_give from to f there (reply_numbered session.replies number) number refl)
+  on_said from (Some (Place target keyspace)) = named_still session.log taken _ shows
+  on_said from (Some (Nodes target)) = named_still session.log taken _ shows
+  on_said from (Some (Quorum target keyspace t)) = named_still session.log taken _ shows
+  on_said from (Some (Local target keyspace dc t)) = named_still session.log taken _ shows
 
 -- ---- lines
 
 on_line : (session : SessionState) (bytes name : List ℕ) (taken : Taken) → IsSession session → ShowsIn session name taken → ShowsIn (session_next session bytes) name (taken_by session name (line_of bytes) taken)
 unfolding reply
-on_line session bytes name taken is shows = on_said session is.is_log name taken shows (line_of bytes)
+on_line session bytes name taken is shows = on_said session is.is_log name taken shows is.replies (line_of bytes)
 
 on_lines : (session : SessionState) (name : List ℕ) (lines : List (List ℕ)) (taken : Taken) → IsSession session → ShowsIn session name taken → ShowsIn (session_after session lines) name (taken_in session name lines taken)
 on_lines session name [] taken is shows = shows

@@ -1,1 +1,2 @@
+pub mod CatchUp
 pub mod Shown

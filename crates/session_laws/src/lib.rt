@@ -3,4 +3,6 @@
 
 pub mod validity;
 
-pub use validity::{followers_show_prefixes, lines_make_the_input, shown_quorums_meet};
+pub use validity::{
+    catch_up_skips_nothing, followers_show_prefixes, lines_make_the_input, shown_quorums_meet,
+};

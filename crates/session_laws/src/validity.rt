@@ -1,4 +1,5 @@
-//! Facts about the definitions of a session: the lines of an input, the quorums in answers, and what followers show.
+//! Facts about the definitions of a session: the lines of an input, the quorums in answers, what followers show, and
+//! where replies lead.
 
 ghost use Rattle.std.specs.Prelude.{◌≡◌, ℕ, ◌++◌, [], List, None, Some, Ok, flat_map};
 ghost use Rattle.std.specs.List.{AllByRecursion};
@@ -12,6 +13,7 @@ ghost use Rattle.script_session.specs.Lines.{HasNoFeed, open_line, whole_lines};
 ghost use Rattle.script_session.specs.LogFiles.{log_of};
 ghost use Rattle.script_session.specs.Machine.{SessionState, answers, reply, session_after, session_over};
 ghost use Rattle.script_session.specs.Taken.{AnswerAsLog, FollowersShow, TellsEpoch};
+ghost use Rattle.session_laws.specs.CatchUp.{RepliesSkipNothing};
 ghost use Rattle.session_laws.specs.Shown.{IsOfNoQuorum, LinesAreShown, Shown, ShownMeet, shown, shown_by, shown_text};
 
 /// Cutting an input into lines loses nothing: its whole lines, each with a line feed after it, and then its open line
@@ -62,4 +64,18 @@ pub fn followers_show_prefixes()
         → TellsEpoch (hand_entry follower entry) × TellsEpoch (hand_image follower image) }
     ensures queries { (file : List ℕ) (log : List Entry) (lines : List (List ℕ)) → log_of file ≡ Ok log
         → AnswerAsLog (session_after (session_over log) lines) }
+{}
+
+/// Replies skip nothing, whether they are lost, come twice or come late. Each reply of a session is one from its log:
+/// it was made when the log had its first entries, maybe not all that it has now.
+///
+/// Let a follower have reached the epoch that the reply was asked from, and let no entry of its next epoch wait. Given
+/// the reply, it comes at least to the lesser of two epochs: the last one when the reply was made, and the one that is
+/// `MAX` after the one asked from. Given the same reply again, nothing changes. No line takes a follower back to an
+/// earlier epoch. All this holds after each line of a script.
+///
+/// The first line is answered from the log in a file; a file without lines is the empty log.
+pub fn catch_up_skips_nothing()
+    ensures { (file : List ℕ) (log : List Entry) (lines : List (List ℕ)) → log_of file ≡ Ok log
+        → RepliesSkipNothing log lines }
 {}

@@ -7,6 +7,7 @@ mod log;
 mod members;
 mod reach;
 mod replies;
+mod streams;
 mod terms;
 mod wire;
 

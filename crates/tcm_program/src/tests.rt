@@ -13,6 +13,7 @@ mod quorums;
 mod racks;
 mod refusals;
 mod renewals;
+mod replies;
 mod running;
 mod scripts;
 mod steps;
@@ -23,7 +24,7 @@ use running::{Script, go_on};
 use std::test::Fail;
 
 /// Tables of scripts, each with the opening that its scripts go on from.
-const TABLES: [(&str, &[Script]); 26] = [
+const TABLES: [(&str, &[Script]); 27] = [
     (NOTHING, &lines::FORMS),
     (NOTHING, &ids::FROM_NOTHING),
     (FOUR, &ids::ON_FOUR),
@@ -48,6 +49,7 @@ const TABLES: [(&str, &[Script]); 26] = [
     (NOTHING, &quorums::FROM_NOTHING),
     (NOTHING, &scripts::PLACES),
     (FOUR, &followers::ON_FOUR),
+    (FOUR, &replies::ON_FOUR),
     (RACKS, &followers::ON_RACKS),
     (NOTHING, &followers::FROM_NOTHING),
 ];

@@ -4,6 +4,7 @@ pub mod EndedRuns
 pub mod HeldFiles
 pub mod LoadLemmas
 pub mod LogLines
+pub mod LookedRuns
 pub mod MendLemmas
 pub mod MendRuns
 pub mod ReplayLemmas

@@ -6,15 +6,16 @@ use Rattle.tcm_session.specs.Commit.{commit_outcome, commit_to_outcome}
 use Rattle.tcm_session.specs.Gen.{gen_ending}
 use Rattle.tcm_session.specs.Mend.{mend_outcome}
 use Rattle.tcm_session.specs.Outcome.{Outcome, ended_outcome}
-use Rattle.tcm_session.specs.Request.{Request, Cms, Commit, CommitTo, Gen, Mend, Replay, Snapshot}
+use Rattle.tcm_session.specs.Request.{Request, Cms, Commit, CommitTo, Gen, Mend, Plan, Replay, Snapshot}
 use Rattle.tcm_session.specs.declared.ending.Ending.{Ending}
 use Rattle.tcm_session.specs.files.MemberRoute.{route_ending}
 use Rattle.tcm_session.specs.files.Replay.{replay_ending}
 use Rattle.tcm_session.specs.files.StateLine.{snapshot_ending}
+use Rattle.tcm_session.specs.files.StreamPlan.{plan_ending}
 
 -- the end of words that name no command
 abbrev pub usage_text : List ℕ
-usage_text = codes "usage: tcm commit [LOG CLUSTER] | replay FILE.. | snapshot LOG E | gen START N | mend2 OLD NEW CLUSTER | cms LOG FROM TO"
+usage_text = codes "usage: tcm commit [LOG CLUSTER] | replay FILE.. | snapshot LOG E | gen START N | mend2 OLD NEW CLUSTER | plan LOG NODE KS | cms LOG FROM TO"
 
 abbrev pub usage_end : Ending
 usage_end = record { status = 2; text = line usage_text }
@@ -27,5 +28,6 @@ outcome (Some (Replay files)) seen input = ended_outcome (replay_ending files se
 outcome (Some (Snapshot log epoch)) seen input = ended_outcome (snapshot_ending log epoch seen) (seen 0)
 outcome (Some (Gen start rounds)) seen input = ended_outcome (gen_ending start rounds) (seen 0)
 outcome (Some (Mend old new cluster)) seen input = mend_outcome old new cluster seen
+outcome (Some (Plan log node keyspace)) seen input = ended_outcome (plan_ending log node keyspace seen) (seen 0)
 outcome (Some (Cms log from to)) seen input = ended_outcome (route_ending log from to seen) (seen 0)
 outcome None seen input = ended_outcome usage_end (seen 0)

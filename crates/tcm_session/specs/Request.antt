@@ -13,6 +13,7 @@ pub data Request : Type 0 where
   Snapshot : (log : List ℕ) (epoch : ℕ) → Request
   Gen : (start rounds : ℕ) → Request
   Mend : (old new cluster : List ℕ) → Request
+  Plan : (log : List ℕ) (node : ℕ) (keyspace : List ℕ) → Request
   Cms : (log from to : List ℕ) → Request
 
 -- the name of a file isn't empty
@@ -72,6 +73,12 @@ abbrev pub mend_request : List (List ℕ) → Option Request
 mend_request (old ∷ new ∷ cluster ∷ []) = if is_file_name old && is_log new cluster then Some (Mend old new cluster) else None
 mend_request _ = None
 
+-- LOG NODE KS, with a NODE below 2^32 and the name of a keyspace
+abbrev pub plan_request : List (List ℕ) → Option Request
+plan_request (log ∷ node ∷ keyspace ∷ []) =
+    if is_file_name log && is_name keyspace then option_map (λ n. Plan log n keyspace) (node_of node) else None
+plan_request _ = None
+
 -- LOG FROM TO, with a FROM and a TO that list nodes
 abbrev pub cms_request : List (List ℕ) → Option Request
 cms_request (log ∷ from ∷ to ∷ []) =
@@ -87,6 +94,7 @@ request_of (word ∷ words) =
     else if bytes_eq word (codes "snapshot") then snapshot_request words
     else if bytes_eq word (codes "gen") then gen_request words
     else if bytes_eq word (codes "mend2") then mend_request words
+    else if bytes_eq word (codes "plan") then plan_request words
     else if bytes_eq word (codes "cms") then cms_request words
     else None
 
@@ -104,5 +112,6 @@ names_file (Some (CommitTo log cluster)) = true
 names_file (Some (Replay files)) = true
 names_file (Some (Snapshot log epoch)) = true
 names_file (Some (Mend old new cluster)) = true
+names_file (Some (Plan log node keyspace)) = true
 names_file (Some (Cms log from to)) = true
 names_file _ = false

@@ -1,22 +1,25 @@
 -- The promises of a run about what it is asked for, its input, the files, the bytes that it prints and its status.
-use Rattle.std.specs.Prelude.{◌≡◌, ◌≢◌, ℕ, ◌+◌, ◌≤◌, Bool, true, false, if◌then◌else◌, ◌==◌, List, ◌++◌, length, Option, Some, IfSome}
+use Rattle.std.specs.Prelude.{◌≡◌, ◌≢◌, ℕ, ◌+◌, ◌≤◌, Bool, true, false, if◌then◌else◌, ◌==◌, List, ◌++◌, length, Option, Some, IfOk, IfSome}
 use Rattle.std.specs.Io.{StartsWith}
 use Rattle.std.specs.Io.KnownBytes.{Appends, Consumes, IsAtEnd}
 use Rattle.tcm_edges.specs.Causes.{one_more}
-use Rattle.tcm_edges.specs.Files.{Files}
+use Rattle.tcm_edges.specs.Files.{Files, file_of}
 use Rattle.transformations.specs.Log.{IsLog}
 use Rattle.transformations.specs.declared.entry.Entry.{Entry}
 use Rattle.tcm_session.specs.Counts.{Counts}
 use Rattle.tcm_session.specs.Left.{LeavesFiles}
+use Rattle.script_session.specs.LogFiles.{log_of}
 use Rattle.script_session.specs.Lines.{whole_lines}
 use Rattle.script_session.specs.Machine.{answers, session_over}
 use Rattle.tcm_session.specs.Outcome.{Outcome, input_limit, printed_by}
 use Rattle.tcm_session.specs.Outcomes.{outcome}
-use Rattle.tcm_session.specs.Request.{Cms, Replay, Request}
+use Rattle.tcm_session.specs.Request.{Cms, Plan, Replay, Request}
 use Rattle.tcm_session.specs.files.MemberRoute.{IsSafeRoute}
+use Rattle.tcm_session.specs.files.StreamPlan.{IsCoveringPlan, last_state}
 use Rattle.tcm_session.specs.files.ReplayPrefix.{AreFilesOf, AreHeadedFiles, ReportsPrefix, taken_of_files}
 use Rattle.session_laws.specs.Shown.{PrintsMeeting}
 use Rattle.script_session.specs.Taken.{FollowersShow}
+use Rattle.session_laws.specs.CatchUp.{RepliesSkipNothing}
 
 -- the statuses, 0 to 8: the end of the input, of a replay, of a state, of a route or of a summary, out of memory, the
 -- usage line, a line of a file that is refused, a fault of the source, of the sink or of the store, a file or an epoch
@@ -80,8 +83,10 @@ pub record ReplaysLog (names : List (List ℕ)) (seen : ℕ → Files) (log : Li
 -- a run for a request: it prints the bytes of the request's outcome, it reads as its outcome says, and the quorums in the
 -- printed lines meet (`ShownMeet`), unless the status is 7, as the name of a file may hold any line; each follower of a
 -- script, and that of a replay of files of one log, shows the longest gapless prefix of what it took (`ShowsPrefix`);
+-- catch-up replies bring a follower on, and none goes back (`SkipsNothing`);
 -- what a fault leaves in the log file is what the lines added that were done, with at most a part of one entry more; a
--- file that is made is whole, or absent as before; and the route between two sets of members is safe
+-- file that is made is whole, or absent as before; the route between two sets of members is safe; and the stream plan by
+-- the log in a file covers what its movement adds, and keeps quorums readable
 pub record IsRun {S : Type 0} (request : Option Request) (left : S → Option (List ℕ)) (input input' : S) (written written' : Option (List ℕ)) (files files' : Option Files) (status : ℕ) : Type 0 where
   pub given : Given (left input) files
   pub comes : ComesTo (outcome request given.seen given.input) written written' files' status
@@ -89,10 +94,13 @@ pub record IsRun {S : Type 0} (request : Option Request) (left : S → Option (L
   pub quorums : (outcome request given.seen given.input).status ≢ 7
       → PrintsMeeting (outcome request given.seen given.input).log (outcome request given.seen given.input).lines comes.printed
   pub followers : FollowersShow (outcome request given.seen given.input).log (outcome request given.seen given.input).lines
+  pub replies : RepliesSkipNothing (outcome request given.seen given.input).log (outcome request given.seen given.input).lines
   pub replays : (names : List (List ℕ)) → request ≡ Some (Replay names) → (log : List Entry) → IsLog log
       → AreFilesOf log names given.seen → ReplaysLog names given.seen log comes.printed status
   pub leaves : (IsFinal status → ⊥) → LeavesFiles request files files' (outcome request given.seen given.input) comes.printed status
   pub routes : (log from to : List ℕ) → request ≡ Some (Cms log from to) → IsSafeRoute from to
+  pub plans : (log : List ℕ) (node : ℕ) (keyspace : List ℕ) → request ≡ Some (Plan log node keyspace)
+      → IfSome (file_of (given.seen 0) log) (λ file. IfOk (log_of file) (λ entries. IsCoveringPlan (last_state entries) node keyspace))
 
 -- the count of faults after a run: one more if its status says so, else the same
 abbrev pub more_if : Bool → ℕ → ℕ

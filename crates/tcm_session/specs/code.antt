@@ -2,6 +2,7 @@
 pub mod Endings
 pub mod Loading
 pub mod Mends
+pub mod Questions
 pub mod Replays
 pub mod Requests
 pub mod RunFaults

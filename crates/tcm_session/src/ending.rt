@@ -19,7 +19,7 @@ use tcm_edges::{Sink, write_all};
 
 /// The text that is printed for words that name no command.
 const USAGE: &str =
-    "usage: tcm commit [LOG CLUSTER] | replay FILE.. | snapshot LOG E | gen START N | mend2 OLD NEW CLUSTER | cms LOG FROM TO\n";
+    "usage: tcm commit [LOG CLUSTER] | replay FILE.. | snapshot LOG E | gen START N | mend2 OLD NEW CLUSTER | plan LOG NODE KS | cms LOG FROM TO\n";
 
 /// Writes a text to `out`.
 pub fn print_text<K: Sink>(text: &[u8], out: &mut K) -> Result<(), RunFault>

@@ -1,5 +1,6 @@
-//! A run of the program: it reads a script, answers its lines, and keeps a log file; it replays files, prints a state or
-//! a route between two sets of members, counts the answers to a generated script, and writes a log file anew.
+//! A run of the program: it reads a script, answers its lines, and keeps a log file; it replays files, prints a state, a
+//! route between two sets of members or a stream plan, counts the answers to a generated script, and writes a log file
+//! anew.
 #![tactic(auto)]
 
 mod ending;

@@ -3,28 +3,18 @@
 ghost use Rattle.std.specs.Prelude.{◌≡◌, ◌∷◌, ◌<◌, ◌==◌, length, IfSome, IsTrue};
 ghost use Rattle.std.specs.List.{slice_split};
 ghost use Rattle.std.specs.Option.{option_copied};
-ghost use Rattle.script_lang.specs.Grammar as grammar;
 ghost use Rattle.tcm_session.specs.Request as spec;
 ghost use Rattle.tcm_session.specs.code.Requests.{parts_left};
 
 use cluster_terms::{Few, NodeId};
 use memchr::memchr;
-use script_lang::number_of;
+use script_lang::node_of;
 
 /// The most nodes of a list.
 const MOST_NODES: usize = 16;
 
 /// A list of up to 16 nodes. It takes no memory.
 pub type NodeList = Few<NodeId, 16>;
-
-/// The node whose id a text writes: a number below 2^32.
-#[tactic(auto, using(script_lang::proofs::Numerals::number_below_is))]
-fn node_of(text: &[u8]) -> Option<NodeId>
-    ensures { result ≡ grammar.node_of text.now }
-{
-    let id = u32::try_from(number_of(text)?).ok()?;
-    Some(NodeId(id))
-}
 
 /// The bytes before the first comma, and the bytes after it, if there is a comma.
 fn first_part(text: &[u8]) -> (&[u8], Option<&[u8]>)

@@ -13,10 +13,9 @@ ghost use Rattle.tcm_session.specs.code.Runs.{IsEnd, RunsSeen};
 ghost use Rattle.tcm_session.specs.declared.run_fault.RunFault.TheVariants as fault;
 
 use crate::ending::Ending;
-use crate::files::member_route::show_route;
 use crate::files::mend::mend;
+use crate::files::question::{Question, look};
 use crate::files::report::replay_files;
-use crate::files::state_line::show_state;
 use crate::generated::count_answers;
 use crate::request::{Request, request_of};
 use crate::run_fault::RunFault;
@@ -49,10 +48,19 @@ fn answer<S: Source, K: Sink, D: Store>(
         Request::Commit => commit(alloc, input, out, store),
         Request::CommitTo { log } => commit_to(alloc, &log, input, out, store),
         Request::Replay { files } => replay_files(alloc, files, store)?.print(out),
-        Request::Snapshot { log, epoch } => show_state(alloc, log, epoch, store)?.print(out),
+        Request::Snapshot { log, epoch } => {
+            look(alloc, log, &Question::State { epoch }, store)?.print(out)
+        }
         Request::Gen { start, rounds } => count_answers(alloc, start, rounds)?.print(out),
         Request::Mend { old, new } => mend(alloc, old, &new, store)?.print(out),
-        Request::Cms { log, from, to } => { show_route(alloc, log, &from, &to, store)?.print(out) }
+        Request::Plan {
+            log,
+            node,
+            keyspace,
+        } => look(alloc, log, &Question::Plan { node, keyspace }, store)?.print(out),
+        Request::Cms { log, from, to } => {
+            look(alloc, log, &Question::Route { from, to }, store)?.print(out)
+        }
     }
 }
 
@@ -103,6 +111,11 @@ fn answer_words<S: Source, K: Sink, D: Store>(
 ///   and the epoch of its follower. No input is read, and the store isn't used.
 /// - `mend2 OLD NEW CLUSTER` reads the file `OLD` as a log of the older format, which has no header, and makes the file
 ///   `NEW`, the same log as that of the cluster `CLUSTER`. No input is read, and no other file changes.
+/// - `plan LOG NODE KS`, with a NODE below 2^32 in decimal digits without leading zeros and the name of a keyspace, prints
+///   the stream plan of the movement of NODE under KS in the last state of the log in the file `LOG`: a row for each range
+///   between cuts and each node that the movement adds to its replicas, with the node from which it streams, or a list of
+///   nodes of which any will do. `stream_plan::streams` says what such a plan is good for. No input is read, and no file
+///   changes.
 /// - `cms LOG FROM TO`, with lists of 1 to 16 ascending nodes, prints the shortest safe route of the metadata service from
 ///   the members FROM to the members TO: each change, and how many of the voting members after it are a majority. The
 ///   nodes of TO that are not in FROM must be JOINED in the last state of the log in the file `LOG`. No input is read,
@@ -117,9 +130,9 @@ fn answer_words<S: Source, K: Sink, D: Store>(
 ///
 /// Returns the status of the run:
 ///
-/// - 0: the input was read to its end, and every line was answered; or all files were replayed; or a state or a route was
-///   printed; or the answers to the generated script were counted; or a log file was made, and `MENDED` and the number of
-///   its entries were printed.
+/// - 0: the input was read to its end, and every line was answered; or all files were replayed; or a state, a route or a
+///   stream plan was printed; or the answers to the generated script were counted; or a log file was made, and `MENDED`
+///   and the number of its entries were printed.
 /// - 1: memory ran out.
 /// - 2: the words name no command. Nothing was read, and the usage line was printed.
 /// - 3: a line of the log file, or of a file that is replayed, is refused. Nothing was read from the input, no file was
@@ -133,7 +146,8 @@ fn answer_words<S: Source, K: Sink, D: Store>(
 ///   name were printed; or E is past the last epoch of the log, and `NO EPOCH` and the last epoch were printed; or `NEW`
 ///   is there, and `FILE-THERE` and its name were printed; or a node of TO that is not in FROM isn't JOINED, and for the
 ///   least such node `NO NO-NODE` and the node were printed if it isn't registered, and `NO NODE-STATE`, the node and its
-///   state if it is.
+///   state if it is; or NODE has no movement, and `NO SEQUENCE` was printed; or no keyspace has the name KS, and
+///   `NO KEYSPACE` was printed.
 /// - 8: byte 536,870,913 of the input was read, and the lines that end before it were answered; or a file has more than
 ///   536,870,912 bytes, and no input was read. Then `TOO-LARGE 536870912` was printed.
 ///
@@ -166,7 +180,9 @@ pub fn run<S: Source, K: Sink, D: Store>(
     // is reported, shows this prefix, too, and no line is refused, if headers are well placed. A fault leaves in the log
     // file what the lines added that were done, and at most a part of one entry more; and a file that is made is whole.
     // The route of `cms` is safe: its changes are accepted and lead from FROM to TO, the majorities before and after each
-    // change meet, and no accepted list of changes from FROM to TO is shorter.
+    // change meet, and no accepted list of changes from FROM to TO is shorter. The plan of `plan` has one row for each node
+    // that the movement adds at a token, and none for another node; and of a quorum of the nodes placed with the movement,
+    // a node is in a given quorum of those placed before it, or streams strictly from a node of it.
     ensures outcome { IsRun (spec.request_of (map string_bytes words.now)) S.left input.old input.new
         (K.written out.old) (K.written out.new) (D.files store.old) (D.files store.new) result.0 }
 

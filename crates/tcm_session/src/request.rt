@@ -9,8 +9,8 @@ ghost use Rattle.tcm_session.specs.code.Requests.{IsWithin, asked, names_of};
 
 use crate::files::log_file::LogFile;
 use crate::node_list::{NodeList, node_list};
-use cluster_terms::Name;
-use script_lang::number_of;
+use cluster_terms::{Name, NodeId};
+use script_lang::{node_of, number_of};
 use std::alloc::Global;
 
 /// The most files of a replay.
@@ -46,6 +46,12 @@ pub enum Request<'a> {
     Mend {
         old: &'a str,
         new: LogFile<'a>,
+    },
+    /// To print the stream plan of the movement of a node under a keyspace, by the log in a file.
+    Plan {
+        log: &'a str,
+        node: NodeId,
+        keyspace: Name,
     },
     /// To print the route from one set of members of the metadata service to another, by the log in a file.
     Cms {
@@ -182,6 +188,26 @@ fn mend_request(alloc: Global, words: &[String]) -> Option<Request<'_>>
     }
 }
 
+/// What the words after `plan` ask for, if anything.
+fn plan_request(alloc: Global, words: &[String]) -> Option<Request<'_>>
+    ensures is { option_map asked result ≡ spec.plan_request (map string_bytes words.now) }
+    ensures within { IfSome result IsWithin }
+{
+    match words {
+        [log, node, keyspace] if is_file_name(log.as_str()) => {
+            let keyspace = Name::from_bytes(alloc, keyspace.as_str().as_bytes()).unwrap()?;
+            let node = node_of(node.as_str().as_bytes())?;
+            let log = log.as_str();
+            Some(Request::Plan {
+                log,
+                node,
+                keyspace,
+            })
+        }
+        _ => None,
+    }
+}
+
 /// What the words after `cms` ask for, if anything.
 fn cms_request(words: &[String]) -> Option<Request<'_>>
     ensures is { option_map asked result ≡ spec.cms_request (map string_bytes words.now) }
@@ -211,6 +237,7 @@ pub fn request_of(alloc: Global, words: &[String]) -> Option<Request<'_>>
         "snapshot" => snapshot_request(words),
         "gen" => gen_request(words),
         "mend2" => mend_request(alloc, words),
+        "plan" => plan_request(alloc, words),
         "cms" => cms_request(words),
         _ => None,
     }

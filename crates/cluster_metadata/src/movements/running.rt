@@ -1,5 +1,6 @@
-ghost use Rattle.std.specs.Prelude.{◌≡◌, ◌++◌, ◌∷◌, ◌<◌, [], true, false, List, None, IfOk, MatchResult, OnOk};
+ghost use Rattle.std.specs.Prelude.{◌≡◌, ◌==◌, ◌++◌, ◌∷◌, ◌<◌, [], find, true, false, List, None, IfOk, MatchResult, OnOk};
 ghost use Rattle.std.specs.List.{Contains};
+ghost use Rattle.std.specs.Option.{option_copied};
 ghost use Rattle.locked_ranges.specs.Table.{has_row, other_locks};
 ghost use Rattle.transformations.specs.Refusals.{with_movement};
 ghost use Rattle.transformations.specs.Rings.{cuts};
@@ -50,9 +51,10 @@ impl Running {
         Running::Prepared(Seq::begin(plan, key))
     }
 
-    /// The plan of the movement.
+    /// The plan of the movement. Its row is at `Prepared`.
     pub fn plan(&self) -> &Plan
-        ensures { result.now ≡ plan_of self.now }
+        ensures plan { result.now ≡ plan_of self.now }
+        ensures prepared { result.now.row.phase ≡ phase.Prepared }
     {
         match self {
             Running::Prepared(seq) => seq.plan(),
@@ -122,6 +124,15 @@ impl Running {
             Running::Mid(seq) => seq.finish(),
         }
     }
+}
+
+/// The value of the movement of a node.
+pub fn find_running(running: &[Running], node: NodeId) -> Option<&Running>
+    ensures { option_copied result ≡ find (λ m. moving_node m == node) running.now }
+{
+    running
+        .iter()
+        .find(|movement| movement.plan().row.node == node)
 }
 
 /// The plan of a movement. Fails only if memory runs out.

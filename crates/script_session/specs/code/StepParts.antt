@@ -8,6 +8,9 @@ use Rattle.tcm_edges.specs.Files.{Files}
 use Rattle.transformations.specs.History.{commit_refusal, is_command}
 use Rattle.transformations.specs.Log.{commands_of, entry_with_id}
 use Rattle.transformations.specs.declared.entry.Entry.{Entry}
+use Rattle.catch_up.specs.Replies.{IsReplyFrom}
+use Rattle.catch_up.specs.declared.message.Reply.{Reply as CatchUpReply}
+use Rattle.follower_log.specs.Follower.{FollowerState}
 use Rattle.script_lang.specs.AnswerTexts.{ok_text}
 use Rattle.script_session.specs.Faults.{count_by}
 use Rattle.script_session.specs.LogFiles.{Gains, entry_lines}
@@ -16,11 +19,15 @@ use Rattle.script_session.specs.declared.fault.StepFault.{StepFault}
 use Rattle.script_session.specs.declared.fault.StepFault.TheVariants as fault
 use Rattle.script_session.specs.declared.session.followers.NamedFollower.{NamedFollower}
 use Rattle.script_session.specs.declared.refused_line.Cause.{Cause}
-use Rattle.script_session.specs.StepEnds.{Leaves, FollowsLog, StopsAny, LeavesSession}
+use Rattle.script_session.specs.StepEnds.{Leaves, FollowsLog, IsOnTheWay, StopsAny, LeavesSession}
 
 -- each of these followers follows the log
 abbrev pub AllFollow : List Entry → List NamedFollower → Type 0
 AllFollow log followers = AllByRecursion (λ f. FollowsLog log f.follower) followers
+
+-- each of these catch-up replies is one from the log
+abbrev pub AllFrom : List Entry → List CatchUpReply → Type 0
+AllFrom log replies = AllByRecursion (IsReplyFrom log) replies
 
 -- a step that comes to this reply: the session, the output, the files and the count of the store's faults, before and
 -- after
@@ -66,6 +73,11 @@ pub record AnswersHanded {T : Type 0} (handed : Result Took FollowerFault) (out 
   pub kept : take (length out) out' ≡ out
   pub memory : IfErr result (λ e. e ≡ fault.Memory)
 
+-- a follower is handed what leads it to `due`: with memory it comes there, and else it stops on the way
+pub record Hands {T E : Type 0} (log : List Entry) (due before after : FollowerState) (result : Result T E) : Type 0 where
+  pub comes : OnOk result (after ≡ due)
+  pub way : IsOnTheWay log before due after
+
 -- a text is added to the output, and nothing else changes; only memory can run out
 pub record OnlyAnswers {T : Type 0} (text out out' : List ℕ) (result : Result T StepFault) : Type 0 where
   pub answered : OnOk result (out' ≡ out ++ text)
@@ -90,4 +102,10 @@ TakesLine (Some cause) given session session' = (given ≡ Err cause) × (sessio
 
 -- the reply to a commit that is accepted with this entry
 abbrev pub accepted_reply : SessionState → Entry → Reply
-accepted_reply session entry = record { text = ok_text entry.epoch; added = entry ∷ []; followers = session.followers }
+accepted_reply session entry =
+    record {
+      text = ok_text entry.epoch;
+      added = entry ∷ [];
+      followers = session.followers;
+      replies = session.replies;
+    }

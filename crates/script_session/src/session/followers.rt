@@ -1,6 +1,6 @@
 //! The followers of a session, and what they are handed.
 
-ghost use Rattle.std.specs.Prelude.{◌≡◌, ◌++◌, ◌∷◌, [], codes, is_some, length, position, take, Ok, OnErr, OnOk};
+ghost use Rattle.std.specs.Prelude.{◌≡◌, ◌++◌, ◌∷◌, [], codes, is_some, length, position, take, Ok, IfOk, OnErr, OnOk};
 ghost use Rattle.std.specs.Option.{option_copied};
 ghost use Rattle.std.specs.Str.{bytes_eq};
 ghost use Rattle.script_lang.specs.AnswerTexts as spec;
@@ -93,8 +93,23 @@ fn took_text(took: Took, out: &mut ByteText) -> Result<(), Memory>
     }
 }
 
-/// Answers a line that handed something to a follower, with what became of it. A session hands over what its log says,
-/// so a fork, a refusal and a bad image don't come.
+/// What became of what a follower was handed, if memory didn't run out. A session hands over what its log says, so a
+/// fork, a refusal and a bad image don't come.
+pub fn taken(handed: Result<Took, FollowerFault>) -> Result<Took, Memory>
+    requires { IsOfOneLog handed }
+    ensures { IfOk result (λ took. handed ≡ Ok took) }
+{
+    match handed {
+        Ok(took) => Ok(took),
+        Err(FollowerFault::Memory) => Err(Memory),
+        Err(FollowerFault::MemoryAt(_)) => Err(Memory),
+        Err(FollowerFault::Fork(_, _, _)) => unreachable!(),
+        Err(FollowerFault::Refused(_, _)) => unreachable!(),
+        Err(FollowerFault::BadImage(_)) => unreachable!(),
+    }
+}
+
+/// Answers a line that handed something to a follower, with what became of it.
 pub fn answer_handed(
     handed: Result<Took, FollowerFault>,
     out: &mut ByteText,
@@ -102,17 +117,9 @@ pub fn answer_handed(
     requires { IsOfOneLog handed }
     ensures { AnswersHanded handed out.old out.new result }
 {
-    match handed {
-        Ok(took) => {
-            took_text(took, out)?;
-            Ok(())
-        }
-        Err(FollowerFault::Memory) => Err(StepFault::Memory),
-        Err(FollowerFault::MemoryAt(_)) => Err(StepFault::Memory),
-        Err(FollowerFault::Fork(_, _, _)) => unreachable!(),
-        Err(FollowerFault::Refused(_, _)) => unreachable!(),
-        Err(FollowerFault::BadImage(_)) => unreachable!(),
-    }
+    let took = taken(handed)?;
+    took_text(took, out)?;
+    Ok(())
 }
 
 /// Consumes the followers.

@@ -17,7 +17,12 @@ use script_lang::{Target, no_epoch_text, no_text};
 
 impl Session {
     /// Answers a query, as `step` does.
-    pub fn ask(&self, target: Target, query: Query, out: &mut ByteText) -> Result<(), StepFault>
+    pub fn answer_query(
+        &self,
+        target: Target,
+        query: Query,
+        out: &mut ByteText,
+    ) -> Result<(), StepFault>
         ensures only { OnlyAnswers (query_text (image_of self.now target) query) out.old out.new result }
     {
         match target {

@@ -1,5 +1,5 @@
 -- The lines of answers: those of an answer without quorums begin with neither of their words.
-use Rattle.std.proofs.Common.{◌≡◌, ◌≢◌, ℕ, ◌≤◌, ℤ, Bool, true, false, if◌then◌else◌, List, ◌++◌, flat_map, get_or, length, Option, Some, None, Result, Ok, Err, IfErr, option_map, option_and_then, nat_le, codes, decimal, refl, sym, subst, append_assoc, arith}
+use Rattle.std.proofs.Common.{◌≡◌, ◌≢◌, ℕ, ◌+◌, ◌≤◌, ℤ, Bool, true, false, if◌then◌else◌, List, ◌++◌, flat_map, get_or, length, Option, Some, None, Result, Ok, Err, IfErr, option_map, option_and_then, nat_le, codes, decimal, refl, sym, subst, append_assoc, arith}
 use Rattle.std.specs.List.{AllByRecursion}
 use Rattle.std.specs.Option.{IfSome}
 use Rattle.std.specs.Str.{bytes_eq}
@@ -27,15 +27,18 @@ use Rattle.script_lang.proofs.SaidLemmas.{IsFormed, IsSaid, said_by}
 use Rattle.script_lang.specs.Grammar.{line_of}
 use Rattle.script_lang.specs.AnswerTexts.{epoch_text, kind_text, left_text, line, list_text, named_text, no_text, node_text, nodes_head, nodes_text, ok_text, pairs_text, phase_text, place_head, place_text, placed_text, refusal_text, right_text, placed_row_text, sequence_text, sets_text, state_text, tokens_text}
 use Rattle.script_lang.specs.declared.script_line.ScriptLine.{ScriptLine}
-use Rattle.script_lang.specs.declared.script_line.ScriptLine.TheVariants.{Commit, Follower, Deliver, Snapshot, Place, Nodes, Quorum, Local}
+use Rattle.script_lang.specs.declared.script_line.ScriptLine.TheVariants.{Commit, Follower, Deliver, Snapshot, Ask, Give, Place, Nodes, Quorum, Local}
 use Rattle.script_lang.specs.declared.script_line.Target.{Target}
 use Rattle.script_lang.specs.declared.script_line.Target.TheVariants.{Epoch, Named}
+use Rattle.catch_up.specs.Replies.{catch_up_reply, start_epoch}
+use Rattle.catch_up.specs.declared.message.Reply.{Reply as CatchUpReply}
+use Rattle.catch_up_laws.specs.Given.{given_reply}
 use Rattle.epoch_log.specs.Epochs.{entry_at}
 use Rattle.follower_log.specs.Follower.{FollowerState, hand_entry, hand_image}
 use Rattle.follower_log.specs.declared.fault.FollowerFault.{FollowerFault}
 use Rattle.follower_log.specs.declared.took.Took.{Took}
 use Rattle.follower_log.specs.declared.took.Took.TheVariants.{At, Old, Held, Full}
-use Rattle.script_session.specs.Machine.{Reply, SessionState, commit_text, deliver_to, follower_named, follower_reply, handed_text, image_at, image_named, image_of, local_quorums, local_quorums_in, no_epoch, placements, query_text, quorums, reply, reply_of, reply_to, snapshot_to}
+use Rattle.script_session.specs.Machine.{Reply, SessionState, ask_of, asked_reply, asked_text, commit_text, deliver_to, give_to, most_replies, only_answers, reply_numbered, start_word, follower_named, follower_reply, handed_text, image_at, image_named, image_of, local_quorums, local_quorums_in, no_epoch, placements, query_text, quorums, reply, reply_of, reply_to, snapshot_to}
 use Rattle.script_session.specs.declared.session.followers.NamedFollower.{NamedFollower}
 use Rattle.script_session.specs.declared.session.query.Query.TheVariants as query
 use Rattle.session_laws.specs.Shown.{IsOfNoQuorum, Shown, sets_in, shown_by, shown_from, shown_text, word_of}
@@ -184,6 +187,36 @@ snapshot_lines session name f e = by (nat_le e (length (commands_of session.log)
     by true = handed_lines (hand_image f (state_after (commands_of session.log) e)).answer
     by false = no_lines (no_epoch (commands_of session.log)) (epoch_plain (commands_of session.log))
 
+ask_lines : (session : SessionState) (max : ℕ) (f : FollowerState) → AreLines IsOfNoQuorum (ask_of session max f).text
+ask_lines session max f = by (nat_le most_replies (length session.replies))
+  where
+    made : CatchUpReply
+    made = catch_up_reply session.log f.image.epoch max
+
+    word_plain : (o : Option Image) → is_plain (start_word o) ≡ true
+    word_plain None = refl
+    word_plain (Some image) = refl
+
+    number : List ℕ
+    number = decimal (length session.replies + 1)
+
+    asked : AreLines IsOfNoQuorum (asked_text (length session.replies + 1) made)
+    asked =
+        let word : is_plain (number ++ codes " " ++ start_word made.image) ≡ true = plain_joined number (codes " ") (start_word made.image) (plain_decimal (length session.replies + 1)) refl (word_plain made.image) in
+        let start : is_plain (number ++ codes " " ++ start_word made.image ++ codes " " ++ decimal (start_epoch made)) ≡ true =
+        plain_joined (number ++ codes " " ++ start_word made.image) (codes " ") (decimal (start_epoch made)) word refl (plain_decimal (start_epoch made)) in
+        other_line (codes "REPLY " ++ number ++ codes " " ++ start_word made.image ++ codes " " ++ decimal (start_epoch made) ++ codes " entries " ++ decimal (length made.entries))
+        (plain_joined (number ++ codes " " ++ start_word made.image ++ codes " " ++ decimal (start_epoch made)) (codes " entries ") (decimal (length made.entries)) start refl (plain_decimal (length made.entries)))
+        (λ e. omega arith) (λ e. omega arith)
+
+    by : (b : Bool) → AreLines IsOfNoQuorum (if b then only_answers session (no_text (codes "REPLIES-FULL")) else asked_reply session made).text
+    by true = no_lines (codes "REPLIES-FULL") refl
+    by false = asked
+
+give_lines : (session : SessionState) (name : List ℕ) (f : FollowerState) (o : Option CatchUpReply) → AreLines IsOfNoQuorum (give_to session name f o).text
+give_lines session name f None = no_lines (codes "REPLY " ++ decimal (length session.replies)) (plain_decimal (length session.replies))
+give_lines session name f (Some given) = told_lines (codes "AT") (given_reply f given).image.epoch refl (λ e. omega arith) (λ e. omega arith)
+
 -- an image of a target has plain names, and a reason that there is none is plain
 abbrev IsPlainTarget : Result Image (List ℕ) → Type 0
 IsPlainTarget (Ok image) = IsPlainImage image
@@ -254,6 +287,9 @@ other_said session is (Some (Deliver name e)) formed none =
     named_lines session (follower_named session.followers name) (λ f. deliver_to session name f (entry_at session.log e)) (λ f. deliver_lines session name f (entry_at session.log e))
 other_said session is (Some (Snapshot name e)) formed none =
     named_lines session (follower_named session.followers name) (λ f. snapshot_to session name f (image_at (commands_of session.log) e)) (λ f. snapshot_lines session name f e)
+other_said session is (Some (Ask name max)) formed none = named_lines session (follower_named session.followers name) (ask_of session max) (ask_lines session max)
+other_said session is (Some (Give name number)) formed none =
+    named_lines session (follower_named session.followers name) (λ f. give_to session name f (reply_numbered session.replies number)) (λ f. give_lines session name f (reply_numbered session.replies number))
 other_said session is (Some (Place target name)) formed none = placed_query (image_of session target) name (target_plain session target is)
 other_said session is (Some (Nodes target)) formed none = nodes_query (image_of session target) (target_plain session target is)
 other_said session is (Some (Quorum target name t)) formed none = quorum_query (image_of session target) name t (target_plain session target is) none

@@ -1,5 +1,5 @@
 -- What an answer shows: its text, and where its sets come from.
-use Rattle.std.proofs.Common.{◌≡◌, ◌≢◌, ℕ, suc, ◌≤◌, inl, inr, ℤ, List, [], ◌∷◌, get_or, take, length, Option, Some, None, Result, Ok, Err, option_map, option_and_then, codes, refl, sym, ap, ◌∙◌, subst, arith}
+use Rattle.std.proofs.Common.{◌≡◌, ◌≢◌, ℕ, suc, ◌+◌, ◌≤◌, inl, inr, ℤ, Bool, true, false, if◌then◌else◌, List, [], ◌∷◌, ◌++◌, get_or, take, length, Option, Some, None, Result, Ok, Err, option_map, option_and_then, nat_le, codes, decimal, refl, sym, ap, ◌∙◌, subst, arith}
 use Rattle.std.specs.Option.{IfSome}
 use Rattle.std.proofs.lemmas.Option.{none-some}
 use Rattle.cluster_terms.specs.Arc.{IsToken}
@@ -16,20 +16,23 @@ use Rattle.transformations.specs.declared.refusal.Refusal.{Refusal}
 use Rattle.placement_maps.specs.Served.{keyspace_of}
 use Rattle.script_lang.proofs.SaidLemmas.{IsSaid}
 use Rattle.script_lang.specs.Grammar.{line_of}
+use Rattle.catch_up.specs.Replies.{catch_up_reply}
+use Rattle.catch_up.specs.declared.message.Reply.{Reply as CatchUpReply}
+use Rattle.catch_up_laws.specs.Given.{given_reply}
 use Rattle.epoch_log.specs.Epochs.{entry_at}
 use Rattle.follower_log.specs.Follower.{FollowerState, hand_entry, hand_image}
 use Rattle.follower_log.specs.Prefix.{IsImageOf}
 use Rattle.follower_log.specs.declared.fault.FollowerFault.{FollowerFault}
 use Rattle.follower_log.specs.declared.took.Took.{Took}
 use Rattle.follower_log.specs.declared.took.Took.TheVariants.{At, Old, Held, Full}
-use Rattle.script_session.specs.Machine.{Reply, SessionState, commit_text, deliver_to, follower_named, follower_reply, handed_text, image_at, image_of, local_quorums, local_quorums_in, no_epoch, placements, query_text, quorums, reply, reply_of, reply_to, snapshot_to}
+use Rattle.script_session.specs.Machine.{Reply, SessionState, ask_of, asked_reply, asked_text, commit_text, deliver_to, give_to, most_replies, only_answers, reply_numbered, follower_named, follower_reply, handed_text, image_at, image_of, local_quorums, local_quorums_in, no_epoch, placements, query_text, quorums, reply, reply_of, reply_to, snapshot_to}
 use Rattle.script_session.specs.declared.session.followers.NamedFollower.{NamedFollower}
 use Rattle.script_session.specs.declared.session.query.Query.TheVariants as query
 use Rattle.session_laws.specs.Shown.{IsOfNoQuorum, Shown, sets_in, shown_by, shown_from, shown_text}
 use Rattle.script_lang.specs.AnswerTexts.{epoch_text, no_text, nodes_text, ok_text, place_text, quorum_text, refusal_text}
 use Rattle.script_lang.specs.declared.script_line.ScriptLine.{ScriptLine}
 use Rattle.script_lang.specs.declared.script_line.Target.{Target}
-use Rattle.script_lang.specs.declared.script_line.ScriptLine.TheVariants.{Commit, Follower, Deliver, Snapshot, Place, Nodes, Quorum, Local}
+use Rattle.script_lang.specs.declared.script_line.ScriptLine.TheVariants.{Commit, Follower, Deliver, Snapshot, Ask, Give, Place, Nodes, Quorum, Local}
 use Rattle.script_session.proofs.SessionLemmas.{IsSession, image_of_target}
 use Rattle.script_session.proofs.TakenLemmas.{follower_cases}
 
@@ -89,6 +92,8 @@ is_shown session (Some (Commit id c)) is said s shows = absurd (none-some s show
 is_shown session (Some (Follower name)) is said s shows = absurd (none-some s shows)
 is_shown session (Some (Deliver name e)) is said s shows = absurd (none-some s shows)
 is_shown session (Some (Snapshot name e)) is said s shows = absurd (none-some s shows)
+is_shown session (Some (Ask name max)) is said s shows = absurd (none-some s shows)
+is_shown session (Some (Give name number)) is said s shows = absurd (none-some s shows)
 is_shown session (Some (Place target name)) is said s shows = absurd (none-some s shows)
 is_shown session (Some (Nodes target)) is said s shows = absurd (none-some s shows)
 is_shown session (Some (Quorum target name t)) is said s shows = shown_in session target name None t s is said shows
@@ -136,6 +141,8 @@ texts_said session (Some (Commit id c)) s shows = absurd (none-some s shows)
 texts_said session (Some (Follower name)) s shows = absurd (none-some s shows)
 texts_said session (Some (Deliver name e)) s shows = absurd (none-some s shows)
 texts_said session (Some (Snapshot name e)) s shows = absurd (none-some s shows)
+texts_said session (Some (Ask name max)) s shows = absurd (none-some s shows)
+texts_said session (Some (Give name number)) s shows = absurd (none-some s shows)
 texts_said session (Some (Place target name)) s shows = absurd (none-some s shows)
 texts_said session (Some (Nodes target)) s shows = absurd (none-some s shows)
 texts_said session (Some (Quorum target name t)) s shows = quorum_texts (image_of session target) name t s shows
@@ -199,6 +206,20 @@ snapshot_others : (session : SessionState) (name : List ℕ) (f : FollowerState)
 snapshot_others session name f (Err reason) = no_answer reason
 snapshot_others session name f (Ok image) = handed_others (hand_image f image).answer
 
+ask_others : (session : SessionState) (max : ℕ) (f : FollowerState) → IsOfNoQuorum (ask_of session max f).text
+ask_others session max f = by (nat_le most_replies (length session.replies))
+  where
+    made : CatchUpReply
+    made = catch_up_reply session.log f.image.epoch max
+
+    by : (b : Bool) → IsOfNoQuorum (if b then only_answers session (no_text (codes "REPLIES-FULL")) else asked_reply session made).text
+    by true = no_answer (codes "REPLIES-FULL")
+    by false = by_first (asked_text (length session.replies + 1) made) (λ e. omega arith) (λ e. omega arith)
+
+give_others : (session : SessionState) (name : List ℕ) (f : FollowerState) (o : Option CatchUpReply) → IsOfNoQuorum (give_to session name f o).text
+give_others session name f None = no_answer (codes "REPLY " ++ decimal (length session.replies))
+give_others session name f (Some given) = by_first (epoch_text (codes "AT") (given_reply f given).image.epoch) (λ e. omega arith) (λ e. omega arith)
+
 -- a query from an image, or refused
 placed_others : (r : Result Image (List ℕ)) (name : List ℕ) → IsOfNoQuorum (query_text r (query.Place name))
 placed_others (Err reason) name = no_answer reason
@@ -238,6 +259,9 @@ others_said session (Some (Deliver name e)) none =
     named_others session (follower_named session.followers name) (λ f. deliver_to session name f (entry_at session.log e)) (λ f. deliver_others session name f (entry_at session.log e))
 others_said session (Some (Snapshot name e)) none =
     named_others session (follower_named session.followers name) (λ f. snapshot_to session name f (image_at (commands_of session.log) e)) (λ f. snapshot_others session name f (image_at (commands_of session.log) e))
+others_said session (Some (Ask name max)) none = named_others session (follower_named session.followers name) (ask_of session max) (ask_others session max)
+others_said session (Some (Give name number)) none =
+    named_others session (follower_named session.followers name) (λ f. give_to session name f (reply_numbered session.replies number)) (λ f. give_others session name f (reply_numbered session.replies number))
 others_said session (Some (Place target name)) none = placed_others (image_of session target) name
 others_said session (Some (Nodes target)) none = of_nodes_others (image_of session target)
 others_said session (Some (Quorum target name t)) none = quorum_others (image_of session target) name t none

@@ -26,7 +26,7 @@ use Rattle.session_laws.proofs.quorums.ShownAnswers.{IsShownIn, found_sets, is_s
 use Rattle.script_session.specs.Machine.{SessionState, session_after, session_next}
 use Rattle.session_laws.specs.Shown.{AreAdjacent, AskAlike, Shown, ShownMeet, and_shown, sets_in, shown, shown_by}
 
-replications : (h : List Command) → IsFormedHistory h → AllByRecursion HasReplication h
+pub replications : (h : List Command) → IsFormedHistory h → AllByRecursion HasReplication h
 replications h is = all_weaker IsFormed HasReplication formed_replication h is.formed
 
 -- ---- what the history at the end shows

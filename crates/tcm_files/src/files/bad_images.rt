@@ -5,10 +5,8 @@
 //! has any. A movement is told by its kind, its node, the pairs that it takes in, those that it takes out, and its
 //! phase, if it isn't PREPARED. A dash stands for nothing.
 
-use crate::files::running::is_shown;
-use crate::files::told::{add_item, sure_store_of};
+use file_runs::{add_item, is_shown, sure_store_of};
 use std::alloc::Global;
-use std::process::Abort;
 use std::test::Fail;
 
 /// States that break a rule on nodes or on numbers.
@@ -228,18 +226,11 @@ fn state_of(
 }
 
 /// Replays the line of a state, which breaks this rule first.
-fn is_bad<A: Abort>(
-    rt: &A,
-    alloc: Global,
-    name: &str,
-    line: &str,
-    broken: &str,
-) -> Result<(), Fail> {
+fn is_bad(alloc: Global, name: &str, line: &str, broken: &str) -> Result<(), Fail> {
     let mut store = sure_store_of(alloc, None)?;
     store.put("x", line.as_bytes())?;
     let text = format!(in alloc; "REFUSED 1 1 IMAGE {broken}\n")?;
     is_shown(
-        rt,
         alloc,
         name,
         &["replay", "x"],
@@ -268,54 +259,54 @@ fn line_told(alloc: Global, state: &str, movements: &str) -> Result<String, Fail
 }
 
 /// Replays the state of a row.
-fn is_bad_row<A: Abort>(rt: &A, alloc: Global, row: &str) -> Result<(), Fail> {
+fn is_bad_row(alloc: Global, row: &str) -> Result<(), Fail> {
     let (broken, rest) = row.split_once(" | ").ok_or("a rule")?;
     let (name, rest) = rest.split_once(" | ").ok_or("a name")?;
     let (state, movements) = rest.split_once(" | ").unwrap_or((rest, ""));
     let line = line_told(alloc, state, movements)?;
-    is_bad(rt, alloc, name, line.as_str(), broken)
+    is_bad(alloc, name, line.as_str(), broken)
 }
 
 /// Replays the state of each of these rows.
-fn are_bad<A: Abort>(rt: &A, alloc: Global, rows: &str) -> Result<(), Fail> {
+fn are_bad(alloc: Global, rows: &str) -> Result<(), Fail> {
     for row in rows.lines() {
-        is_bad_row(rt, alloc, row)?;
+        is_bad_row(alloc, row)?;
     }
     Ok(())
 }
 
 #[test]
 fn nodes_are_not_valid(rt: HostRuntime) -> Result<(), Fail> {
-    are_bad(&rt, rt.alloc(), NODES)
+    are_bad(rt.alloc(), NODES)
 }
 
 #[test]
 fn rings_are_not_valid(rt: HostRuntime) -> Result<(), Fail> {
-    are_bad(&rt, rt.alloc(), RINGS)?;
-    are_bad(&rt, rt.alloc(), FIRST_RULES)
+    are_bad(rt.alloc(), RINGS)?;
+    are_bad(rt.alloc(), FIRST_RULES)
 }
 
 #[test]
 fn joins_are_not_valid(rt: HostRuntime) -> Result<(), Fail> {
-    are_bad(&rt, rt.alloc(), MOVERS)?;
-    are_bad(&rt, rt.alloc(), JOINS)
+    are_bad(rt.alloc(), MOVERS)?;
+    are_bad(rt.alloc(), JOINS)
 }
 
 #[test]
 fn moves_are_not_valid(rt: HostRuntime) -> Result<(), Fail> {
-    are_bad(&rt, rt.alloc(), MOVES)?;
-    are_bad(&rt, rt.alloc(), LEAVES)
+    are_bad(rt.alloc(), MOVES)?;
+    are_bad(rt.alloc(), LEAVES)
 }
 
 #[test]
 fn replaces_are_not_valid(rt: HostRuntime) -> Result<(), Fail> {
-    are_bad(&rt, rt.alloc(), REPLACES)?;
-    are_bad(&rt, rt.alloc(), LATER_RULES)
+    are_bad(rt.alloc(), REPLACES)?;
+    are_bad(rt.alloc(), LATER_RULES)
 }
 
 #[test]
 fn movements_together_are_not_valid(rt: HostRuntime) -> Result<(), Fail> {
-    are_bad(&rt, rt.alloc(), TOGETHER)
+    are_bad(rt.alloc(), TOGETHER)
 }
 
 /// The name of a large state; the numbers of its nodes and its keyspaces; the number of the pairs of its ring, and how
@@ -404,7 +395,7 @@ fn many_pairs(alloc: Global, count: u32, each: u32) -> Result<String, Fail> {
 }
 
 /// Replays each large state.
-fn limits<A: Abort>(rt: &A, alloc: Global) -> Result<(), Fail> {
+fn limits(alloc: Global) -> Result<(), Fail> {
     for row in &LIMITS {
         let (name, (nodes, keyspaces), (pairs, each), movements, broken) = *row;
         let nodes = many_nodes(alloc, nodes)?;
@@ -418,23 +409,23 @@ fn limits<A: Abort>(rt: &A, alloc: Global) -> Result<(), Fail> {
             keyspaces.as_str(),
             movements,
         )?;
-        is_bad(rt, alloc, name, line.as_str(), broken)?;
+        is_bad(alloc, name, line.as_str(), broken)?;
     }
     Ok(())
 }
 
 /// Replays the join of a node with 257 tokens.
-fn limits_a_join<A: Abort>(rt: &A, alloc: Global) -> Result<(), Fail> {
+fn limits_a_join(alloc: Global) -> Result<(), Fail> {
     let pairs = many_pairs(alloc, 257, 257)?;
     let join = format!(in alloc;
         "{{\"in\":[{pairs}],\"kind\":\"join\",\"node\":1,\"out\":[],\"phase\":\"PREPARED\"}}"
     )?;
     let line = state_of(alloc, ("9", "2"), part_of(b'a'), "", "", join.as_str())?;
-    is_bad(rt, alloc, "257 tokens of a join", line.as_str(), "14 1")
+    is_bad(alloc, "257 tokens of a join", line.as_str(), "14 1")
 }
 
 #[test]
 fn states_are_limited(rt: HostRuntime) -> Result<(), Fail> {
-    limits(&rt, rt.alloc())?;
-    limits_a_join(&rt, rt.alloc())
+    limits(rt.alloc())?;
+    limits_a_join(rt.alloc())
 }

@@ -1,8 +1,7 @@
 //! Lines that break a rule, in a log, in a log without a header and in a file that is replayed.
 
-use crate::files::running::{is_shown, words_in};
-use crate::files::told::{
-    ENTRY_1, HEADER, STATE_0, add_item, bytes_of, keeps_other, sure_store_of,
+use file_runs::{
+    ENTRY_1, HEADER, STATE_0, add_item, bytes_of, is_shown, keeps_other, sure_store_of, words_in,
 };
 use std::alloc::Global;
 use std::process::Abort;
@@ -347,7 +346,7 @@ fn is_kept<A: Abort>(
 ) -> Result<(), Fail> {
     let mut store = sure_store_of(alloc, None)?;
     store.put("x", file)?;
-    is_shown(rt, alloc, name, words, &mut store, wanted)?;
+    is_shown(alloc, name, words, &mut store, wanted)?;
     assert!(rt; store.file("x") == Some(file), "{name}");
     assert!(rt; store.file("y").is_none() && keeps_other(&store), "{name}");
     Ok(())

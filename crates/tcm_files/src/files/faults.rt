@@ -1,7 +1,7 @@
 //! Runs whose source or sink fails at one of its calls.
 
-use crate::files::running::{calls_of, status_of, words_from};
 use cluster_terms::ByteText;
+use file_runs::{calls_of, status_of, words_from};
 use std::alloc::Global;
 use std::test::Fail;
 use tcm_edges::{MemSink, MemSource, SureSink, SureSource, SureStore};

@@ -1,7 +1,6 @@
 //! Runs of `gen`: the summaries of generated scripts.
 
-use crate::files::running::is_shown;
-use crate::files::told::sure_store_of;
+use file_runs::{is_shown, sure_store_of};
 use std::alloc::Global;
 use std::process::Abort;
 use std::test::Fail;
@@ -53,14 +52,7 @@ fn summarizes<A: Abort>(rt: &A, alloc: Global) -> Result<(), Fail> {
     for row in &SUMMARIES {
         let (words, text) = *row;
         let mut store = sure_store_of(alloc, None)?;
-        is_shown(
-            rt,
-            alloc,
-            "a generated script",
-            &words,
-            &mut store,
-            (0, text),
-        )?;
+        is_shown(alloc, "a generated script", &words, &mut store, (0, text))?;
         assert!(rt; store.file("x").is_none());
     }
     Ok(())
@@ -99,26 +91,20 @@ fn summary_by(alloc: Global, start: &str, rounds: u16, locked: u64) -> Result<St
 }
 
 /// Compares what a run prints with a summary.
-fn is_summary<A: Abort>(
-    rt: &A,
-    alloc: Global,
-    start: &str,
-    rounds: u16,
-    summary: &str,
-) -> Result<(), Fail> {
+fn is_summary(alloc: Global, start: &str, rounds: u16, summary: &str) -> Result<(), Fail> {
     let rounds = format!(in alloc; "{rounds}")?;
     let words = ["gen", start, rounds.as_str()];
     let mut store = sure_store_of(alloc, None)?;
-    is_shown(rt, alloc, "locked joins", &words, &mut store, (0, summary))
+    is_shown(alloc, "locked joins", &words, &mut store, (0, summary))
 }
 
 /// Summaries add up, and a second run prints the same bytes.
-fn adds_up<A: Abort>(rt: &A, alloc: Global) -> Result<(), Fail> {
+fn adds_up(alloc: Global) -> Result<(), Fail> {
     for row in &LOCKED {
         let (start, rounds, locked) = *row;
         let summary = summary_by(alloc, start, rounds, locked)?;
         for _run in 0..2 {
-            is_summary(rt, alloc, start, rounds, summary.as_str())?;
+            is_summary(alloc, start, rounds, summary.as_str())?;
         }
     }
     Ok(())
@@ -127,5 +113,5 @@ fn adds_up<A: Abort>(rt: &A, alloc: Global) -> Result<(), Fail> {
 #[test]
 fn generated_scripts_are_counted(rt: HostRuntime) -> Result<(), Fail> {
     summarizes(&rt, rt.alloc())?;
-    adds_up(&rt, rt.alloc())
+    adds_up(rt.alloc())
 }

@@ -1,9 +1,7 @@
 //! A log with four movements: its states, and replays that go on from a state.
 
-use crate::files::running::{is_run, is_shown};
-use crate::files::told::sure_store_of;
+use file_runs::{is_run, is_shown, sure_store_of};
 use std::alloc::Global;
-use std::process::Abort;
 use std::test::Fail;
 use tcm_edges::MemStore;
 
@@ -108,10 +106,9 @@ const LOCKED: [(&str, &str); 4] = [
 const SHOWN: [(&str, &str); 2] = [("27", STATE_27), ("28", STATE_28)];
 
 /// Commits the script, and shows the states before and after the last command.
-fn shows<A: Abort>(rt: &A, alloc: Global, store: &mut MemStore) -> Result<(), Fail> {
+fn shows(alloc: Global, store: &mut MemStore) -> Result<(), Fail> {
     let name = "a log with four movements";
     is_run(
-        rt,
         alloc,
         name,
         &["commit", "x", "c1"],
@@ -122,14 +119,13 @@ fn shows<A: Abort>(rt: &A, alloc: Global, store: &mut MemStore) -> Result<(), Fa
     for row in &SHOWN {
         let (epoch, state) = *row;
         let words = ["snapshot", "x", epoch];
-        is_shown(rt, alloc, epoch, &words, store, (0, state))?;
+        is_shown(alloc, epoch, &words, store, (0, state))?;
     }
     Ok(())
 }
 
 /// Hands an entry to a follower at the earlier state.
-fn is_locked<A: Abort>(
-    rt: &A,
+fn is_locked(
     alloc: Global,
     store: &mut MemStore,
     command: &str,
@@ -139,19 +135,19 @@ fn is_locked<A: Abort>(
     store.put("z", entry.as_bytes())?;
     let text = format!(in alloc; "REFUSED 2 1 COMMAND 28 {refusal}\n")?;
     let words = ["replay", "y", "z"];
-    is_shown(rt, alloc, command, &words, store, (3, text.as_str()))
+    is_shown(alloc, command, &words, store, (3, text.as_str()))
 }
 
 #[test]
 fn movements_go_on_from_a_state(rt: HostRuntime) -> Result<(), Fail> {
     let mut store = sure_store_of(rt.alloc(), None)?;
-    shows(&rt, rt.alloc(), &mut store)?;
+    shows(rt.alloc(), &mut store)?;
     store.put("y", STATE_27.as_bytes())?;
     let words = ["replay", "y", "x"];
-    is_shown(&rt, rt.alloc(), "a replay", &words, &mut store, (0, REPORT))?;
+    is_shown(rt.alloc(), "a replay", &words, &mut store, (0, REPORT))?;
     for row in &LOCKED {
         let (command, refusal) = *row;
-        is_locked(&rt, rt.alloc(), &mut store, command, refusal)?;
+        is_locked(rt.alloc(), &mut store, command, refusal)?;
     }
     Ok(())
 }

@@ -1,31 +1,18 @@
 //! Runs of `replay` over entries and states: reports, lines that are refused, files that are absent or too large, and
 //! stores that fail.
 
-use crate::files::running::{fail_of, is_shown, is_too_large};
-use crate::files::told::{File, bytes_of, holds, put_file, sure_store_of};
-use crate::files::words::USAGE;
+use file_runs::{
+    AT_0, AT_2, AT_3, File, REPLAY, Replayed, USAGE, fail_of, holds, is_shown, is_too_large,
+    put_file, replays, sure_store_of,
+};
 use std::alloc::Global;
 use std::process::Abort;
 use std::test::Fail;
 use tcm_edges::MemStore;
 
-/// The name of a run, the files `x` and `y`, the status, and the first and the further lines that are printed.
-pub type Replayed = (&'static str, File, File, u8, &'static str, &'static str);
-
-/// What reports show of the epochs of the first log.
-pub const AT_0: &str = "NODES 0 0 0\n";
-
+/// What reports show of the epochs 1 and 6 of the first log.
 const AT_1: &str = "NODES 1 1 0\n\
     1 a dc1 r1 REGISTERED -\n";
-
-pub const AT_2: &str = "NODES 2 1 0\n\
-    1 a dc1 r1 JOINED 0\n";
-
-pub const AT_3: &str = "NODES 3 1 0\n\
-    1 a dc1 r1 JOINED 0\n\
-    PLACE 3 ks 2\n\
-    (min,0] read 1 write 1\n\
-    (0,max] read 1 write 1\n";
 
 const AT_6: &str = "NODES 6 2 1\n\
     1 a dc1 r1 JOINED 0\n\
@@ -317,41 +304,13 @@ const ALONE: [(&str, &str, File, u8, &str); 3] = [
     ("unknown-things", "nofile", None, 7, "NO FILE nofile\n"),
 ];
 
-/// The words of a run over the files `x` and `y`.
-const WORDS: [&str; 3] = ["replay", "x", "y"];
-
-/// Whether the file `y` has these contents.
-pub fn holds_second(alloc: Global, store: &MemStore, file: File) -> Result<bool, Fail> {
-    match file {
-        Some(told) => {
-            let bytes = bytes_of(alloc, told)?;
-            Ok(store.file("y") == Some(bytes.as_slice()))
-        }
-        None => Ok(store.file("y").is_none()),
-    }
-}
-
-/// Replays each pair of files. They are unchanged.
-pub fn replays<A: Abort>(rt: &A, alloc: Global, rows: &[Replayed]) -> Result<(), Fail> {
-    for row in rows {
-        let (name, first, second, status, counts, state) = *row;
-        let text = format!(in alloc; "{counts}{state}")?;
-        let mut store = sure_store_of(alloc, first)?;
-        put_file(alloc, &mut store, "y", second)?;
-        is_shown(rt, alloc, name, &WORDS, &mut store, (status, text.as_str()))?;
-        assert!(rt; holds(alloc, &store, first)?, "{name}");
-        assert!(rt; holds_second(alloc, &store, second)?, "{name}");
-    }
-    Ok(())
-}
-
 /// Replays each file alone. It is unchanged.
 fn replays_alone<A: Abort>(rt: &A, alloc: Global) -> Result<(), Fail> {
     for row in &ALONE {
         let (name, named, file, status, text) = *row;
         let mut store = sure_store_of(alloc, file)?;
         let words = ["replay", named];
-        is_shown(rt, alloc, name, &words, &mut store, (status, text))?;
+        is_shown(alloc, name, &words, &mut store, (status, text))?;
         assert!(rt; holds(alloc, &store, file)?, "{name}");
     }
     Ok(())
@@ -370,14 +329,14 @@ fn many_entries(alloc: Global) -> Result<Vec<u8>, Fail> {
 }
 
 /// Of 1,025 entries past the next epoch one doesn't wait.
-fn fills<A: Abort>(rt: &A, alloc: Global) -> Result<(), Fail> {
+fn fills(alloc: Global) -> Result<(), Fail> {
     let mut store = sure_store_of(alloc, None)?;
     store.put("x", many_entries(alloc)?.as_slice())?;
     put_file(alloc, &mut store, "y", Some("1"))?;
     let text = "REPLAY 1026 at 1 waiting 1024 full 1\n\
         NODES 1 1 0\n\
         1 a dc1 r1 REGISTERED -\n";
-    is_shown(rt, alloc, "1,025 entries", &WORDS, &mut store, (0, text))
+    is_shown(alloc, "1,025 entries", &REPLAY, &mut store, (0, text))
 }
 
 /// The words of a replay of the file `x`, this many times.
@@ -400,29 +359,22 @@ const COUNTS: [(usize, u8, &str); 2] = [
 ];
 
 /// A replay has at most 64 files.
-fn limits_files<A: Abort>(rt: &A, alloc: Global) -> Result<(), Fail> {
+fn limits_files(alloc: Global) -> Result<(), Fail> {
     for row in &COUNTS {
         let (count, status, text) = *row;
         let mut store = sure_store_of(alloc, Some("1"))?;
         let words = times(alloc, count)?;
-        is_shown(
-            rt,
-            alloc,
-            "64 or 65 files",
-            &words,
-            &mut store,
-            (status, text),
-        )?;
+        is_shown(alloc, "64 or 65 files", &words, &mut store, (status, text))?;
     }
     Ok(())
 }
 
 #[test]
 fn files_are_replayed(rt: HostRuntime) -> Result<(), Fail> {
-    replays(&rt, rt.alloc(), &REPLAYS)?;
-    replays(&rt, rt.alloc(), &STATES)?;
-    fills(&rt, rt.alloc())?;
-    limits_files(&rt, rt.alloc())
+    replays(rt.alloc(), &REPLAYS)?;
+    replays(rt.alloc(), &STATES)?;
+    fills(rt.alloc())?;
+    limits_files(rt.alloc())
 }
 
 #[test]
@@ -431,15 +383,15 @@ fn single_files_are_replayed(rt: HostRuntime) -> Result<(), Fail> {
 }
 
 /// A store that fails at its second load ends a replay of two files, and nothing is printed.
-fn stops<A: Abort>(rt: &A, alloc: Global) -> Result<(), Fail> {
+fn stops(alloc: Global) -> Result<(), Fail> {
     let mut store = MemStore::new(alloc, fail_of(alloc, (2, 0))?);
     put_file(alloc, &mut store, "x", Some("1"))?;
     put_file(alloc, &mut store, "y", Some("2"))?;
-    is_shown(rt, alloc, "a load that fails", &WORDS, &mut store, (6, ""))
+    is_shown(alloc, "a load that fails", &REPLAY, &mut store, (6, ""))
 }
 
 #[test]
 fn replays_stop(rt: HostRuntime) -> Result<(), Fail> {
-    stops(&rt, rt.alloc())?;
-    is_too_large(&rt, rt.alloc(), &WORDS)
+    stops(rt.alloc())?;
+    is_too_large(rt.alloc(), &REPLAY)
 }

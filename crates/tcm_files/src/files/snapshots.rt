@@ -1,7 +1,8 @@
 //! Runs of `snapshot`: the state of a log at an epoch, logs that are refused, and logs that have a state in them.
 
-use crate::files::running::{fail_of, is_run, is_shown, is_too_large};
-use crate::files::told::{File, bytes_of, holds, store_of, sure_store_of};
+use file_runs::{
+    File, bytes_of, fail_of, holds, is_run, is_shown, is_too_large, store_of, sure_store_of,
+};
 use std::alloc::Global;
 use std::process::Abort;
 use std::str::from_utf8;
@@ -122,7 +123,7 @@ fn is_asked<A: Abort>(
 ) -> Result<(), Fail> {
     let mut store = sure_store_of(alloc, file)?;
     let words = ["snapshot", "x", epoch];
-    is_shown(rt, alloc, name, &words, &mut store, wanted)?;
+    is_shown(alloc, name, &words, &mut store, wanted)?;
     assert!(rt; holds(alloc, &store, file)?, "{name}");
     Ok(())
 }
@@ -179,7 +180,7 @@ fn is_refused<A: Abort>(rt: &A, alloc: Global, log: &'static str, text: &str) ->
     let mut store = sure_store_of(alloc, Some(log))?;
     let words = ["commit", "x", "c1"];
     let script = "commit 9 register z dc1 r1\n";
-    is_run(rt, alloc, log, &words, script, &mut store, (3, text))?;
+    is_run(alloc, log, &words, script, &mut store, (3, text))?;
     assert!(rt; holds(alloc, &store, Some(log))?, "{log}");
     Ok(())
 }
@@ -208,7 +209,7 @@ fn states_are_not_shown(rt: HostRuntime) -> Result<(), Fail> {
     let fails = fail_of(rt.alloc(), (1, 0))?;
     let mut store = store_of(rt.alloc(), fails, Some("H1"))?;
     let name = "a load that fails";
-    is_shown(&rt, rt.alloc(), name, &WORDS, &mut store, (6, ""))?;
+    is_shown(rt.alloc(), name, &WORDS, &mut store, (6, ""))?;
     assert!(rt; holds(rt.alloc(), &store, Some("H1"))?);
-    is_too_large(&rt, rt.alloc(), &WORDS)
+    is_too_large(rt.alloc(), &WORDS)
 }

@@ -1,9 +1,10 @@
 //! Runs of `commit x c1` that stop at a call of the outside, each followed by a run of the same script over what it
 //! left.
 
-use crate::files::running::{calls_of, fail_of, status_of, words_from};
-use crate::files::told::{File, bytes_of, keeps_other, store_of, sure_store_of};
 use cluster_terms::ByteText;
+use file_runs::{
+    File, bytes_of, calls_of, fail_of, keeps_other, status_of, store_of, sure_store_of, words_from,
+};
 use std::alloc::Global;
 use std::process::Abort;
 use std::test::Fail;

@@ -1,12 +1,7 @@
 //! Words that name no command.
 
-use crate::files::running::is_shown;
-use crate::files::told::{holds, sure_store_of};
+use file_runs::{USAGE, holds, is_shown, sure_store_of};
 use std::test::Fail;
-
-/// The line that is printed for other words.
-pub const USAGE: &str =
-    "usage: tcm commit [LOG CLUSTER] | replay FILE.. | snapshot LOG E | gen START N | mend2 OLD NEW CLUSTER | cms LOG FROM TO\n";
 
 /// Words that name no command.
 const OTHER_WORDS: [&[&str]; 51] = [
@@ -67,14 +62,7 @@ const OTHER_WORDS: [&[&str]; 51] = [
 fn other_words_are_answered_by_the_usage(rt: HostRuntime) -> Result<(), Fail> {
     for words in &OTHER_WORDS {
         let mut store = sure_store_of(rt.alloc(), Some("1"))?;
-        is_shown(
-            &rt,
-            rt.alloc(),
-            "other words",
-            words,
-            &mut store,
-            (2, USAGE),
-        )?;
+        is_shown(rt.alloc(), "other words", words, &mut store, (2, USAGE))?;
         assert!(rt; holds(rt.alloc(), &store, Some("1"))?);
     }
     Ok(())

@@ -1,25 +1,10 @@
 //! Scripts that reach the limits of nodes, tokens, keyspaces, epochs and waiting entries, and queries of epochs near
 //! those whose images are kept.
 
-use crate::tests::running::{accepted, ran};
+use crate::tests::running::{accepted, is_answered};
 use std::alloc::Global;
 use std::ops::Range;
-use std::process::Abort;
 use std::test::Fail;
-use tcm_session::Status;
-
-/// Runs a script, and compares the printed bytes with the answers.
-fn is_answered<A: Abort>(
-    rt: &A,
-    alloc: Global,
-    script: &String,
-    answers: &String,
-) -> Result<(), Fail> {
-    let (status, printed) = ran(alloc, "commit", script.as_bytes(), 65_536)?;
-    assert_eq!(rt; status, Status(0));
-    assert_eq!(rt; printed.as_slice(), answers.as_bytes());
-    Ok(())
-}
 
 #[test]
 fn nodes_end_at_1024(rt: HostRuntime) -> Result<(), Fail> {

@@ -382,7 +382,7 @@ fn other_words_are_answered_by_the_usage(rt: HostRuntime) -> Result<(), Fail> {
         assert_eq!(rt; status, Status(2));
         assert_eq!(rt;
             printed.as_slice(),
-            b"usage: tcm commit [LOG CLUSTER] | replay FILE.. | snapshot LOG E | gen START N | mend2 OLD NEW CLUSTER | cms LOG FROM TO\n".as_slice()
+            b"usage: tcm commit [LOG CLUSTER] | replay FILE.. | snapshot LOG E | gen START N | mend2 OLD NEW CLUSTER | plan LOG NODE KS | cms LOG FROM TO\n".as_slice()
         );
     }
     Ok(())

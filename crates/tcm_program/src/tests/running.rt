@@ -39,6 +39,19 @@ pub fn ran(
     Ok((status, printed))
 }
 
+/// Runs a script, and compares the printed bytes with the answers.
+pub fn is_answered<A: Abort>(
+    rt: &A,
+    alloc: Global,
+    script: &String,
+    answers: &String,
+) -> Result<(), Fail> {
+    let (status, printed) = ran(alloc, "commit", script.as_bytes(), 65_536)?;
+    assert_eq!(rt; status, Status(0));
+    assert_eq!(rt; printed.as_slice(), answers.as_bytes());
+    Ok(())
+}
+
 /// The answers to commits that are accepted as the epochs from `first` to `last`.
 pub fn accepted(alloc: Global, first: u64, last: u64) -> Result<String, Fail> {
     let mut text = String::new(alloc);

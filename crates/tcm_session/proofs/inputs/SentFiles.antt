@@ -29,7 +29,8 @@ use Rattle.session_laws.proofs.LinesLemmas.{HasNoFeed-lines, whole_lines-none}
 use Rattle.session_laws.proofs.texts.PlainEntries.{plain_data}
 use Rattle.session_laws.proofs.texts.PlainTexts.{HasNoFeed-plain}
 use Rattle.tcm_session.proofs.log_files.LogLines.{FitAdded, entries_plain, entry_lines-texts, entry_plain, fit_reply, lines_of_lines, log_from-append, log_reads}
-use Rattle.tcm_session.proofs.inputs.SentLemmas.{comes_to_same, log_after as log_grows}
+use Rattle.session_laws.proofs.AskedReplies.{log_grows}
+use Rattle.tcm_session.proofs.inputs.SentLemmas.{comes_to_same}
 use Rattle.tcm_session.proofs.runs.StopLemmas.{entry_lines-append, front_of_nothing}
 
 -- ---- what a log file keeps when a script begins: the line of a header, and the lines of a log

@@ -1,5 +1,5 @@
 -- A script that is sent again: its commits find their entries in the log.
-use Rattle.std.proofs.Common.{◌≡◌, ℕ, suc, zero, ◌+◌, ◌==◌, length, Bool, true, false, if◌then◌else◌, List, [], ◌∷◌, ◌++◌, take, Option, Some, None, Result, Ok, Err, IsOk, true≢false, refl, sym, ap, ◌∙◌, subst, append_assoc, append-nil}
+use Rattle.std.proofs.Common.{◌≡◌, ℕ, suc, zero, ◌+◌, ◌==◌, length, Bool, true, false, if◌then◌else◌, List, [], ◌∷◌, ◌++◌, take, Option, Some, None, Result, Ok, Err, IsOk, nat_le, codes, true≢false, refl, sym, ap, ◌∙◌, subst, append-nil}
 use Rattle.std.proofs.lemmas.Bool.{eq-eqb}
 use Rattle.std.proofs.lemmas.List.Folds.{find-append}
 use Rattle.std.specs.Option.{option_or}
@@ -12,14 +12,18 @@ use Rattle.transformations.specs.declared.entry.Entry.{Entry}
 use Rattle.transformations.specs.declared.image.Image.{Image}
 use Rattle.transformations.specs.declared.refusal.Refusal.{Refusal}
 use Rattle.transformations.specs.declared.refusal.Refusal.TheVariants.{IdReused}
+use Rattle.catch_up.specs.Replies.{catch_up_reply}
+use Rattle.catch_up.specs.declared.message.Reply.{Reply as CatchUpReply}
 use Rattle.epoch_log.specs.Epochs.{entry_at}
 use Rattle.follower_log.specs.Follower.{FollowerState}
+use Rattle.script_lang.specs.AnswerTexts.{no_text}
 use Rattle.script_lang.specs.Grammar.{line_of}
 use Rattle.script_lang.specs.declared.script_line.ScriptLine.{ScriptLine}
-use Rattle.script_lang.specs.declared.script_line.ScriptLine.TheVariants.{Commit, Follower, Deliver, Snapshot, Place, Nodes, Quorum, Local}
-use Rattle.script_session.specs.Machine.{Reply, SessionState, commit_text, deliver_to, entries_added, follower_named, image_at, reply, reply_of, reply_to, session_after, session_next, session_over, snapshot_to}
+use Rattle.script_lang.specs.declared.script_line.ScriptLine.TheVariants.{Commit, Follower, Deliver, Snapshot, Ask, Give, Place, Nodes, Quorum, Local}
+use Rattle.script_session.specs.Machine.{Reply, SessionState, asked_reply, commit_text, deliver_to, entries_added, follower_named, give_to, image_at, most_replies, only_answers, reply, reply_numbered, reply_of, reply_to, session_after, session_next, session_over, snapshot_to}
 use Rattle.tcm_session.specs.SentAgain.{AreAccepted, ComesToSame, IsAccepted, answer_of_commit, commit_answers, log_at}
 use Rattle.script_session.specs.declared.session.followers.NamedFollower.{NamedFollower}
+use Rattle.session_laws.proofs.AskedReplies.{log_grows}
 use Rattle.script_session.proofs.TakenLemmas.{follower_cases}
 
 -- ---- an entry that is in the log
@@ -100,6 +104,21 @@ none_added s (Some (Snapshot name epoch)) e = by (follower_named s.followers nam
     by : (o : Option NamedFollower) → (reply_of s o (λ f. snapshot_to s name f (image_at (commands_of s.log) epoch))).added ≡ []
     by None = refl
     by (Some f) = each f.follower (image_at (commands_of s.log) epoch)
+none_added s (Some (Ask name max)) e = by (follower_named s.followers name) (nat_le most_replies (length s.replies))
+  where
+    by : (o : Option NamedFollower) (b : Bool) → (reply_of s o (λ f. if b then only_answers s (no_text (codes "REPLIES-FULL")) else asked_reply s (catch_up_reply s.log f.image.epoch max))).added ≡ []
+    by None b = refl
+    by (Some f) true = refl
+    by (Some f) false = refl
+none_added s (Some (Give name number)) e = by (follower_named s.followers name)
+  where
+    each : (f : FollowerState) (o : Option CatchUpReply) → (give_to s name f o).added ≡ []
+    each f None = refl
+    each f (Some given) = refl
+
+    by : (o : Option NamedFollower) → (reply_of s o (λ f. give_to s name f (reply_numbered s.replies number))).added ≡ []
+    by None = refl
+    by (Some f) = each f.follower (reply_numbered s.replies number)
 none_added s (Some (Place target name)) e = refl
 none_added s (Some (Nodes target)) e = refl
 none_added s (Some (Quorum target name t)) e = refl
@@ -116,6 +135,8 @@ same_reply s t None same = (record { answer = refl }, refl)
 same_reply s t (Some (Follower name)) same = (record { answer = refl }, none_added t (Some (Follower name)) refl ∙ sym (none_added s (Some (Follower name)) refl))
 same_reply s t (Some (Deliver name epoch)) same = (record { answer = refl }, none_added t (Some (Deliver name epoch)) refl ∙ sym (none_added s (Some (Deliver name epoch)) refl))
 same_reply s t (Some (Snapshot name epoch)) same = (record { answer = refl }, none_added t (Some (Snapshot name epoch)) refl ∙ sym (none_added s (Some (Snapshot name epoch)) refl))
+same_reply s t (Some (Ask name max)) same = (record { answer = refl }, none_added t (Some (Ask name max)) refl ∙ sym (none_added s (Some (Ask name max)) refl))
+same_reply s t (Some (Give name number)) same = (record { answer = refl }, none_added t (Some (Give name number)) refl ∙ sym (none_added s (Some (Give name number)) refl))
 same_reply s t (Some (Place target name)) same = (record { answer = refl }, refl)
 same_reply s t (Some (Nodes target)) same = (record { answer = refl }, refl)
 same_reply s t (Some (Quorum target name k)) same = (record { answer = refl }, refl)
@@ -132,17 +153,14 @@ again_reply s t None more ok is = (record { answer = refl }, refl)
 again_reply s t (Some (Follower name)) more ok is = (record { answer = refl }, none_added t (Some (Follower name)) refl)
 again_reply s t (Some (Deliver name epoch)) more ok is = (record { answer = refl }, none_added t (Some (Deliver name epoch)) refl)
 again_reply s t (Some (Snapshot name epoch)) more ok is = (record { answer = refl }, none_added t (Some (Snapshot name epoch)) refl)
+again_reply s t (Some (Ask name max)) more ok is = (record { answer = refl }, none_added t (Some (Ask name max)) refl)
+again_reply s t (Some (Give name number)) more ok is = (record { answer = refl }, none_added t (Some (Give name number)) refl)
 again_reply s t (Some (Place target name)) more ok is = (record { answer = refl }, refl)
 again_reply s t (Some (Nodes target)) more ok is = (record { answer = refl }, refl)
 again_reply s t (Some (Quorum target name k)) more ok is = (record { answer = refl }, refl)
 again_reply s t (Some (Local target name dc k)) more ok is = (record { answer = refl }, refl)
 
 -- ---- lines
-
--- the log goes on
-pub log_after : (s : SessionState) (lines : List (List ℕ)) → (session_after s lines).log ≡ s.log ++ entries_added s lines
-log_after s [] = sym (append-nil s.log)
-log_after s (bytes ∷ lines) = log_after (session_next s bytes) lines ∙ append_assoc s.log (reply s bytes).added (entries_added (session_next s bytes) lines)
 
 -- sessions of which one is as far as the other is after the first n lines
 record AreAlike (s t : SessionState) (lines : List (List ℕ)) : Type 0 where
@@ -163,7 +181,7 @@ again_lines zero lines s t ok is = same_lines lines s t is
 again_lines (suc n) [] s t ok is = same_lines [] s t is
 again_lines (suc n) (bytes ∷ lines) s t ok is =
     let next = session_next s bytes in
-    let one = again_reply s t (line_of bytes) (entries_added next (take n lines)) ok.0 (is ∙ log_after next (take n lines)) in
+    let one = again_reply s t (line_of bytes) (entries_added next (take n lines)) ok.0 (is ∙ log_grows next (take n lines)) in
     let rest = again_lines n lines next (session_next t bytes) ok.1 (ap (λ es. t.log ++ es) one.1 ∙ append-nil t.log ∙ is) in
     record { answers = (λ i. one.0.answer i ++ rest.answers i); logs = rest.logs }
 

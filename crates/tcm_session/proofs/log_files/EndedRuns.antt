@@ -1,26 +1,18 @@
 -- From the end of a request that reads no input to a run.
-use Rattle.std.proofs.Common.{arith, ◌≡◌, ◌≢◌, ℕ, Bool, true, false, if◌then◌else◌, List, [], ◌∷◌, Option, None, Some, Result, Ok, Err, IfOk, IsErrAnd, suc, ◌+◌, length, nat_le, refl, sym, ap, ◌∙◌, subst}
+use Rattle.std.proofs.Common.{arith, ◌≡◌, ◌≢◌, ℕ, List, [], ◌∷◌, Option, None, Some, Result, Ok, Err, IfOk, IsErrAnd, suc, ◌+◌, refl, sym, ap, subst}
 use Rattle.tcm_edges.proofs.OwedLemmas.{WritesPrefix-refl}
-use Rattle.tcm_edges.specs.Files.{Files, IsLoad, file_of, loaded_of}
+use Rattle.tcm_edges.specs.Files.{Files, file_of, loaded_of}
 use Rattle.tcm_edges.specs.declared.store.Loaded.{Loaded}
 use Rattle.tcm_edges.specs.declared.store.Loaded.TheVariants as loaded
 use Rattle.tcm_session.specs.Counts.{Counts}
 use Rattle.tcm_session.specs.code.Endings.{status_by}
 use Rattle.tcm_session.specs.code.RunFaults.{counts_after}
 use Rattle.tcm_session.specs.Outcome.{ended_outcome}
-use Rattle.transformations.specs.History.{state_after}
-use Rattle.transformations.specs.Log.{commands_of}
-use Rattle.transformations.specs.declared.entry.Entry.{Entry}
-use Rattle.wire_json.specs.SnapshotTexts.{snapshot_line}
-use Rattle.script_lang.specs.AnswerTexts.{no_text}
-use Rattle.script_session.specs.LogFiles.{log_of}
-use Rattle.script_session.specs.Machine.{no_epoch}
 use Rattle.tcm_session.specs.Left.{LeavesFiles}
 use Rattle.tcm_session.specs.Limits.{input_limit}
 use Rattle.script_session.specs.Lines.{whole_lines}
 use Rattle.tcm_session.specs.files.Replay.{ending_of, files_replayed, lines_replayed, loaded_replayed, nothing_replayed, replay_ending, then_replayed, unless_ended}
 use Rattle.tcm_session.specs.code.Replays.{EndsSo}
-use Rattle.tcm_session.specs.files.StateLine.{file_ending, log_ending, snapshot_ending, state_ending}
 use Rattle.tcm_session.specs.Run.{AreSeen, IsFinal}
 use Rattle.tcm_session.specs.code.Runs.{IsEnd, MayHold, RunsFor, RunsSeen, Writes}
 use Rattle.tcm_session.specs.declared.ending.Ending.{Ending}
@@ -29,8 +21,8 @@ use Rattle.tcm_session.specs.declared.run_fault.RunFault.TheVariants as fault
 use Rattle.tcm_session.specs.declared.status.Status.{Status}
 use Rattle.script_session.specs.declared.refused_line.RefusedLine.{RefusedLine}
 use Rattle.tcm_session.specs.declared.files.replay.Replay.{Replay}
-use Rattle.tcm_session.proofs.log_files.HeldFiles.{behind_held, behind_loaded, files_behind}
-use Rattle.tcm_session.proofs.log_files.ReplayLemmas.{seen_any, seen_held}
+use Rattle.tcm_session.proofs.log_files.HeldFiles.{files_behind}
+use Rattle.tcm_session.proofs.log_files.ReplayLemmas.{seen_any}
 use Rattle.tcm_session.proofs.runs.RunLemmas.{final_end, runs_early, runs_err, runs_unread}
 
 -- ---- a replay
@@ -65,40 +57,6 @@ replay_ends names seen = by (files_replayed 1 nothing_replayed names seen) (file
     by : (r : Result Replay Ending) → EndsRun r → IsEnd (ending_of r).status
     by (Ok replay) ends = refl
     by (Err ending) ends = ends.0
-
--- ---- the state of a log
-
-state_ends : (e : ℕ) (log : List Entry) → IsEnd (state_ending e log).status
-state_ends e log = by (nat_le e (length log))
-  where
-    at_epoch : Bool → Ending
-    at_epoch b = if b then record { status = 0; text = snapshot_line (state_after (commands_of log) e) } else record { status = 7; text = no_text (no_epoch (commands_of log)) }
-
-    by : (b : Bool) → IsEnd (at_epoch b).status
-    by true = refl
-    by false = refl
-
-log_ends : (e : ℕ) (r : Result (List Entry) RefusedLine) → IsEnd (log_ending e r).status
-log_ends e (Ok log) = state_ends e log
-log_ends e (Err refused) = refl
-
-pub snapshot_ends : (name : List ℕ) (e : ℕ) (seen : ℕ → Files) → IsEnd (snapshot_ending name e seen).status
-snapshot_ends name e seen = by (loaded_of (file_of (seen 0) name) input_limit)
-  where
-    by : (it : Loaded) → IsEnd (file_ending name e it).status
-    by loaded.Absent = refl
-    by (loaded.TooLarge size) = refl
-    by (loaded.Bytes file) = log_ends e (log_of file)
-
--- the file is loaded, and the end is that of its log
-pub log_shown : (name : List ℕ) (e : ℕ) (files : Option Files) (it : Loaded) (ending : Ending) → IsLoad files name input_limit it → ending ≡ file_ending name e it → EndsSo (snapshot_ending name e) ending files
-log_shown name e files it ending load is =
-    let behind = files_behind files name load.file in
-    record {
-      seen = λ _. behind;
-      held = seen_held files behind (behind_held files name load.file);
-      is = is ∙ ap (file_ending name e) (behind_loaded files name input_limit it load);
-    }
 
 -- ---- a run
 

@@ -47,7 +47,7 @@ module _ (first : ℕ) (lines : List ℕ) (session session' : SessionState) (res
           let log : session'.log ≡ session.log ++ entry ∷ [] = ap (λ (s : SessionState). s.log) is in
           record {
             makes = next ∙ ap (λ x. log_from first x (whole_lines more)) (sym log);
-            over = is ∙ ap (λ (s : SessionState). record { log = session.log ++ entry ∷ []; followers = s.followers }) so_far.over ∙ ap session_over (sym log);
+            over = is ∙ ap (λ (s : SessionState). record { log = session.log ++ entry ∷ []; followers = s.followers; replies = s.replies }) so_far.over ∙ ap session_over (sym log);
             opened = so_far.opened ∙ ap open_line e ∙ open_line-line l more plain;
           }
       by (Err cause) next is = absurd is

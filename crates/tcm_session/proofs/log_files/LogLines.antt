@@ -16,11 +16,11 @@ use Rattle.wire_json.proofs.entries.EntriesReadBack.{entry_reads_back}
 use Rattle.wire_json.specs.Entries.{HasValues, IsEntry}
 use Rattle.wire_json.specs.EntryTexts.{entry_data, entry_line, entry_text}
 use Rattle.serde_json.specs.Written.{compact_text}
-use Rattle.script_lang.proofs.SaidLemmas.{tokens_by}
-use Rattle.script_lang.specs.Grammar.{HasTokens, line_of}
+use Rattle.script_lang.proofs.SaidLemmas.{in_range_by}
+use Rattle.script_lang.specs.Grammar.{IsInRange, line_of}
 use Rattle.script_lang.specs.AnswerTexts.{line}
 use Rattle.script_lang.specs.declared.script_line.ScriptLine.{ScriptLine}
-use Rattle.script_lang.specs.declared.script_line.ScriptLine.TheVariants.{Commit, Follower, Deliver, Snapshot, Place, Nodes, Quorum, Local}
+use Rattle.script_lang.specs.declared.script_line.ScriptLine.TheVariants.{Commit, Follower, Deliver, Snapshot, Ask, Give, Place, Nodes, Quorum, Local}
 use Rattle.script_session.specs.Lines.{HasNoFeed, whole_lines}
 use Rattle.script_session.specs.LogFiles.{command_refused, entry_cause, entry_lines, entry_read, first_cause, goes_on, id_again, log_from, next_entry, unless_refused, wrong_epoch}
 use Rattle.script_session.specs.Machine.{SessionState, entries_added, reply, reply_to, session_after, session_next}
@@ -78,12 +78,14 @@ fit_committed log id c below values right = by (entry_with_id log id) refl
 fit_none : (log : List Entry) (added : List Entry) → added ≡ [] → FitAdded log added
 fit_none log added none = subst (FitAdded log) (sym none) tt
 
-fit_said : (s : SessionState) (said : Option ScriptLine) → IfSome said HasTokens → IfSome said FitsEntry → FitAdded s.log (reply_to s said).added
+fit_said : (s : SessionState) (said : Option ScriptLine) → IfSome said IsInRange → IfSome said FitsEntry → FitAdded s.log (reply_to s said).added
 fit_said s None right fits = tt
 fit_said s (Some (Commit id c)) right fits = fit_committed s.log id c fits.0 fits.1 right
 fit_said s (Some (Follower name)) right fits = fit_none s.log _ (none_added s (Some (Follower name)) refl)
 fit_said s (Some (Deliver name epoch)) right fits = fit_none s.log _ (none_added s (Some (Deliver name epoch)) refl)
 fit_said s (Some (Snapshot name epoch)) right fits = fit_none s.log _ (none_added s (Some (Snapshot name epoch)) refl)
+fit_said s (Some (Ask name max)) right fits = fit_none s.log _ (none_added s (Some (Ask name max)) refl)
+fit_said s (Some (Give name number)) right fits = fit_none s.log _ (none_added s (Some (Give name number)) refl)
 fit_said s (Some (Place target name)) right fits = tt
 fit_said s (Some (Nodes target)) right fits = tt
 fit_said s (Some (Quorum target name t)) right fits = tt
@@ -91,7 +93,7 @@ fit_said s (Some (Local target name dc t)) right fits = tt
 
 pub fit_reply : (s : SessionState) (bytes : List ℕ) → FitAdded s.log (reply s bytes).added
 unfolding reply
-fit_reply s bytes = fit_said s (line_of bytes) (tokens_by bytes) (fits_by bytes)
+fit_reply s bytes = fit_said s (line_of bytes) (in_range_by bytes) (fits_by bytes)
 
 -- ---- its line
 

@@ -1,12 +1,9 @@
--- What `cms` prints: no line of it begins with the word of an answer with quorums.
-use Rattle.std.proofs.Common.{◌≡◌, ◌≢◌, ℕ, true, List, [], ◌∷◌, ◌++◌, length, Option, None, Some, Result, Ok, Err, codes, decimal, refl, arith}
-use Rattle.tcm_edges.specs.Files.{Files, file_of, loaded_of}
-use Rattle.tcm_edges.specs.declared.store.Loaded.{Loaded}
-use Rattle.tcm_edges.specs.declared.store.Loaded.TheVariants as loaded
+-- The end of `cms`: it is final, and no line of it begins with the word of an answer with quorums.
+use Rattle.std.proofs.Common.{◌≡◌, ◌≢◌, ℕ, true, List, [], ◌∷◌, ◌++◌, length, Option, None, Some, codes, decimal, refl, arith}
+use Rattle.tcm_edges.specs.Files.{Files}
 use Rattle.node_sets.specs.NodeSets.{without}
 use Rattle.transformations.specs.History.{state_after}
 use Rattle.transformations.specs.Log.{commands_of}
-use Rattle.transformations.specs.declared.entry.Entry.{Entry}
 use Rattle.transformations.specs.declared.image.Image.{Image}
 use Rattle.cms_members.specs.Majority.{majority_of}
 use Rattle.cms_members.specs.Route.{route_of}
@@ -14,16 +11,13 @@ use Rattle.cms_members.specs.Service.{Service, service_after, service_of}
 use Rattle.cms_members.specs.declared.change.Change.{Change}
 use Rattle.cms_members.specs.declared.change.Change.TheVariants.{Start, Finish, Stop, Remove}
 use Rattle.script_lang.specs.AnswerTexts.{list_text}
-use Rattle.script_session.specs.LogFiles.{log_of}
-use Rattle.script_session.specs.declared.refused_line.RefusedLine.{RefusedLine}
 use Rattle.session_laws.specs.Shown.{IsOfNoQuorum}
-use Rattle.session_laws.proofs.FileLogs.{refused_lines}
 use Rattle.session_laws.proofs.quorums.AnswerLines.{other_line}
 use Rattle.session_laws.proofs.texts.PlainTexts.{is_plain, plain_both, plain_decimal, plain_joined, plain_list}
 use Rattle.session_laws.proofs.texts.WholeLines.{AreLines, AreLines-append, AreLines-nil}
-use Rattle.tcm_session.specs.Limits.{input_limit}
-use Rattle.tcm_session.specs.files.MemberRoute.{change_line, change_lines, change_text, file_route, first_unjoined, line_and_more, log_route, needs_text, route_ending, route_head, route_in, route_text, route_unless}
-use Rattle.tcm_session.proofs.printed.PlainReplays.{too_large_lines}
+use Rattle.tcm_session.specs.code.Runs.{IsEnd}
+use Rattle.tcm_session.specs.files.MemberRoute.{change_line, change_lines, change_text, first_unjoined, line_and_more, log_route, needs_text, route_ending, route_head, route_in, route_text, route_unless}
+use Rattle.tcm_session.proofs.log_files.LookedRuns.{looked_ends, looked_lines}
 
 needs_plain : (voting : List ℕ) → is_plain (needs_text voting) ≡ true
 needs_plain voting = plain_joined (codes " needs " ++ decimal (majority_of voting)) (codes " of ") (list_text voting) (plain_decimal (majority_of voting)) refl (plain_list voting)
@@ -61,15 +55,17 @@ image_lines from to image = by (first_unjoined image (without to from))
     by None other = text_lines from to
     by (Some n) other = absurd (other refl)
 
-log_lines : (from to file : List ℕ) (r : Result (List Entry) RefusedLine) → log_of file ≡ r → (log_route from to r).status ≢ 7 → AreLines IsOfNoQuorum (log_route from to r).text
-log_lines from to file (Ok log) is other = image_lines from to (state_after (commands_of log) (length log)) other
-log_lines from to file (Err refused) is other = refused_lines None file refused tt is
-
 -- the lines of the route, unless the name of an absent file or a node that isn't JOINED is printed
 pub route_lines : (name from to : List ℕ) (seen : ℕ → Files) → (route_ending name from to seen).status ≢ 7 → AreLines IsOfNoQuorum (route_ending name from to seen).text
-route_lines name from to seen = by (loaded_of (file_of (seen 0) name) input_limit)
+route_lines name from to seen = looked_lines (log_route from to) (λ log. image_lines from to (state_after (commands_of log) (length log))) name seen
+
+-- the end is final
+image_ends : (from to : List ℕ) (image : Image) → IsEnd (route_in from to image).status
+image_ends from to image = by (first_unjoined image (without to from))
   where
-    by : (it : Loaded) → (file_route name from to it).status ≢ 7 → AreLines IsOfNoQuorum (file_route name from to it).text
-    by loaded.Absent other = absurd (other refl)
-    by (loaded.TooLarge size) other = too_large_lines
-    by (loaded.Bytes file) other = log_lines from to file (log_of file) refl other
+    by : (o : Option ℕ) → IsEnd (route_unless from to image o).status
+    by None = refl
+    by (Some n) = refl
+
+pub route_ends : (name from to : List ℕ) (seen : ℕ → Files) → IsEnd (route_ending name from to seen).status
+route_ends name from to seen = looked_ends (log_route from to) (λ log. image_ends from to (state_after (commands_of log) (length log))) name seen

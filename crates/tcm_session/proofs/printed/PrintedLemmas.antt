@@ -1,21 +1,20 @@
 -- The lines that a run prints, and the quorums in them.
-use Rattle.std.proofs.Common.{if◌then◌else◌, ◌≡◌, ◌≢◌, ℕ, Bool, true, false, List, [], ◌++◌, Option, Some, None, Result, Ok, Err, length, nat_le, codes, decimal, refl, sym, ap, ◌∙◌, subst, drop, arith, cond}
+use Rattle.std.proofs.Common.{◌≡◌, ◌≢◌, ℕ, Bool, true, false, List, [], ◌++◌, Option, Some, None, Result, Ok, Err, length, nat_le, codes, decimal, refl, sym, ap, ◌∙◌, subst, drop, arith, cond}
 use Rattle.std.proofs.KnownBytes.{starts_with_rest}
 use Rattle.tcm_edges.specs.Files.{Files, file_of, loaded_of}
 use Rattle.tcm_edges.specs.declared.store.Loaded.{Loaded}
 use Rattle.tcm_edges.specs.declared.store.Loaded.TheVariants as loaded
 use Rattle.transformations.specs.declared.entry.Entry.{Entry}
-use Rattle.script_lang.specs.AnswerTexts.{no_text}
 use Rattle.tcm_session.specs.declared.ending.Ending.{Ending}
 use Rattle.tcm_session.specs.Left.{LeavesFiles}
-use Rattle.script_session.specs.LogFiles.{base_of, log_for, log_of, old_log_of, refused_line_text}
-use Rattle.script_session.specs.Machine.{answers, no_epoch, session_over}
+use Rattle.script_session.specs.LogFiles.{base_of, log_for, old_log_of, refused_line_text}
+use Rattle.script_session.specs.Machine.{answers, session_over}
 use Rattle.tcm_session.specs.Commit.{Start, large_outcome, outcome_from, outcome_loaded, script_outcome, whole_outcome}
 use Rattle.tcm_session.specs.Gen.{gen_ending}
 use Rattle.tcm_session.specs.Mend.{mended_end, mending, mending_from, mending_loaded, mending_to, with_made}
 use Rattle.tcm_session.specs.Outcome.{Outcome, ended_outcome, input_limit, printed_by, too_large_text, unread_outcome}
 use Rattle.tcm_session.specs.Outcomes.{outcome, usage_end, usage_text}
-use Rattle.tcm_session.specs.Request.{Cms, Commit, CommitTo, Gen, Mend, Replay, Request, Snapshot}
+use Rattle.tcm_session.specs.Request.{Cms, Commit, CommitTo, Gen, Mend, Plan, Replay, Request, Snapshot}
 use Rattle.tcm_session.specs.Run.{IsFinal, IsRun}
 use Rattle.tcm_session.specs.code.Runs.{IsEnd, RunsSeen}
 use Rattle.session_laws.specs.Shown.{IsOfNoQuorum, shown}
@@ -26,23 +25,23 @@ use Rattle.script_session.proofs.SessionLemmas.{IsSession, session_empty}
 use Rattle.tcm_session.specs.files.ReplayPrefix.{ReportsPrefix, taken_of_files}
 use Rattle.tcm_session.specs.files.MemberRoute.{IsSafeRoute, route_ending}
 use Rattle.tcm_session.specs.files.Replay.{replay_ending}
-use Rattle.tcm_session.specs.files.StateLine.{file_ending, log_ending, snapshot_ending, state_ending}
-use Rattle.session_laws.proofs.texts.PlainSnapshots.{snapshot_is_line}
-use Rattle.transformations.specs.History.{state_after}
-use Rattle.transformations.specs.Log.{commands_of}
-use Rattle.transformations.specs.declared.image.Image.{Image}
-use Rattle.wire_json.specs.SnapshotTexts.{snapshot_line}
+use Rattle.tcm_session.specs.files.StateLine.{snapshot_ending}
+use Rattle.tcm_session.specs.files.StreamPlan.{plan_ending}
 use Rattle.tcm_session.proofs.printed.GeneratedTexts.{summary_lines}
 use Rattle.session_laws.proofs.texts.PlainTexts.{plain_decimal, plain_name}
 use Rattle.cluster_terms.specs.Name.{is_name}
 use Rattle.std.specs.FinMap as map
 use Rattle.tcm_session.proofs.members.ListedNodes.{listed_route}
+use Rattle.tcm_session.proofs.log_files.LookedRuns.{snapshot_lines}
 use Rattle.tcm_session.proofs.members.RouteTexts.{route_lines}
+use Rattle.tcm_session.proofs.printed.PlanCovers.{plans_cover}
+use Rattle.tcm_session.proofs.printed.PlanTexts.{plan_lines}
 use Rattle.tcm_session.proofs.printed.RequestForms.{HasForms}
 use Rattle.tcm_session.proofs.printed.PlainReplays.{replay_lines, too_large_lines}
 use Rattle.tcm_session.proofs.log_files.ReplayReports.{refuses_no_line, reports_prefix}
 use Rattle.tcm_session.proofs.runs.RunLemmas.{final_end}
 use Rattle.session_laws.proofs.quorums.ShownLemmas.{shown_meet}
+use Rattle.session_laws.proofs.AskedReplies.{replies_skip_nothing}
 use Rattle.session_laws.proofs.TakenLines.{followers_show}
 use Rattle.session_laws.proofs.texts.WholeLines.{AreLines, AreLines-append, AreLines-front, AreLines-nil, AreLines-weaker}
 use Rattle.session_laws.proofs.quorums.AnswersShown.{lines_of, IsTold}
@@ -77,32 +76,6 @@ module _ (name cluster : List ℕ) (named : is_name cluster ≡ true) (all : Fil
 
 usage_lines : AreLines IsOfNoQuorum usage_end.text
 usage_lines = other_line usage_text refl (λ e. omega arith) (λ e. omega arith)
-
-state_lines : (e : ℕ) (log : List Entry) → (state_ending e log).status ≢ 7 → AreLines IsOfNoQuorum (state_ending e log).text
-state_lines e log = by (nat_le e (length log))
-  where
-    state : Image
-    state = state_after (commands_of log) e
-
-    at_epoch : Bool → Ending
-    at_epoch b = if b then record { status = 0; text = snapshot_line state } else record { status = 7; text = no_text (no_epoch (commands_of log)) }
-
-    by : (b : Bool) → (at_epoch b).status ≢ 7 → AreLines IsOfNoQuorum (at_epoch b).text
-    by true other = snapshot_is_line state
-    by false other = absurd (other refl)
-
-log_lines : (e : ℕ) (file : List ℕ) (r : Result (List Entry) RefusedLine) → log_of file ≡ r → (log_ending e r).status ≢ 7 → AreLines IsOfNoQuorum (log_ending e r).text
-log_lines e file (Ok log) is other = state_lines e log other
-log_lines e file (Err refused) is other = refused_lines None file refused tt is
-
--- the text of the state of a log, unless the name of an absent file or an epoch is printed
-snapshot_lines : (name : List ℕ) (e : ℕ) (seen : ℕ → Files) → (snapshot_ending name e seen).status ≢ 7 → AreLines IsOfNoQuorum (snapshot_ending name e seen).text
-snapshot_lines name e seen = by (loaded_of (file_of (seen 0) name) input_limit)
-  where
-    by : (it : Loaded) → (file_ending name e it).status ≢ 7 → AreLines IsOfNoQuorum (file_ending name e it).text
-    by loaded.Absent other = absurd (other refl)
-    by (loaded.TooLarge size) other = too_large_lines
-    by (loaded.Bytes file) other = log_lines e file (log_of file) refl other
 
 mended_lines : (n : ℕ) → AreLines IsOfNoQuorum (mended_end n).text
 mended_lines n = other_line (codes "MENDED " ++ decimal n) (plain_decimal n) (λ e. omega arith) (λ e. omega arith)
@@ -139,6 +112,7 @@ plain_outcome (Some (Snapshot log epoch)) named seen input = of_ended (snapshot_
 plain_outcome (Some (Gen start rounds)) named seen input = of_ended (gen_ending start rounds) (seen 0) (λ _. summary_lines start rounds)
 plain_outcome (Some (Mend old new cluster)) named seen input =
     let made = mending old new cluster seen in of_ended made.ending (with_made new made.made (seen 0)) (mend_lines old new cluster seen)
+plain_outcome (Some (Plan log node keyspace)) named seen input = of_ended (plan_ending log node keyspace seen) (seen 0) (plan_lines log node keyspace named seen)
 plain_outcome (Some (Cms log from to)) named seen input = of_ended (route_ending log from to seen) (seen 0) (route_lines log from to seen)
 plain_outcome None named seen input = of_ended usage_end (seen 0) (λ _. usage_lines)
 
@@ -186,6 +160,8 @@ is_run request left input input' w w' f f' status named on =
         meet = shown_meet (session_over o.log) plain.is o.lines;
       };
       followers = followers_show o.log o.lines plain.is;
+      replies = replies_skip_nothing o.log o.lines plain.is;
       leaves = on.runs.leaves;
       routes = safe_route request named;
+      plans = λ log node keyspace is. plans_cover (on.seen 0) log node keyspace;
     }

@@ -4,11 +4,12 @@ use Rattle.std.proofs.lemmas.Bool.{and_parts}
 use Rattle.std.specs.List.{slice_split}
 use Rattle.std.specs.Str.{bytes_eq}
 use Rattle.cluster_terms.specs.Name.{is_name}
-use Rattle.script_lang.specs.Grammar.{number_below}
-use Rattle.tcm_session.specs.Request.{Cms, CommitTo, Gen, Mend, Replay, Request, Snapshot, are_files, are_nodes, cms_request, commit_request, each_node, gen_request, is_file_name, is_log, mend_request, node_list, replay_request, request_of, snapshot_request}
+use Rattle.script_lang.specs.Grammar.{node_of, number_below}
+use Rattle.tcm_session.specs.Request.{Cms, CommitTo, Gen, Mend, Plan, Replay, Request, Snapshot, are_files, are_nodes, cms_request, commit_request, each_node, gen_request, is_file_name, is_log, mend_request, node_list, plan_request, replay_request, request_of, snapshot_request}
 
 abbrev pub HasForms : Option Request → Type 0
 HasForms (Some (CommitTo log cluster)) = is_name cluster ≡ true
+HasForms (Some (Plan log node keyspace)) = is_name keyspace ≡ true
 HasForms (Some (Cms log from to)) = IsTrue (are_nodes from) × IsTrue (are_nodes to)
 HasForms _ = Unit {0}
 
@@ -63,6 +64,18 @@ of_mend (old ∷ new ∷ cluster ∷ []) = by (is_file_name old) (is_log new clu
     by false b = tt
 of_mend (old ∷ new ∷ cluster ∷ word ∷ words) = tt
 
+of_plan : (words : List (List ℕ)) → HasForms (plan_request words)
+of_plan [] = tt
+of_plan (log ∷ []) = tt
+of_plan (log ∷ node ∷ []) = tt
+of_plan (log ∷ node ∷ keyspace ∷ []) = by (is_file_name log && is_name keyspace) refl (node_of node)
+  where
+    by : (b : Bool) → is_file_name log && is_name keyspace ≡ b → (o : Option ℕ) → HasForms (if b then option_map (λ n. Plan log n keyspace) o else None)
+    by true is None = tt
+    by true is (Some n) = (and_parts (is_file_name log) (is_name keyspace) is).1
+    by false is o = tt
+of_plan (log ∷ node ∷ keyspace ∷ word ∷ words) = tt
+
 listed : (text : List ℕ) → IfSome (node_list text) (λ ns. IsTrue (are_nodes ns))
 listed text = by (each_node (slice_split (λ byte. byte == 44) text))
   where
@@ -91,13 +104,14 @@ pub words_form : (words : List (List ℕ)) → HasForms (request_of words)
 unfolding request_of
 words_form [] = tt
 words_form (word ∷ words) =
-    by (bytes_eq word (codes "commit")) (bytes_eq word (codes "replay")) (bytes_eq word (codes "snapshot")) (bytes_eq word (codes "gen")) (bytes_eq word (codes "mend2")) (bytes_eq word (codes "cms"))
+    by (bytes_eq word (codes "commit")) (bytes_eq word (codes "replay")) (bytes_eq word (codes "snapshot")) (bytes_eq word (codes "gen")) (bytes_eq word (codes "mend2")) (bytes_eq word (codes "plan")) (bytes_eq word (codes "cms"))
   where
-    by : (a b c d e f : Bool) → HasForms (if a then commit_request words else if b then replay_request words else if c then snapshot_request words else if d then gen_request words else if e then mend_request words else if f then cms_request words else None)
-    by true b c d e f = of_commit words
-    by false true c d e f = of_replay words
-    by false false true d e f = of_snapshot words
-    by false false false true e f = of_gen words
-    by false false false false true f = of_mend words
-    by false false false false false true = of_cms words
-    by false false false false false false = tt
+    by : (a b c d e f g : Bool) → HasForms (if a then commit_request words else if b then replay_request words else if c then snapshot_request words else if d then gen_request words else if e then mend_request words else if f then plan_request words else if g then cms_request words else None)
+    by true b c d e f g = of_commit words
+    by false true c d e f g = of_replay words
+    by false false true d e f g = of_snapshot words
+    by false false false true e f g = of_gen words
+    by false false false false true f g = of_mend words
+    by false false false false false true g = of_plan words
+    by false false false false false false true = of_cms words
+    by false false false false false false false = tt

@@ -9,7 +9,7 @@ use Rattle.script_session.specs.LogFiles.{base_of, log_for}
 use Rattle.script_session.specs.Machine.{session_over}
 use Rattle.tcm_session.specs.Commit.{outcome_from, outcome_in}
 use Rattle.tcm_session.specs.Outcome.{Outcome}
-use Rattle.tcm_session.specs.Request.{Cms, Commit, CommitTo, Gen, Mend, Replay, Request, Snapshot}
+use Rattle.tcm_session.specs.Request.{Cms, Commit, CommitTo, Gen, Mend, Plan, Replay, Request, Snapshot}
 use Rattle.tcm_session.specs.code.Stops.{Adds, GainsThese, LeavesScript}
 use Rattle.transformations.specs.declared.entry.Entry.{Entry}
 use Rattle.tcm_session.proofs.runs.RunOutcomes.{script_reads}
@@ -24,6 +24,7 @@ files_same (Some Commit) files files' o printed ended same none = same
 files_same (Some (Replay names)) files files' o printed ended same none = same
 files_same (Some (Snapshot log epoch)) files files' o printed ended same none = same
 files_same (Some (Gen start rounds)) files files' o printed ended same none = same
+files_same (Some (Plan log node keyspace)) files files' o printed ended same none = same
 files_same (Some (Cms log from to)) files files' o printed ended same none = same
 files_same (Some (CommitTo log cluster)) files files' o printed ended same none = subst (λ f. LeavesFiles (Some (CommitTo log cluster)) files f o printed ended) (sym same) (by files)
   where

@@ -1,7 +1,7 @@
 -- Requests of the code, which borrow the names of files.
 use Rattle.std.specs.Prelude.{ℕ, ◌+◌, ◌≤◌, IsTrue, List, [], length, map, string_bytes, Option, None, Some, ◌==◌}
 use Rattle.std.specs.List.{slice_split}
-use Rattle.tcm_session.specs.Request.{Request, Cms, Commit, CommitTo, Gen, Mend, Replay, Snapshot, are_nodes}
+use Rattle.tcm_session.specs.Request.{Request, Cms, Commit, CommitTo, Gen, Mend, Plan, Replay, Snapshot, are_nodes}
 use Rattle.tcm_session.specs.declared.files.log_file.LogFile.{LogFile}
 use Rattle.tcm_session.specs.declared.request.Request.{Request as Borrowed}
 use Rattle.tcm_session.specs.declared.request.Request.TheVariants as borrowed
@@ -18,6 +18,7 @@ asked (borrowed.Replay files) = Replay (map string_bytes files.now)
 asked (borrowed.Snapshot log epoch) = Snapshot log.now epoch
 asked (borrowed.Gen start rounds) = Gen start rounds
 asked (borrowed.Mend old new) = Mend old.now new.name.now new.cluster
+asked (borrowed.Plan log node keyspace) = Plan log.now node keyspace
 asked (borrowed.Cms log from to) = Cms log.now from to
 
 -- at most 64 files are replayed, a generated script has at most 3,000 rounds, and lists of nodes have 1 to 16 that ascend

@@ -1,8 +1,6 @@
 -- The route from one set of members of the metadata service to another, which `cms LOG FROM TO` prints.
-use Rattle.std.specs.Prelude.{ℕ, Bool, true, false, not, List, [], ◌∷◌, ◌++◌, find, length, min, Option, Some, None, Result, Ok, Err, codes, decimal}
-use Rattle.tcm_edges.specs.Files.{Files, file_of, loaded_of}
-use Rattle.tcm_edges.specs.declared.store.Loaded.{Loaded}
-use Rattle.tcm_edges.specs.declared.store.Loaded.TheVariants as loaded
+use Rattle.std.specs.Prelude.{ℕ, Bool, true, false, not, List, [], ◌∷◌, ◌++◌, find, length, min, Option, Some, None, codes, decimal}
+use Rattle.tcm_edges.specs.Files.{Files}
 use Rattle.node_sets.specs.NodeSets.{without}
 use Rattle.transformations.specs.History.{state_after}
 use Rattle.transformations.specs.Log.{commands_of}
@@ -18,11 +16,8 @@ use Rattle.cms_members.specs.Service.{Service, service_after, service_of}
 use Rattle.cms_members.specs.declared.change.Change.{Change}
 use Rattle.cms_members.specs.declared.change.Change.TheVariants.{Start, Finish, Stop, Remove}
 use Rattle.script_lang.specs.AnswerTexts.{line, list_text, no_text, state_text}
-use Rattle.script_session.specs.LogFiles.{log_of}
-use Rattle.script_session.specs.declared.refused_line.RefusedLine.{RefusedLine}
-use Rattle.tcm_session.specs.Limits.{input_limit}
 use Rattle.tcm_session.specs.declared.ending.Ending.{Ending}
-use Rattle.tcm_session.specs.files.FileEnds.{absent_end, refused_end, too_large_end}
+use Rattle.tcm_session.specs.files.LookedEnds.{looked_end}
 
 -- ---- the route and its text
 
@@ -94,17 +89,10 @@ route_unless from to image (Some n) = record { status = 7; text = unjoined_text 
 abbrev pub route_in : List ℕ → List ℕ → Image → Ending
 route_in from to image = route_unless from to image (first_unjoined image (without to from))
 
--- in the last state of the log in a file, or at its first line that is refused
-abbrev pub log_route : List ℕ → List ℕ → Result (List Entry) RefusedLine → Ending
-log_route from to (Ok log) = route_in from to (state_after (commands_of log) (length log))
-log_route from to (Err refused) = refused_end refused
+-- in the last state of a log
+abbrev pub log_route : List ℕ → List ℕ → List Entry → Ending
+log_route from to log = route_in from to (state_after (commands_of log) (length log))
 
--- the end for what a load gives: an absent file, one that is too large, or bytes
-abbrev pub file_route : List ℕ → List ℕ → List ℕ → Loaded → Ending
-file_route name from to loaded.Absent = absent_end name
-file_route name from to (loaded.TooLarge size) = too_large_end
-file_route name from to (loaded.Bytes file) = log_route from to (log_of file)
-
--- the end of `cms`; `seen 0` are the files as its load finds them
+-- the end of `cms`
 abbrev pub route_ending : List ℕ → List ℕ → List ℕ → (ℕ → Files) → Ending
-route_ending name from to seen = file_route name from to (loaded_of (file_of (seen 0) name) input_limit)
+route_ending name from to seen = looked_end name (log_route from to) seen

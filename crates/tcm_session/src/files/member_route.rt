@@ -1,31 +1,23 @@
-//! The route from one set of members of the metadata service to another, in the last state of the log in a file.
+//! The route from one set of members of the metadata service to another, in the last state of a log.
 
-ghost use Rattle.std.specs.Prelude.{◌≡◌, ◌++◌, ◌≤◌, IfOk, IsSome, IsTrue, Ok, OnOk, codes, decimal, length};
+ghost use Rattle.std.specs.Prelude.{◌≡◌, ◌++◌, ◌≤◌, IfOk, IsSome, IsTrue, OnOk, codes, decimal, length};
 ghost use Rattle.std.specs.Option.{option_copied};
 ghost use Rattle.cms_members.specs.Accepted.{service_after_all};
 ghost use Rattle.cms_members.specs.Service.{service_of};
 ghost use Rattle.script_lang.specs.AnswerTexts as texts;
-ghost use Rattle.script_session.specs.LogFiles.{log_of};
 ghost use Rattle.transformations.specs.States as states;
-ghost use Rattle.tcm_session.specs.Counts.{counts};
 ghost use Rattle.tcm_session.specs.Request.{are_nodes};
-ghost use Rattle.tcm_session.specs.code.Replays.{EndsSo};
-ghost use Rattle.tcm_session.specs.code.RunFaults.{counts_by};
 ghost use Rattle.tcm_session.specs.files.MemberRoute as spec;
 
 use crate::ending::Ending;
-use crate::files::log_file::{LogFault, open_log};
 use crate::files::member_walk::walk_along;
-use crate::limits::FILE_LIMIT;
 use crate::node_list::NodeList;
-use crate::run_fault::RunFault;
 use cluster_terms::{ByteText, Memory, NodeId};
 use cms_members::{Change, Members, route};
 use node_sets::NodeSet;
 use script_lang::labelled;
 use script_session::Session;
 use std::alloc::Global;
-use tcm_edges::{Loaded, Store};
 use transformations::{Image, NodeState, node_state};
 
 /// The set of the nodes of a list, 1 to 16.
@@ -132,8 +124,11 @@ fn in_image(alloc: Global, image: &Image, from: &NodeList, to: &NodeList) -> Res
     }
 }
 
-/// The end with the route in the last state of the session's log. Fails only if memory runs out.
-fn at_last(
+/// The end with the route from one set of members to another, or at the first node that joins and isn't JOINED in the
+/// last state of the session's log. Fails only if memory runs out.
+///
+/// Cost: the image of the last epoch is copied.
+pub fn show_route(
     alloc: Global,
     session: &Session,
     from: &NodeList,
@@ -141,69 +136,8 @@ fn at_last(
 ) -> Result<Ending, Memory>
     requires from { IsTrue (are_nodes from.now) }
     requires to { IsTrue (are_nodes to.now) }
-    ensures { IfOk result (λ ending. ending ≡ spec.log_route from.now to.now (Ok session.now.log)) }
+    ensures { IfOk result (λ ending. ending ≡ spec.log_route from.now to.now session.now.log) }
 {
     let image = session.image_at(session.last_epoch())?;
     in_image(alloc, &image, from, to)
-}
-
-/// The end with the route in the last state of the log in a file, or at the first line that is refused. Fails only if
-/// memory runs out.
-fn in_file(alloc: Global, file: &[u8], from: &NodeList, to: &NodeList) -> Result<Ending, Memory>
-    requires from { IsTrue (are_nodes from.now) }
-    requires to { IsTrue (are_nodes to.now) }
-    ensures { IfOk result (λ ending. ending ≡ spec.log_route from.now to.now (log_of file.now)) }
-{
-    match open_log(alloc, None, file) {
-        Ok((session, _size)) => {
-            let ending = at_last(alloc, &session, from, to);
-            session.close();
-            ending
-        }
-        Err(LogFault::Refused(refused)) => Ending::refused(alloc, &refused),
-        Err(LogFault::Memory) => Err(Memory),
-    }
-}
-
-/// The end at the file with this name, once it is loaded. Fails only if memory runs out.
-fn once_loaded(
-    alloc: Global,
-    name: &str,
-    from: &NodeList,
-    to: &NodeList,
-    loaded: Loaded,
-) -> Result<Ending, Memory>
-    requires from { IsTrue (are_nodes from.now) }
-    requires to { IsTrue (are_nodes to.now) }
-    ensures { IfOk result (λ ending. ending ≡ spec.file_route name.now from.now to.now loaded) }
-{
-    match loaded {
-        Loaded::Absent => Ending::absent(alloc, name),
-        Loaded::TooLarge(_size) => Ending::too_large(alloc),
-        Loaded::Bytes(file) => in_file(alloc, file.as_slice(), from, to),
-    }
-}
-
-/// Loads the log in a file, and returns the end with the route from one set of members to another; or at the first node
-/// that joins and isn't JOINED in the last state of the log, at the first line of the log that is refused, or at a file
-/// that is absent or too large. No file changes.
-///
-/// Cost: the whole log is taken over, and the image of its last epoch is copied.
-pub fn show_route<D: Store>(
-    alloc: Global,
-    name: &str,
-    from: &NodeList,
-    to: &NodeList,
-    store: &mut D,
-) -> Result<Ending, RunFault>
-    requires from { IsTrue (are_nodes from.now) }
-    requires to { IsTrue (are_nodes to.now) }
-    ensures ends { IfOk result (λ ending.
-        EndsSo (spec.route_ending name.now from.now to.now) ending (D.files store.old)) }
-    ensures files { D.files store.new ≡ D.files store.old }
-    ensures cause { counts 0 0 (D.faults store.new)
-        ≡ counts_by result (counts 0 0 (D.faults store.old)) }
-{
-    let loaded = store.load(name, FILE_LIMIT)?;
-    Ok(once_loaded(alloc, name, from, to, loaded)?)
 }

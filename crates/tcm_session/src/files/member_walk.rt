@@ -1,18 +1,17 @@
 //! Walks along a route between two sets of members of the metadata service, and the lines of its changes.
 
-ghost use Rattle.std.specs.Prelude.{◌≡◌, ◌++◌, IfOk, IsSome, OnOk, Some, codes, decimal, flat_map};
+ghost use Rattle.std.specs.Prelude.{◌≡◌, ◌++◌, IfOk, IsSome, OnOk, Some};
 ghost use Rattle.cms_members.specs.Accepted.{service_after_all};
 ghost use Rattle.cms_members.specs.Majority.{majority_of};
 ghost use Rattle.cms_members.specs.Service.{growing_service, service_after, service_of};
 ghost use Rattle.cms_members.specs.declared.change.Change.TheVariants as change;
-ghost use Rattle.script_lang.specs.AnswerTexts.{list_text};
 ghost use Rattle.tcm_session.specs.code.Walks.{service_at};
 ghost use Rattle.tcm_session.specs.files.MemberRoute as spec;
 
 use cluster_terms::{ByteText, Memory, NodeId};
 use cms_members::{Change, Growing, Members};
 use node_sets::NodeSet;
-use script_lang::{Shown, labelled};
+use script_lang::{labelled, list_text};
 
 /// The members of the metadata service between two changes. The value must be spent.
 pub enum Walk {
@@ -130,36 +129,13 @@ fn change_text(change: &Change, out: &mut ByteText) -> Result<(), Memory>
     }
 }
 
-/// Adds the ids of some nodes, each after a comma.
-fn others_text(nodes: &[NodeId], out: &mut ByteText) -> Result<(), Memory>
-    ensures { OnOk result (out.new ≡ out.old ++ flat_map (λ n. codes "," ++ decimal n) nodes.now) }
-{
-    for n in nodes {
-        labelled(b",", n, out)?;
-    }
-    Ok(())
-}
-
-/// Adds the ids of some nodes, separated by commas, or a dash if there are no nodes.
-fn nodes_text(nodes: &[NodeId], out: &mut ByteText) -> Result<(), Memory>
-    ensures { OnOk result (out.new ≡ out.old ++ list_text nodes.now) }
-{
-    match nodes.split_first() {
-        None => out.extend(b"-"),
-        Some((first, others)) => {
-            first.show(out)?;
-            others_text(others, out)
-        }
-    }
-}
-
 /// Adds how many of the voting members are a majority, and these members.
 fn needs_text(walk: &Walk, out: &mut ByteText) -> Result<(), Memory>
     ensures { OnOk result (out.new ≡ out.old ++ spec.needs_text (service_at walk.now).voting) }
 {
     labelled(b" needs ", &walk.needs(), out)?;
     out.extend(b" of ")?;
-    nodes_text(walk.voting().ids(), out)
+    list_text(walk.voting().ids(), out)
 }
 
 /// Adds the line of a change, with the voting members after it.

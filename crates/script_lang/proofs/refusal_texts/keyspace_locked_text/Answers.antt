@@ -1,4 +1,4 @@
-use Rattle.std.proofs.Common.{◌++◌, ◌∙◌, List, ap, codes, decimal, sym}
+use Rattle.std.proofs.Common.{◌++◌, ◌∙◌, ap, codes, decimal, sym}
 use Rattle.std.proofs.lemmas.List.{append_assoc}
 use Rattle.std.proofs.lemmas.Result.{MatchResult-weaker}
 use Rattle.script_lang.specs.AnswerTexts.{locked_text}

@@ -6,9 +6,12 @@ use Rattle.tcm_session.specs.declared.run_fault.RunFault.TheVariants as fault
 use Rattle.tcm_session.specs.files.MemberRoute.{route_ending}
 use Rattle.tcm_session.specs.files.Replay.{replay_ending}
 use Rattle.tcm_session.specs.files.StateLine.{snapshot_ending}
-use Rattle.tcm_session.proofs.log_files.EndedRuns.{ended_at_end, ends_alone, replay_ends, runs_ended, runs_unended, snapshot_ends}
+use Rattle.tcm_session.specs.files.StreamPlan.{plan_ending}
+use Rattle.tcm_session.proofs.log_files.EndedRuns.{ended_at_end, ends_alone, replay_ends, runs_ended, runs_unended}
+use Rattle.tcm_session.proofs.log_files.LookedRuns.{snapshot_ends}
 use Rattle.tcm_session.proofs.log_files.MendRuns.{mended_at_end, runs_mended, runs_unmended}
-use Rattle.tcm_session.proofs.members.RouteRuns.{route_ends}
+use Rattle.tcm_session.proofs.members.RouteTexts.{route_ends}
+use Rattle.tcm_session.proofs.printed.PlanTexts.{plan_ends}
 use Rattle.tcm_session.proofs.runs.RunCauses.{not_source}
 use Rattle.tcm_session.proofs.runs.RunLemmas.{memory_not_source, runs_first, runs_unloaded}
 use Rattle.tcm_session.proofs.program.answer.Goals as goal
@@ -45,11 +48,11 @@ returns-in_err-replay_files-in-Replay-clause-runs g c =
     let failed = c.in_err-replay_files-in-Replay.ensures in
     rw c.in-Replay.is (runs_unended (replay_ending _) _ _ _ _ _ c.from_residual.result _ (not_source _ _ _ refl refl failed.cause) c.from_residual.ensures.1 failed.files)
 
-pub returns-in_err-show_state-in-Snapshot-clause-runs : goal.returns-in_err-show_state-in-Snapshot-clause-runs
+pub returns-in_err-look-in-Snapshot-clause-runs : goal.returns-in_err-look-in-Snapshot-clause-runs
 unfolding outcome
-returns-in_err-show_state-in-Snapshot-clause-runs g c =
-    let failed = c.in_err-show_state-in-Snapshot.ensures in
-    let passed = c.from_residual-in_err-show_state-in-Snapshot in
+returns-in_err-look-in-Snapshot-clause-runs g c =
+    let failed = c.in_err-look-in-Snapshot.ensures in
+    let passed = c.from_residual-in_err-look-in-Snapshot in
     rw c.in-Snapshot.is (runs_unended (snapshot_ending _ _) _ _ _ _ _ passed.result _ (not_source _ _ _ refl refl failed.cause) passed.ensures.1 failed.files)
 
 pub returns-in_err-count_answers-in-Gen-clause-runs : goal.returns-in_err-count_answers-in-Gen-clause-runs
@@ -70,10 +73,10 @@ returns-in_ok-replay_files-in-Replay-clause-ended g c =
     let names = map string_bytes c.in-Replay.files.now in
     ended_at_end (replay_ending names) _ _ c.print.result c.in_ok-replay_files-in-Replay.ensures.ends (replay_ends names) c.print.ensures.status
 
-pub returns-in_ok-show_state-in-Snapshot-clause-runs : goal.returns-in_ok-show_state-in-Snapshot-clause-runs
+pub returns-in_ok-look-in-Snapshot-clause-runs : goal.returns-in_ok-look-in-Snapshot-clause-runs
 unfolding outcome
-returns-in_ok-show_state-in-Snapshot-clause-runs g c =
-    let ended = c.in_ok-show_state-in-Snapshot.ensures in
+returns-in_ok-look-in-Snapshot-clause-runs g c =
+    let ended = c.in_ok-look-in-Snapshot.ensures in
     let shown = c.print-in-Snapshot in
     rw c.in-Snapshot.is (runs_ended (snapshot_ending _ _) _ _ shown.result ended.ends (snapshot_ends _ _) shown.ensures.status _ _ _ _ _ _ _ refl refl ended.files shown.ensures.writes)
 
@@ -83,16 +86,30 @@ returns-in_ok-count_answers-in-Gen-clause-runs g c =
     let shown = c.print-in-Gen in
     rw c.in-Gen.is (runs_ended (λ _. gen_ending _ _) _ _ shown.result (ends_alone _ _ _ c.in_ok-count_answers-in-Gen.ensures) (λ seen. refl) shown.ensures.status _ _ _ _ _ _ _ refl refl refl shown.ensures.writes)
 
-pub returns-in_err-show_route-in-Cms-clause-runs : goal.returns-in_err-show_route-in-Cms-clause-runs
+pub returns-in_err-look-in-Cms-clause-runs : goal.returns-in_err-look-in-Cms-clause-runs
 unfolding outcome
-returns-in_err-show_route-in-Cms-clause-runs g c =
-    let failed = c.in_err-show_route-in-Cms.ensures in
-    let passed = c.from_residual-in_err-show_route-in-Cms in
+returns-in_err-look-in-Cms-clause-runs g c =
+    let failed = c.in_err-look-in-Cms.ensures in
+    let passed = c.from_residual-in_err-look-in-Cms in
     rw c.in-Cms.is (runs_unended (route_ending _ c.in-Cms.from c.in-Cms.to) _ _ _ _ _ passed.result _ (not_source _ _ _ refl refl failed.cause) passed.ensures.1 failed.files)
 
-pub returns-in_ok-show_route-in-Cms-clause-runs : goal.returns-in_ok-show_route-in-Cms-clause-runs
+pub returns-in_ok-look-in-Cms-clause-runs : goal.returns-in_ok-look-in-Cms-clause-runs
 unfolding outcome
-returns-in_ok-show_route-in-Cms-clause-runs g c =
-    let ended = c.in_ok-show_route-in-Cms.ensures in
+returns-in_ok-look-in-Cms-clause-runs g c =
+    let ended = c.in_ok-look-in-Cms.ensures in
     let shown = c.print-in-Cms in
     rw c.in-Cms.is (runs_ended (route_ending _ c.in-Cms.from c.in-Cms.to) _ _ shown.result ended.ends (route_ends _ c.in-Cms.from c.in-Cms.to) shown.ensures.status _ _ _ _ _ _ _ refl refl ended.files shown.ensures.writes)
+
+pub returns-in_err-look-in-Plan-clause-runs : goal.returns-in_err-look-in-Plan-clause-runs
+unfolding outcome
+returns-in_err-look-in-Plan-clause-runs g c =
+    let failed = c.in_err-look-in-Plan.ensures in
+    let passed = c.from_residual-in_err-look-in-Plan in
+    rw c.in-Plan.is (runs_unended (plan_ending _ c.in-Plan.node c.in-Plan.keyspace) _ _ _ _ _ passed.result _ (not_source _ _ _ refl refl failed.cause) passed.ensures.1 failed.files)
+
+pub returns-in_ok-look-in-Plan-clause-runs : goal.returns-in_ok-look-in-Plan-clause-runs
+unfolding outcome
+returns-in_ok-look-in-Plan-clause-runs g c =
+    let ended = c.in_ok-look-in-Plan.ensures in
+    let shown = c.print-in-Plan in
+    rw c.in-Plan.is (runs_ended (plan_ending _ c.in-Plan.node c.in-Plan.keyspace) _ _ shown.result ended.ends (plan_ends _ c.in-Plan.node c.in-Plan.keyspace) shown.ensures.status _ _ _ _ _ _ _ refl refl ended.files shown.ensures.writes)

@@ -54,7 +54,7 @@ returns-in_ok-turned_book-in-Started c =
     let found = started_at image change s.at s.is c.requires.follows in
     let made = c.in_ok-turned_book-in-Started.field-0 in
     let movement = c.index-running-at in
-    turned_to image change (Sets made) maps c.requires.maps turn.Writes made.items (λ (p : Plan). p.gain) _ _ c.plan.ensures c.in_ok-turned_book-in-Started.ensures
+    turned_to image change (Sets made) maps c.requires.maps turn.Writes made.items (λ (p : Plan). p.gain) _ _ c.plan.ensures.plan c.in_ok-turned_book-in-Started.ensures
     (λ turned. start_maps image maps c.args.running.now s.at movement.result found.row c.requires.maps c.requires.running c.requires.deltas found.here movement.is (changed image change) made.items turned
     (started_moves image change s.at s.is c.requires.steps))
 
@@ -67,7 +67,7 @@ returns-in_ok-turned_book-in-Mid c =
     let found = mid_at image change s.at s.is c.requires.follows in
     let made = c.in_ok-turned_book-in-Mid.field-0 in
     let movement = c.index-running-at-in-Mid in
-    turned_to image change (Sets made) maps c.requires.maps turn.Reads made.items (λ (p : Plan). p.swap) _ _ c.plan-in-Mid.ensures c.in_ok-turned_book-in-Mid.ensures
+    turned_to image change (Sets made) maps c.requires.maps turn.Reads made.items (λ (p : Plan). p.swap) _ _ c.plan-in-Mid.ensures.plan c.in_ok-turned_book-in-Mid.ensures
     (λ turned. mid_maps image maps c.args.running.now s.at movement.result found.row c.requires.maps c.requires.running c.requires.deltas found.here movement.is (changed image change) made.items turned
     (mid_moves image change s.at s.is c.requires.steps))
 
@@ -80,7 +80,7 @@ returns-in_ok-turned_book-in-BroughtBack c =
     let found = back_at image change s.at s.is c.requires.follows in
     let made = c.in_ok-turned_book-in-BroughtBack.field-0 in
     let movement = c.index-running-at-in-BroughtBack in
-    turned_to image change (Sets made) maps c.requires.maps turn.ReadsBack made.items (λ (p : Plan). p.swap) _ _ c.plan-in-BroughtBack.ensures c.in_ok-turned_book-in-BroughtBack.ensures
+    turned_to image change (Sets made) maps c.requires.maps turn.ReadsBack made.items (λ (p : Plan). p.swap) _ _ c.plan-in-BroughtBack.ensures.plan c.in_ok-turned_book-in-BroughtBack.ensures
     (λ turned. back_maps image maps c.args.running.now s.at movement.result found.row c.requires.maps c.requires.running c.requires.deltas found.here movement.is (changed image change) made.items turned
     (back_moves image change s.at s.is c.requires.steps))
 
@@ -121,7 +121,7 @@ returns-in_ok-sequences-in-Finished c =
     let maps = c.args.maps.now in
     let recut = c.recut_among-in-Finished in
     let cut : cuts (changed image change) ≡ cuts_among s.tokens sequences = ap (λ (ch : Change). cuts (changed image ch)) s.is ∙ ap (cuts_among s.tokens) (sym c.in_ok-sequences-in-Finished.ensures) in
-    recut_to image change maps c.requires.maps turn.Writes (cuts_among s.tokens sequences) (λ (p : Plan). p.lose) _ _ c.plan-in-Finished.ensures cut recut.result recut.ensures.maps recut.ensures.tokens
+    recut_to image change maps c.requires.maps turn.Writes (cuts_among s.tokens sequences) (λ (p : Plan). p.lose) _ _ c.plan-in-Finished.ensures.plan cut recut.result recut.ensures.maps recut.ensures.tokens
     (λ next sets tokens. finish_maps image maps c.args.running.now s.at movement.result found.row c.requires.maps c.requires.running c.requires.deltas found.here movement.is (changed image change) next sets tokens
     (finished_moves image change s.at s.left s.tokens s.is c.requires.steps))
 
@@ -136,7 +136,7 @@ returns-in_ok-sequences-in-Ended c =
     let maps = c.args.maps.now in
     let recut = c.recut_among-in-Ended in
     let cut : cuts (changed image change) ≡ cuts_among image.tokens sequences = ap (λ (ch : Change). cuts (changed image ch)) s.is ∙ ap (cuts_among image.tokens) (sym c.in_ok-sequences-in-Ended.ensures) in
-    recut_to image change maps c.requires.maps c.undoing-turn.result (cuts_among image.tokens sequences) (λ (p : Plan). p.gain) _ _ c.plan-in-Ended.ensures cut recut.result recut.ensures.maps recut.ensures.tokens
+    recut_to image change maps c.requires.maps c.undoing-turn.result (cuts_among image.tokens sequences) (λ (p : Plan). p.gain) _ _ c.plan-in-Ended.ensures.plan cut recut.result recut.ensures.maps recut.ensures.tokens
     (λ next sets tokens. end_maps image maps c.args.running.now s.at movement.result found.row c.requires.maps c.requires.running c.requires.deltas found.here movement.is (changed image change) next
     (subst (λ (t : Turn). RecutsAll t (rows_between (cuts (changed image change))) maps (plan_of movement.result).gain next) c.undoing-turn.ensures sets) found.holds tokens
     (ended_moves image change s.at s.is c.requires.steps))

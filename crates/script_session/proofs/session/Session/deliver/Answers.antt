@@ -15,7 +15,7 @@ returns-in_default c = record { steps = alone_missing (reply c.args.name.now c.a
 
 pub returns-in_default-entry : goal.returns-in_default-entry
 returns-in_default-entry c =
-    let s : SessionState = record { log = c.self.inside.log; followers = c.self.inside.followers.items } in
+    let s : SessionState = record { log = c.self.inside.log; followers = c.self.inside.followers.items; replies = c.self.inside.replies.items } in
     record {
       steps = alone_past (reply c.args.name.now c.args.epoch) s _ c.args.name.now _ _ c.past_last.result c.self.view_is _ _ _ c.self.invariant.2 c.deref.ensures.value c.in-Some.ensures c.last_epoch.ensures.last
           (λ f. ap (deliver_to s c.args.name.now f) (sym c.in_default-entry.ensures.entry)) c.past_last.ensures.only;
@@ -41,23 +41,23 @@ hand_over-requires-clause-among c = (of_log (goal.at.hand_over-requires-clause-a
 
 pub hand_over-requires-clause-follows : goal.hand_over-requires-clause-follows
 hand_over-requires-clause-follows c =
-    let s : SessionState = record { log = c.self.inside.log; followers = c.self.inside.followers.items } in
+    let s : SessionState = record { log = c.self.inside.log; followers = c.self.inside.followers.items; replies = c.self.inside.replies.items } in
     (has_follower s c.args.name.now c.in-Some.place c.index_mut-named.result.now _ _ c.self.invariant.2 c.deref.ensures.value c.in-Some.ensures c.index_mut-named.ensures.value).follows
 
 -- the follower was handed the entry
 handed : (c : After-hand_over)
-    → IsHanded (record { log = c.self.inside.log; followers = c.self.inside.followers.items }) c.args.name.now c.in-Some.place c.index_mut-named.result.now c.hand_over.new.follower c.hand_over.result
+    → IsHanded (record { log = c.self.inside.log; followers = c.self.inside.followers.items; replies = c.self.inside.replies.items }) c.args.name.now c.in-Some.place c.index_mut-named.result.now c.hand_over.new.follower c.hand_over.result
 handed c = entry_handed _ _ _ _ _ _ _ _ c.self.invariant.2 c.deref.ensures.value c.in-Some.ensures c.index_mut-named.ensures.value c.in-Some-entry.entry.now.epoch c.hand_over.ensures.shows
 
 pub answer_handed-requires : goal.answer_handed-requires
 answer_handed-requires c = (handed (goal.at.answer_handed-requires c).After-hand_over).of_log
 
 pub invariant_of-self : goal.invariant_of-self
-invariant_of-self c = (c.self.invariant.0, c.self.invariant.1, (handed (goal.at.invariant_of-self c).After-hand_over).all, c.self.invariant.3)
+invariant_of-self c = (c.self.invariant.0, c.self.invariant.1, (handed (goal.at.invariant_of-self c).After-hand_over).all, c.self.invariant.3, c.self.invariant.4)
 
 pub returns : goal.returns
 returns c =
-    let s : SessionState = record { log = c.self.inside.log; followers = c.self.inside.followers.items } in
+    let s : SessionState = record { log = c.self.inside.log; followers = c.self.inside.followers.items; replies = c.self.inside.replies.items } in
     let f = c.index_mut-named.result.now in
     record {
       steps = alone_moved (reply c.args.name.now c.args.epoch) s _ c.args.name.now _ _ c.answer_handed.result c.self.view_is c.in-Some.place f _ _ c.hand_over.result (handed (goal.at.returns c).After-hand_over)

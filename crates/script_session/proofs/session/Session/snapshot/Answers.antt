@@ -16,7 +16,7 @@ returns-in_default c = record { steps = alone_missing (reply c.args.name.now c.a
 
 pub returns-then-epoch-last : goal.returns-then-epoch-last
 returns-then-epoch-last c =
-    let s : SessionState = record { log = c.self.inside.log; followers = c.self.inside.followers.items } in
+    let s : SessionState = record { log = c.self.inside.log; followers = c.self.inside.followers.items; replies = c.self.inside.replies.items } in
     let past = image_past s.log c.args.epoch (omega (arith, c.if-epoch-last.true, c.last_epoch-last.ensures.last)) in
     record {
       steps = alone_past (reply c.args.name.now c.args.epoch) s _ c.args.name.now _ _ c.past_last.result c.self.view_is _ _ _ c.self.invariant.2 c.deref.ensures.value c.in-Some.ensures c.last_epoch-last.ensures.last
@@ -36,7 +36,7 @@ is_state c = c.in_ok-image.ensures ∙ ap (λ (t : SessionState). state_after (c
 
 -- the follower was handed the image
 handed : (c : After-snapshot)
-    → IsHanded (record { log = c.self.inside.log; followers = c.self.inside.followers.items }) c.args.name.now c.in-Some.place c.index_mut-named.result.now c.snapshot.new.self c.snapshot.result
+    → IsHanded (record { log = c.self.inside.log; followers = c.self.inside.followers.items; replies = c.self.inside.replies.items }) c.args.name.now c.in-Some.place c.index_mut-named.result.now c.snapshot.new.self c.snapshot.result
 handed c =
     let image = image_of_log c.self.inside.log c.args.epoch c.in_ok-image.image (within c) (is_state c) in
     image_handed _ _ _ _ _ _ _ _ c.self.invariant.2 c.deref.ensures.value c.in-Some.ensures c.index_mut-named.ensures.value c.in_ok-image.image.epoch (λ taken stands. c.snapshot.ensures.shows _ taken c.self.invariant.1 image stands)
@@ -45,11 +45,11 @@ pub answer_handed-requires : goal.answer_handed-requires
 answer_handed-requires c = (handed (goal.at.answer_handed-requires c).After-snapshot).of_log
 
 pub invariant_of-self : goal.invariant_of-self
-invariant_of-self c = (c.self.invariant.0, c.self.invariant.1, (handed (goal.at.invariant_of-self c).After-snapshot).all, c.self.invariant.3)
+invariant_of-self c = (c.self.invariant.0, c.self.invariant.1, (handed (goal.at.invariant_of-self c).After-snapshot).all, c.self.invariant.3, c.self.invariant.4)
 
 pub returns : goal.returns
 returns c =
-    let s : SessionState = record { log = c.self.inside.log; followers = c.self.inside.followers.items } in
+    let s : SessionState = record { log = c.self.inside.log; followers = c.self.inside.followers.items; replies = c.self.inside.replies.items } in
     let f = c.index_mut-named.result.now in
     let there = (goal.at.returns c).After-snapshot in
     record {

@@ -1,19 +1,10 @@
-use Rattle.std.proofs.Common.{◌≡◌, ℕ, List, Ok, length, arith, sym, ap, ◌∙◌, subst}
-use Rattle.std.proofs.lemmas.List.{take_all}
-use Rattle.transformations.proofs.histories.LogLemmas.{length-commands_of}
-use Rattle.transformations.specs.History.{empty_image, image_after, state_after}
-use Rattle.transformations.specs.Log.{commands_of}
-use Rattle.transformations.specs.declared.entry.Entry.{Entry}
-use Rattle.transformations.specs.declared.image.Image.{Image}
+use Rattle.std.proofs.Common.{ℕ, Ok, sym, subst}
 use Rattle.follower_log.proofs.ShowsLemmas.{entry_shows}
 use Rattle.follower_log.specs.Follower.{Performs, hand_entry}
 use Rattle.follower_log.specs.Prefix.{StandsFor, Taken}
 use Rattle.follower_log.specs.declared.took.Took.TheVariants.{At}
+use Rattle.script_session.proofs.KeptImageLemmas.{at_end}
 use Rattle.script_session.proofs.session.handing_over.hand_over.Goals as goal
-
--- the metadata after all entries is the state of the last epoch
-at_end : (log : List Entry) (metadata : Image) → metadata ≡ image_after empty_image (commands_of log) → metadata ≡ state_after (commands_of log) (length log)
-at_end log metadata last = last ∙ ap (image_after empty_image) (sym (take_all (length log) (commands_of log) (omega (arith, length-commands_of log))))
 
 -- a follower that came to the end performed the step
 ends : (c : goal.After-epoch) (taken : Taken) → StandsFor c.args.log.now taken c.args.follower.now → Performs c.args.follower.now (hand_entry c.args.follower.now c.args.entry.now) (Ok (At c.epoch.result)) c.end_at.new.self

@@ -1,0 +1,4 @@
+pub mod Readable
+pub mod Sources
+pub mod Streams
+pub mod code

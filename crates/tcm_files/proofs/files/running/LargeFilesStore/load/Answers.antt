@@ -1,6 +1,0 @@
-use Rattle.std.proofs.Common.{arith}
-use Rattle.tcm_edges.proofs.FileLemmas.{IsLoad-too_large}
-use Rattle.tcm_files.proofs.files.running.LargeFilesStore.load.Goals as goal
-
-pub returns-then-limit-lt-TOO_MANY_BYTES-clause-found : goal.returns-then-limit-lt-TOO_MANY_BYTES-clause-found
-returns-then-limit-lt-TOO_MANY_BYTES-clause-found c = IsLoad-too_large c.args._name.now c.args.limit _ (omega arith)

@@ -1,5 +1,0 @@
-use Rattle.tcm_session.proofs.log_files.EndedRuns.{log_shown}
-use Rattle.tcm_session.proofs.files.state_line.show_state.Goals as goal
-
-pub returns-clause-ends : goal.returns-clause-ends
-returns-clause-ends g c = log_shown c.args.name.now c.args.epoch _ c.in_ok-loaded.loaded c.in_ok-once_loaded.field-0 c.in_ok-loaded.ensures.found c.in_ok-once_loaded.ensures
