@@ -1,4 +1,5 @@
-//! Commands that are admitted with a counter of their own.
+//! Commands that are admitted with a counter of their own, as scripts, past states and followers need no counter of
+//! walks.
 
 ghost use Rattle.std.specs.Prelude.{◌≡◌, ◌<◌, IfOk, IsTrue, OnErr, OnOk};
 ghost use Rattle.transformations.specs.History.{is_command, most_epochs, next_image};
@@ -38,6 +39,8 @@ impl Metadata {
     pub fn permit(&self, command: &Command) -> Result<Permit, AdmitFault>
         requires below_limit { self.now.epoch < most_epochs }
         requires formed { IsTrue (is_command command.now) }
+        // Promise: a permit that counts on a counter of its own is that of `admit`, and a command that is applied
+        // leaves the next image, or the image as it was. Guards: scripts, calls/follower.rt.
         ensures permit { IfOk result (λ permit. permit ≡ record { image = self.now; command = command.now }) }
         ensures refusal { AdmitsUnless (refusal_of self.now command.now) result }
     {

@@ -7,14 +7,12 @@ use cluster_terms::Pair;
 use node_directory::Directory;
 use transformations::{Image, KeyspaceRow};
 
-/// Whether two keyspaces are equal.
 fn is_same(row: &KeyspaceRow, other: &KeyspaceRow) -> bool
     ensures { IsTrue result → row.now ≡ other.now }
 {
     row.name.as_str() == other.name.as_str() && row.replication.same(&other.replication)
 }
 
-/// Whether two lists of keyspaces are equal.
 fn are_same(rows: &[KeyspaceRow], others: &[KeyspaceRow]) -> bool
     ensures { IsTrue result → rows.now ≡ others.now }
 {
@@ -29,7 +27,6 @@ fn are_same(rows: &[KeyspaceRow], others: &[KeyspaceRow]) -> bool
     true
 }
 
-/// Whether two lists of pairs are equal.
 fn is_same_ring(pairs: &[Pair], others: &[Pair]) -> bool
     ensures { IsTrue result → pairs.now ≡ others.now }
 {

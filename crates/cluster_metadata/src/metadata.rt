@@ -51,7 +51,7 @@ use std::sync::ledger::Ledger;
 use transformations::{Command, Image, KeyspaceRow};
 
 /// The metadata of a cluster: a valid image, and the movements in flight, each as a value of its phase. Contracts see
-/// it as the image.
+/// it as the image. Beside the image it keeps a directory, a value for each movement and the placement maps.
 ///
 /// Each movement in flight keeps the row and the deltas of its plan. The plan is made when the movement is prepared, and
 /// anew if a keyspace is set or dropped. The deltas are exact in the image as it is: at each token, under each keyspace,
@@ -89,8 +89,9 @@ impl Metadata {
     ghost use Rattle.transformations.specs.Ranges.{AreApart, AreOutcomes, ArePlacedByOutcomes, KeepsRanges, PlacedByRanges};
     ghost use Rattle.cluster_metadata.specs.Permission.{AdmitsUnless};
 
-    /// The metadata before the first command: epoch 0, no node and no keyspace. Fails only if memory runs out.
+    /// The metadata before the first command: epoch 0, no node and no keyspace.
     pub fn empty(alloc: Global) -> Result<Metadata, Memory>
+        // Promise: it begins with the image before the first command. Guards: calls/metadata.rt, tried.
         ensures { IfOk result (λ metadata. metadata ≡ empty_image) }
     {
         let image = empty_image(alloc);
@@ -118,8 +119,13 @@ impl Metadata {
     /// between cuts that is in its movement's ranges. Under each replication, the placement maps take three rings of
     /// all pairs, and three walks for each row between cuts; without movements, one ring and one walk.
     pub fn from_image(alloc: Global, image: Image) -> Result<Metadata, (Image, ImageFault)>
+        // Promise: metadata made of an image has this image, and its movements go on from their phases; if none is
+        // made, the image is handed back. Guards: calls/plans.rt, moving.rt, calls/follower.rt.
         ensures ok { IfOk result (λ metadata. metadata ≡ image) }
         ensures handed_back { IfErr result (λ e. e.0 ≡ image) }
+        // Promise: metadata is made only of an image that breaks no rule; `Bad` has the first rule of all 18 that it
+        // breaks, with its value, and `Memory` tells nothing. Guards: takes_overlapping_image.edit, bad_images.rt,
+        // ImageRows.antt.
         ensures bad { MatchResult result (λ _. bad_of image ≡ None) (λ e. IsCause (bad_of image) e.1) }
     {
         match parts_of(alloc, &image) {
@@ -149,15 +155,17 @@ impl Metadata {
 
     /// The image. It is valid, and the replication of each keyspace names each of its datacenters once.
     pub fn as_image(&self) -> &Image
+        // Promise: it shows its image, which is valid, and its epoch. Guards: calls/metadata.rt.
         ensures image { result.now ≡ self.now }
         ensures valid { IsValid self.now }
+        // Promise: each keyspace of its image has a replication. Guards: law.
         ensures replications { HaveReplications self.now }
     {
         &self.image
     }
 
-    /// A copy of the image, with all its lists. Fails only if memory runs out. The image is valid, and the
-    /// replication of each keyspace names each of its datacenters once.
+    /// A copy of the image, with all its lists. The image is valid, and the replication of each keyspace names each of
+    /// its datacenters once.
     pub fn image(&self) -> Result<Image, Memory>
         ensures image { IfOk result (λ image. image ≡ self.now) }
         ensures valid { IsValid self.now }
@@ -167,10 +175,11 @@ impl Metadata {
     }
 
     /// A copy of the metadata if no movement is in flight, and otherwise `None`: the lock of a movement has one holder.
-    /// Fails only if memory runs out.
     ///
     /// Cost: copies of the image, the directory and the rows of the placement maps.
     pub fn idle_copy(&self) -> Result<Option<Metadata>, Memory>
+        // Promise: a copy equals the metadata, and there is one if and only if no movement is in flight. Guards:
+        // followers.rt, tried.
         ensures copy { IfOk result (λ copy. IfSome copy (λ other. other ≡ self.now)) }
         ensures idle { IfOk result (λ copy. IsSome copy ↔ (self.now.sequences ≡ [])) }
     {
@@ -190,12 +199,14 @@ impl Metadata {
     }
 
     /// Becomes equal to other metadata that has no movement in flight, and returns whether it did: if a movement is in
-    /// flight there, leaves the metadata as they are, since the lock of a movement has one holder. Fails only if memory
-    /// runs out, and then changes nothing.
+    /// flight there, leaves the metadata as they are, since the lock of a movement has one holder. If memory runs out,
+    /// nothing changes.
     ///
     /// Cost: a comparison of the tokens, the keyspaces and the nodes. If one of these differs, or a movement is in
     /// flight here, the cost is that of `idle_copy`.
     pub fn follow(&mut self, other: &Metadata) -> Result<bool, Memory>
+        // Promise: metadata that follow others without a movement in flight become equal to these; if one is in flight
+        // there, or memory runs out, they stay as they are. Guards: followers.rt, tried.
         ensures followed { IfOk result (λ followed. self.new ≡ (if followed then other.now else self.old)) }
         ensures unchanged { OnErr result (self.new ≡ self.old) }
         ensures idle { IfOk result (λ followed. IsTrue followed ↔ (other.now.sequences ≡ [])) }
@@ -269,10 +280,19 @@ impl Metadata {
     ) -> Result<Permit, AdmitFault>
         requires below_limit { self.now.epoch < most_epochs }
         requires formed { IsTrue (is_command cmd.now) }
+        // Promise: a permit is for this image and this command. Guards: tried.
         ensures permit { IfOk result (λ permit. permit ≡ record { image = self.now; command = cmd.now }) }
+        // Promise: a permit is given only for a command that the image accepts, and a refusal that is shown is the
+        // first one. Guards: always_locked.edit, scripts, tried.
+        // Promise: a movement whose ranges are locked gets no permit, and if nothing else refuses it, shows the least
+        // node that locks them and the end of the first shared row. Guards: always_locked.edit, scripts, tried.
         ensures refusal { AdmitsUnless (refusal_of self.now cmd.now) result }
+        // Promise: no walk is counted for a command that prepares no movement, or that has another refusal than locked
+        // ranges. Guards: tried.
         ensures uncounted { prepared_by self.now.tokens cmd.now ≡ None → walks.new ≡ walks.old }
         ensures early { IsSome (early_refusal_of self.now cmd.now) → walks.new ≡ walks.old }
+        // Promise: at most one movement has a token in its ranges, and whatever the outcomes, the placement at a token
+        // depends only on the movements that have it in theirs. Guards: law, scripts.
         ensures apart { AreApart self.now }
         ensures outcomes { PlacedByRanges self.now }
         ensures rings { AreOutcomes self.now }
@@ -321,19 +341,34 @@ impl Metadata {
     /// movement in flight takes a new plan, for m movements at the cost of m·m moves of such a value.
     pub fn enact(&mut self, permit: Permit) -> u64
         requires { permit.image ≡ self.old }
+        // Promise: what is enacted is the command of the permit. Guards: cancel_at_mid_ends.edit, scripts, tried.
+        // Promise: a step is taken by the movement of its own node. Guards: scripts, tried.
+        // Promise: each command that is enacted is one epoch, which is returned. Guards: scripts.
         ensures image { self.new ≡ next_image self.old permit.command }
         ensures epoch { result ≡ self.new.epoch }
         ensures apart { AreApart self.new }
         ensures outcomes { PlacedByRanges self.new }
         ensures rings { AreOutcomes self.new }
         ensures placements { ArePlacedByOutcomes self.new }
+        // Promise: an enacted command leaves the ranges of each movement that goes on as they are, under each keyspace
+        // of the image before. Guards: by `image`.
         ensures ranges { KeepsRanges self.old self.new }
+        // Promise: under each keyspace for which a command makes a movement epoch, which stays, quorums before and
+        // after it meet in both directions, at every token and in each named datacenter. Guards: by `image`, law.
         ensures meets { (k : Keyspace) → Contains self.old.keyspaces k
             → makes_movement_epoch k.name permit.command ≡ true → MeetsAfter self.old self.new k }
+        // Promise: a command changes reads and writes by its delta, at each token under each keyspace for which it
+        // makes a movement epoch. Guards: by `image`.
         ensures acts { ActsByDelta self.old self.new permit.command }
+        // Promise: a command but `unsafe-join` changes the cuts by the movement that begins or ends. Guards: by
+        // `image`.
         ensures cuts { is_unsafe_join permit.command ≡ false → CutsMove self.old self.new permit.command }
+        // Promise: after each command, the reads and the writes at a token that is no cut are those at the token after
+        // it. Guards: by `image`, law.
         ensures across { (r : Replication) (t : ℤ) → is_member int_eq (cuts self.new) t ≡ false
             → SameAcross self.new r t }
+        // Promise: each movement in flight gains and loses the same nodes at a token that is no cut and at the token
+        // after it. Guards: by `image`.
         ensures live { (r : Replication) (t : ℤ) → is_member int_eq (cuts self.new) t ≡ false
             → All (λ s. DeltasSameAcross self.new r s t) self.new.sequences }
     {
@@ -368,11 +403,17 @@ impl Metadata {
         t: Token,
         steps: &mut Steps<L>,
     ) -> Option<(&NodeSet, &NodeSet)>
+        // Promise: the nodes that are read and the nodes that are written, at most 1,024; `None` if and only if no
+        // keyspace has the name. Guards: mid_drops_writes.edit, scripts, tried.
         ensures sets { option_map (λ sets. (sets.0.now, sets.1.now)) result ≡ spec.served self.now keyspace.now t }
         ensures few { IfSome result (λ sets. length sets.1.now ≤ 1024) }
+        // Promise: at every token under every keyspace, each read node is written, a write quorum exists if and only if
+        // a read quorum does, and the two meet. Guards: law.
         ensures itself { QuorumsMeet self.now self.now }
         ensures together { QuorumsExistTogether self.now }
         ensures written { ReadsAreWritten self.now }
+        // Promise: a lookup counts s comparisons, and for n rows between the cuts 2^s is at most 2 n, and more than n /
+        // 2; for no keyspace it counts none. Guards: by `cost` and `enough` of `PlacementMap::at`, tried.
         ensures none { IsNone result → steps.new ≡ steps.old }
         ensures rises { steps.old ≤ steps.new }
         ensures bound { 2 ^ (steps.new - steps.old) ≤ 2 * length (rows_between (cuts self.now)) }
@@ -390,6 +431,8 @@ impl Metadata {
     ///
     /// Takes no memory. Cost: a comparison with each keyspace and each replication.
     pub fn placements(&self, keyspace: &Name) -> Option<&PlacementMap>
+        // Promise: the placement map of a keyspace has the nodes read and written in each row between the cuts; `None`
+        // if and only if no keyspace has the name. Guards: mid_drops_writes.edit, scripts.
         ensures { option_copied result ≡ option_map (λ row. placement_rows self.now row.replication)
             (spec.keyspace_of self.now keyspace.now) }
     {
@@ -424,6 +467,7 @@ impl Metadata {
 
     /// The replication of a keyspace. Returns `None` if and only if no keyspace has this name.
     pub fn replication(&self, keyspace: &Name) -> Option<&Replication>
+        // Promise: a keyspace's replication; `None` if and only if no keyspace has the name. Guards: scripts, tried.
         ensures { option_copied result ≡ option_map (λ row. row.replication)
             (spec.keyspace_of self.now keyspace.now) }
     {
@@ -435,6 +479,7 @@ impl Metadata {
 
     /// The registered nodes, and the id of the next node that is registered.
     pub fn directory(&self) -> &Directory
+        // Promise: the registered nodes and the next id. Guards: scripts, tried.
         ensures { result.now ≡ directory_of self.now }
     {
         &self.directory
@@ -443,6 +488,8 @@ impl Metadata {
     /// The locks of the movements in flight, in the order of nodes. For each movement the table has its node and the
     /// tokens of its ranges, under each replication of the keyspaces. Without movements it has no lock.
     pub fn locks(&self) -> &LockTable
+        // Promise: the locks of the movements are in a table, in the order of nodes, each with its ranges under each
+        // replication; without movements there is none. Guards: law, locks.rt, tried.
         ensures nodes { map (λ row. row.node) result.now ≡ map (λ s. s.node) self.now.sequences }
         ensures locks { AreLocksOf self.now self.now.sequences result.now }
     {
@@ -458,8 +505,12 @@ impl Metadata {
     ///
     /// Takes no memory. Cost: a comparison with each movement.
     pub fn plan_of(&self, node: NodeId) -> Option<&Plan>
+        // Promise: each movement in flight keeps its own value, at its phase, with the row and the deltas of its plan.
+        // Guards: calls/streams.rt, scripts, tried.
         ensures row { option_map (λ plan. plan.now.row) result
             ≡ option_map (λ (s : MovementRow). record s { phase = phase.Prepared }) (movement_of self.now node) }
+        // Promise: the plan of each movement in flight has the movement's deltas in the image as it is, under each
+        // replication of its keyspaces. Guards: old_deltas_stay.edit, renewals.rt, calls/plans.rt, tried.
         ensures deltas { IfSome result (λ plan. HasDeltas self.now plan.now) }
     {
         match find_running(self.running.as_slice(), node) {
@@ -468,7 +519,8 @@ impl Metadata {
         }
     }
 
-    /// Consumes the metadata, with the values of the movements in flight and their locks.
+    /// Consumes the metadata, with the values of the movements in flight and their locks. This brings the values to
+    /// their end, and changes nothing of the cluster.
     pub fn close(self) {
         let Metadata {
             alloc: _,

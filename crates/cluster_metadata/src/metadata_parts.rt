@@ -40,7 +40,6 @@ fn have_replications(keyspaces: &[KeyspaceRow])
     }
 }
 
-/// The directory of a sound image. Fails only if memory runs out.
 fn directory_for(alloc: Global, image: &Image) -> Result<Directory, Memory>
     requires { IsSound image.now }
     ensures { IfOk result (λ directory. directory ≡ directory_of image.now) }
@@ -48,7 +47,6 @@ fn directory_for(alloc: Global, image: &Image) -> Result<Directory, Memory>
     Directory::from_valid(alloc, image.nodes.as_slice(), image.next)
 }
 
-/// The placement maps of a valid image. Fails only if memory runs out.
 fn maps_in(alloc: Global, image: &Image, directory: &Directory) -> Result<MapBook, Memory>
     requires valid { IsValid image.now }
     requires nodes { directory.now.rows ≡ image.now.nodes }

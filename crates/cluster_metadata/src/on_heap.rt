@@ -17,7 +17,7 @@ impl<T> Model for OnHeap<T> {
 }
 
 impl<T: Drop> OnHeap<T> {
-    /// Moves a value to the heap. Fails only if memory runs out; then the value is dropped.
+    /// Moves a value to the heap. If memory runs out, the value is dropped.
     pub fn new(alloc: Global, item: T) -> Result<OnHeap<T>, Memory>
         ensures { IfOk result (λ on_heap. on_heap ≡ item) }
     {

@@ -32,7 +32,7 @@ pub fn room_for(alloc: Global, count: usize) -> Result<Vec<Running>, Memory>
 }
 
 /// The first refusal of a command, apart from `Locked`. The name of a new node is looked up in the directory, which
-/// must hold the nodes of the image. Fails only if memory runs out.
+/// must hold the nodes of the image, and not in the image's list.
 pub fn first_refusal(
     alloc: Global,
     image: &Image,
@@ -49,9 +49,10 @@ pub fn first_refusal(
     }
 }
 
-/// The permission to enact a command in an image that accepts it. Contracts see it as this image and this command. It
-/// holds the memory that the command needs. For a prepare this includes the ranges that the movement locks, and room
-/// for them in the table of locks.
+/// The permission to enact a command in an image that accepts it. Contracts see it as this image and this command,
+/// which it keeps as values that only clauses see, so nothing is compared at run time. It holds the memory that the
+/// command needs. For a prepare this includes the ranges that the movement locks, and room for them in the table of
+/// locks, but neither a table of locks nor a key.
 ///
 /// The value must be consumed once: `Metadata::enact` carries out the command, and `decline` gives the permit up.
 pub struct Permit {

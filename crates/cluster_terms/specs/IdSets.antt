@@ -17,6 +17,6 @@ has_node ids n = is_member nat_eq ids n
 abbrev pub without : List ℕ → List ℕ → List ℕ
 without ids others = filter (λ n. not (has_node others n)) ids
 
--- a set without the nodes that it loses, and with those that it gains
+-- a set without the nodes that it loses, and with those that it gains: the one definition of such a set
 abbrev pub with_change : List ℕ → List ℕ → List ℕ → List ℕ
 with_change ids gained lost = put_all nat_cmp gained (without ids lost)

@@ -57,6 +57,8 @@ impl<T: Copy, const N: usize> Few<T, N> {
     /// Adds an item at the end. There must be room.
     pub fn push(&mut self, item: T)
         requires { length self.old < N }
+        // Promise: a list of up to a fixed number of items is inline: an item is added at its end, all are removed, and
+        // nothing takes memory. Guards: scripts, tried.
         ensures { self.new ≡ self.old ++ item ∷ [] }
     {
         let count = self.count;

@@ -9,10 +9,11 @@ use crate::token::{Pair, Token};
 use std::alloc::Global;
 use std::marker::Model;
 
-/// A value that can be copied if there is enough memory.
+/// A value that can be copied if there is enough memory. This isn't `Clone`, since a copy may run out of memory.
 pub trait TryCopy {
-    /// An equal value, or `Memory` if memory runs out.
+    /// An equal value.
     fn copy(&self) -> Result<Self, Memory>
+        // Promise: a copy equals the value. Guards: calls/terms.rt, calls/copies.rt, tried.
         ensures { IfOk result (λ copied. copied ≡ self.now) };
 }
 
@@ -28,7 +29,7 @@ impl TryCopy for u64 {
     }
 }
 
-/// A list that grows at its end.
+/// A list that grows at its end. It is the one list type, with names for its uses, such as `TokenList`.
 #[derive(Debug, Drop)]
 pub struct SmallList<T> {
     items: Vec<T>,
@@ -59,7 +60,7 @@ impl<T> SmallList<T> {
         }
     }
 
-    /// The empty list, with room for this many items. Fails only if memory runs out.
+    /// The empty list, with room for this many items.
     pub fn with_room(alloc: Global, count: usize) -> Result<Self, Memory>
         ensures { IfOk result (λ list. list ≡ []) }
     {
@@ -69,6 +70,8 @@ impl<T> SmallList<T> {
 
     /// The list of a vector's items. Takes no memory and copies nothing.
     pub fn from_vec(items: Vec<T>) -> Self
+        // Promise: the items of a vector are a list, and those of a list a vector; a list with room is empty. Guards:
+        // scripts.
         ensures { result ≡ items.items }
     {
         SmallList { items }
@@ -96,6 +99,7 @@ impl<T> SmallList<T> {
     /// returns the item and leaves the list unchanged.
     pub fn insert(&mut self, at: usize, item: T) -> Result<(), (T, Memory)>
         requires { at ≤ length self.old }
+        // Promise: an item is added at its place; if memory runs out, the list is as before. Guards: tried.
         ensures { MatchResult result (λ _. self.new ≡ insert self.old at item)
             (λ e. (self.new ≡ self.old) × (e.0 ≡ item)) }
     {
@@ -122,6 +126,8 @@ impl<T> SmallList<T> {
     pub fn insert_in(&mut self, at: usize, item: T, room: Room<T>)
         requires place { at ≤ length self.old }
         requires room { length self.old < room }
+        // Promise: with memory made beforehand, for more items than there are, an item is added at its place, and no
+        // memory is taken. Guards: scripts.
         ensures { self.new ≡ insert self.old at item }
     {
         room.give(&mut self.items);
@@ -151,6 +157,7 @@ impl<T: Drop> SmallList<T> {
     /// Keeps the items that a test accepts, in their order. Takes no memory. The cost is one pass over the items.
     pub fn retain<F: FnMut(&T) -> bool>(&mut self, keep: F)
         requires { F.IsAlwaysCallable keep }
+        // Promise: a list keeps the items that a test accepts, in their order. Guards: tried.
         ensures { IsFiltered (CalledAt F.FnMut) keep self.old self.new }
     {
         self.items.retain(keep);
@@ -158,9 +165,9 @@ impl<T: Drop> SmallList<T> {
 }
 
 impl<T: Copy> SmallList<T> {
-    /// An equal list with room for `room` more items, or `Memory` if memory runs out. The cost is a copy of the items,
-    /// all at once.
+    /// An equal list with room for `room` more items. The cost is a copy of the items, all at once.
     pub fn copy_with_room(&self, room: usize) -> Result<Self, Memory>
+        // Promise: a copy with room for more items equals the list. Guards: scripts.
         ensures { IfOk result (λ copied. copied ≡ self.now) }
     {
         let count = self.items.len().saturating_add(room);
@@ -180,14 +187,14 @@ impl<T: Copy> SmallList<T> {
 }
 
 impl<T: TryCopy + Drop> SmallList<T> {
-    /// An equal list, or `Memory` if memory runs out. The cost is a copy of each item.
+    /// An equal list. The cost is a copy of each item.
     pub fn copy(&self) -> Result<Self, Memory>
         ensures { IfOk result (λ copied. copied ≡ self.now) }
     {
         self.copy_for(0)
     }
 
-    /// An equal list with room for `more` items, or `Memory` if memory runs out. The cost is a copy of each item.
+    /// An equal list with room for `more` items. The cost is a copy of each item.
     pub fn copy_for(&self, more: usize) -> Result<Self, Memory>
         ensures { IfOk result (λ copied. copied ≡ self.now) }
     {

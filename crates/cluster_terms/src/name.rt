@@ -12,7 +12,8 @@ use std::marker::Model;
 const MOST_BYTES: usize = 32;
 
 /// The name of a node, a datacenter, a rack or a keyspace: 1 to 32 of the characters `A-Z a-z 0-9 _ - .`. The bytes are
-/// stored inline, so a copy allocates nothing.
+/// stored inline, so a copy allocates nothing. It isn't `Copy`, since the checker fails on an option of it that goes
+/// through `or_else`.
 #[derive(Debug, Drop)]
 pub struct Name {
     text: ArrayString<MOST_BYTES>,
@@ -29,7 +30,6 @@ impl Model for Name {
     ghost invariant = { λ name. IsTrue (is_name name.text.bytes) };
 }
 
-/// Whether a text is a name.
 fn is_name(text: &str) -> bool
     ensures { result ≡ spec.is_name text.now }
 {
@@ -43,7 +43,6 @@ fn has_name_bytes(bytes: &[u8]) -> bool
     bytes.iter().all(|byte| is_name_byte(*byte))
 }
 
-/// Whether a name may contain this byte.
 fn is_name_byte(byte: u8) -> bool
     ensures { result ≡ spec.is_name_byte byte }
 {
@@ -53,6 +52,7 @@ fn is_name_byte(byte: u8) -> bool
 impl Name {
     /// The name with this text. Returns `None` if and only if the text is not a name. Never returns `Memory`.
     pub fn from_text(_alloc: Global, text: &str) -> Result<Option<Name>, Memory>
+        // Promise: a name is 1 to 32 of its characters. Guards: tried.
         ensures valid { IfOk result (λ found. IsSome found ↔ IsTrue (spec.is_name text.now)) }
         ensures value { IfOk result (λ found. IfSome found (λ name. name ≡ text.now)) }
         ensures sure { IsOk result }

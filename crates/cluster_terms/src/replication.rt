@@ -58,6 +58,8 @@ impl Replication {
 
     /// Whether both replications have the same strategy and the same factors.
     pub fn same(&self, other: &Replication) -> bool
+        // Promise: two replications are the same if and only if they are equal, with the lemma
+        // `same_replication-exact`. Guards: calls/terms.rt, tried.
         ensures { result ≡ same_replication self.now other.now }
     {
         match (self, other) {

@@ -20,6 +20,8 @@ impl Replication {
     /// spaces separate the words, DC is a name, and RF is 1 to 16 without a leading zero. Returns `None` if and only if
     /// the text has neither form.
     pub fn parse(alloc: Global, text: &str) -> Result<Option<Replication>, Memory>
+        // Promise: a text is read as the replication that it stands for, and every other text as none. Guards:
+        // calls/terms.rt, tried.
         ensures { IfOk result (λ found. found ≡ spec.replication_of text.now) }
     {
         let words = words_of(alloc, text.as_bytes())?;
@@ -46,6 +48,7 @@ impl Replication {
     /// with its earlier bytes, and part of the text may follow.
     #[tactic(auto, unfolding(crate::specs::ReplicationText::text_of))]
     pub fn write(&self, out: &mut ByteText) -> Result<(), Memory>
+        // Promise: a replication has one text. Guards: calls/terms.rt, tried.
         ensures text { OnOk result (out.new ≡ out.old ++ spec.text_of self.now) }
         ensures kept { take (length out.old) out.new ≡ out.old }
         ensures valid { OnOk result (IsReplication self.now) }
@@ -71,7 +74,6 @@ fn words_of(alloc: Global, text: &[u8]) -> Result<Vec<&[u8]>, Memory>
     Ok(words)
 }
 
-/// Whether a word equals the wanted word.
 fn is_word(word: &[u8], wanted: &[u8]) -> bool
     ensures { result ≡ bytes_eq word.now wanted.now }
 {
@@ -161,5 +163,6 @@ fn write_row(row: &(Name, Rf), out: &mut ByteText) -> Result<(), Memory>
 /// Parsing the text of a valid replication gives the replication back.
 #[tactic(auto, using(crate::proofs::texts::RoundTrip::round_trip))]
 pub fn texts_read_back()
+    // Promise: the text of a replication is read as the same replication. Guards: law, calls/terms.rt.
     ensures { (r : AnyReplication) → IsReplication r → spec.replication_of (spec.text_of r) ≡ Some r }
 {}

@@ -26,6 +26,7 @@ impl Model for Rf {
 impl Rf {
     /// The factor with this number. Returns `None` if and only if the number is not from 1 to 16.
     pub fn new(n: u8) -> Option<Rf>
+        // Promise: a factor is 1 to 16. Guards: tried.
         ensures valid { IsSome result ↔ ((1 ≤ n) × (n ≤ 16)) }
         ensures value { IfSome result (λ rf. rf ≡ n) }
     {

@@ -18,6 +18,8 @@ pub trait RingRow {
 /// The index of the row of a token: how many rows end before it. The cost is a binary search.
 pub fn row_index<R: RingRow>(rows: &[R], t: Token) -> usize
     requires { CoverRing R.right rows.now }
+    // Promise: the row of a token, in rows that cover the ring, has as many rows before it as end before the token.
+    // Guards: scripts.
     ensures bound { result < length rows.now }
     ensures row { EndBefore R.right t rows.now result }
     ensures token { t ≤ℤ greatest_token }
@@ -26,7 +28,6 @@ pub fn row_index<R: RingRow>(rows: &[R], t: Token) -> usize
     rows.partition_point(|row| row.right_end().last_token().value() < number)
 }
 
-/// Whether the row at an index is that of a token.
 fn is_row_of<R: RingRow>(rows: &[R], at: usize, t: Token) -> bool
     requires { CoverRing R.right rows.now }
     ensures bound { IsTrue result → at < length rows.now }

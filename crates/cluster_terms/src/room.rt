@@ -37,7 +37,7 @@ fn move_over<T>(items: &mut Vec<T>, room: &mut Vec<T>)
 }
 
 impl<T> Room<T> {
-    /// Room for at least `count` items, or `Memory` if memory runs out.
+    /// Room for at least `count` items.
     pub fn for_items(alloc: Global, count: usize) -> Result<Room<T>, Memory>
         ensures { IfOk result (λ room. count ≤ room) }
     {

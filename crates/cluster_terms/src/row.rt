@@ -54,6 +54,7 @@ fn is_last(left: &Option<Token>) -> bool
 /// The ranges between ascending cuts: one up to each cut, and one for the tokens after the last cut, if any. The cost
 /// is one pass over the cuts.
 pub fn rows_between(alloc: Global, cuts: &[Token]) -> Result<Rows, Memory>
+    // Promise: rows end at each cut, and one more past the last, if a token is left there. Guards: scripts.rt, tried.
     ensures rows { IfOk result (λ rows. rows ≡ spec.rows_between cuts.now) }
     ensures tokens { OnOk result (AllByRecursion IsToken cuts.now) }
 {

@@ -3,7 +3,8 @@ ghost use Rattle.std.specs.Prelude.{◌≡◌, ◌+◌, ◌<◌};
 use std::marker::Model;
 use std::sync::ledger::{Blank, Book, Ledger, Share};
 
-/// A counter of walks or of comparisons. It takes no bytes and does nothing at run time. Only `tick` changes it.
+/// A counter of walks or of comparisons. It takes no bytes and does nothing at run time. Only `tick` changes it. A
+/// walk that is counted in another counter isn't seen.
 #[derive(Drop)]
 pub struct Steps<L: Ledger> {
     book: Book<L>,
@@ -34,6 +35,7 @@ impl<L: Ledger> Steps<L> {
 
     /// Adds one to the count.
     pub fn tick(&mut self)
+        // Promise: a counter begins at 0, and a tick adds one. Guards: by the clauses that count.
         ensures { self.new ≡ self.old + 1 }
     {
         self.book.add(&mut self.share, 1);

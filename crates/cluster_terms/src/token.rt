@@ -73,6 +73,7 @@ pub enum RightEnd {
 impl RightEnd {
     /// The last token of a range with this right end. It is 2^63 - 1 if the right end is `Max`.
     pub fn last_token(self) -> Token
+        // Promise: the last token of a range with a right end. Guards: scripts.
         ensures { result ≡ spec.last_token self }
     {
         match self {

@@ -11,6 +11,7 @@ ghost use Rattle.cluster_terms.specs.Row.{is_within, last_token, rows_between};
 /// its last token.
 #[tactic(auto, using(crate::proofs::rows::RowLemmas::one_row, crate::proofs::rows::RowLemmas::each_has_last))]
 pub fn each_token_has_one_row()
+    // Promise: each token is in exactly one row between ascending cuts. Guards: law.
     ensures one { (cuts : List ℤ) (x : ℤ) → IsStrictlySortedBy int_cmp cuts → All IsToken cuts → IsToken x
         → length (filter (is_within x) (rows_between cuts)) ≡ 1 }
     ensures last { (cuts : List ℤ) → IsStrictlySortedBy int_cmp cuts → All IsToken cuts

@@ -50,6 +50,8 @@ impl Growing {
     /// Returns the value as it was if memory runs out. Takes memory only for more than 7 members.
     #[tactic(auto, using(crate::proofs::MajorityLemmas::meet_put, crate::proofs::SetSteps::put_length, crate::proofs::SetSteps::put_some))]
     pub fn finish(self) -> Result<Members, (Growing, Memory)>
+        // Promise: the node that has started, and no other, becomes a voting member, or gives up and the voting members
+        // stay. Guards: calls/members.rt.
         ensures finish { MatchResult result
             (λ members. service_after (growing_service self) (change.Finish self.node) ≡ Some (service_of members))
             (λ e. e.0 ≡ self) }

@@ -15,6 +15,9 @@ const MOST_MEMBERS: u32 = 32;
 
 /// The voting members of the metadata service: 1 to 32 nodes. Contracts see their ids, ascending.
 ///
+/// Only `Members` has `start` and `remove`, and only `Growing` has `finish` and `stop`. `Members` of `node_directory`
+/// is another type.
+///
 /// The value must be spent. Code doesn't compile if it drops the members or uses them twice.
 pub struct Members {
     pub(crate) set: NodeSet,
@@ -43,6 +46,7 @@ impl Members {
     ///
     /// Returns the set if it has no node or more than 32.
     pub fn from_set(set: NodeSet) -> Result<Members, NodeSet>
+        // Promise: a set of 1 to 32 nodes becomes members, and no other set does. Guards: calls/members.rt.
         ensures accepted { is_ok result ≡ are_members set }
         ensures set { MatchResult result (λ members. members ≡ set) (λ back. back ≡ set) }
     {
@@ -55,6 +59,7 @@ impl Members {
 
     /// The voting members, 1 to 32. Takes no memory.
     pub fn set(&self) -> &NodeSet
+        // Promise: the voting members are 1 to 32, or 1 to 31 while a node joins. Guards: calls/members.rt.
         ensures members { result.now ≡ self.now }
         ensures some { 1 ≤ length self.now }
         ensures few { length self.now ≤ 32 }
@@ -64,6 +69,8 @@ impl Members {
 
     /// How many voting members are a majority: 1 to 17. Takes no memory.
     pub fn needs(&self) -> u32
+        // Promise: a majority is half of the voting members, rounded down, plus one, and a node that has started
+        // doesn't count. Guards: calls/members.rt.
         ensures { result ≡ majority_of self.now }
     {
         majority_of(&self.set)
@@ -76,7 +83,10 @@ impl Members {
     /// are 32 members.
     #[tactic(auto, using(crate::proofs::MajorityLemmas::meet_same))]
     pub fn start(self, n: NodeId) -> Result<Growing, (Members, StartFault)>
+        // Promise: a node starts if and only if it isn't a member and there are fewer than 32, and the voting members
+        // stay. Guards: calls/members.rt, tried.
         ensures start { IfOk result (λ g. service_after (service_of self) (change.Start n) ≡ Some (growing_service g)) }
+        // Promise: a refusal gives the members back as they were. Guards: calls/members.rt.
         ensures refused { IfErr result (λ e. (e.0 ≡ self) × (start_fault self n ≡ Some e.1)) }
         ensures meet { IfOk result (λ g. MajoritiesMeet self g.voting) }
     {
@@ -94,11 +104,16 @@ impl Members {
     ///
     /// Returns the members as they were with `NotMember` if the node isn't a member, with `Last` if it is the only member,
     /// and with `Memory` if memory runs out. Takes memory only if more than 7 members stay.
+    /// This and `Growing::finish` make a new set, so without memory the members are as before.
     #[tactic(auto, using(crate::proofs::MajorityLemmas::meet_less, crate::proofs::SetSteps::less_bounds))]
     pub fn remove(self, n: NodeId) -> Result<Members, (Members, MemberFault)>
+        // Promise: one member is removed, if it is a member and not the only one, unless memory runs out. Guards:
+        // remove_takes_two_members.edit, calls/members.rt.
         ensures remove { IfOk result (λ members.
             service_after (service_of self) (change.Remove n) ≡ Some (service_of members)) }
         ensures refused { IfErr result (λ e. (e.0 ≡ self) × (e.1 ≡ unwrap_or (remove_fault self n) fault.Memory)) }
+        // Promise: each majority of the voting members before a change has a member in common with each majority of
+        // those after it. Guards: remove_takes_two_members.edit.
         ensures meet { IfOk result (λ members. MajoritiesMeet self members) }
     {
         if !self.set.has(n) {
@@ -118,6 +133,7 @@ impl Members {
 
     /// The set of the members. Takes no memory.
     pub fn close(self) -> NodeSet
+        // Promise: the set of the members is given back. Guards: calls/members.rt.
         ensures { result ≡ self }
     {
         let Members { set } = self;

@@ -10,5 +10,7 @@ ghost use Rattle.cms_members.specs.declared.change.Change.{Change};
 /// each majority of those after it.
 #[tactic(auto, using(crate::proofs::MajorityLemmas::all_meet))]
 pub fn changes_meet()
+    // Promise: at each change of every list of accepted changes, each majority of the voting members before it meets
+    // each majority of those after it. Guards: law.
     ensures { (s : Service) (changes : List Change) → IsNodeSet s.voting → AllMeet s changes }
 {}

@@ -2,11 +2,12 @@
 use Rattle.std.proofs.Common.{◌≡◌, inl, inr, ⊎_elim, ℕ, ◌+◌, ◌^◌, ◌<◌, ◌≤◌, List, [], ◌∷◌, ◌++◌, length, Option, None, Some, IfSome, get_or, ◌≢◌, refl, sym, ◌∙◌, ap, subst, arith}
 use Rattle.durable_log.specs.Disk.{Changes, Only, Passes, Same, Torn, Written}
 use Rattle.durable_log.specs.Images.{SameFilesOr}
-use Rattle.durable_log.specs.code.Ends.{FilesChanged, FilesMayChange, IsFront, IsSettled}
+use Rattle.durable_log.specs.Ends.{IsFront}
+use Rattle.durable_log.specs.code.Ends.{FilesChanged, FilesMayChange, IsSettled}
 use Rattle.durable_log.specs.Records.{Change, body, changed, files}
 use Rattle.durable_log.proofs.Crash.{Staged, behind_kept, opened, stage, torn_gate}
 use Rattle.durable_log.proofs.Moments.{Step, from_start, goes_on, told_as}
-use Rattle.durable_log.proofs.Writes.{written_torn}
+use Rattle.durable_log.proofs.Writes.{written_gate, written_torn}
 
 -- a call that changes nothing
 pub then_same : {D : Type 0} (moment : D → ℕ) (image : D → ℕ → List ℕ → Type 0) (R : Step) (old mid new : D) → ((c : List ℕ) → R c c) → Passes moment image R old mid → Passes moment image Same mid new → Passes moment image R old new
@@ -60,6 +61,16 @@ module _ (gate : ℕ) (change : Change) (kind : change.kind ≤ 1) (name_fits : 
       (opened gate old s.front s.room s.closed change kind name_fits bytes_fit mid new
       (stage gate old s.front s.room s.closed change kind name_fits bytes_fit mid puts)
       (subst (λ (o : Option (List ℕ)). Changes (Written gate (1 ∷ [])) o (Some new)) kept opens)).files_are
+
+  pub gate_adds : (old mid synced new last : Option (List ℕ)) → Settled old → Puts old mid → synced ≡ mid → Changes (Written gate (1 ∷ [])) synced new → last ≡ new → Changes (Written gate (1 ∷ (body change ++ 0 ∷ []))) old last
+  gate_adds None None synced new last s puts kept opens kept_last = kept_last ∙ subst (λ (o : Option (List ℕ)). Changes (Written gate (1 ∷ [])) o new) kept opens
+  gate_adds None (Some mid) synced new last s puts kept opens kept_last = absurd (cc puts)
+  gate_adds (Some old) None synced new last s puts kept opens kept_last = absurd puts
+  gate_adds (Some old) (Some mid) synced None last s puts kept opens kept_last = absurd (subst (λ (o : Option (List ℕ)). Changes (Written gate (1 ∷ [])) o None) kept opens)
+  gate_adds (Some old) (Some mid) synced (Some new) last s puts kept opens kept_last =
+      subst (λ (o : Option (List ℕ)). Changes (Written gate (1 ∷ (body change ++ 0 ∷ []))) (Some old) o) (sym kept_last)
+      (written_gate gate 1 (body change ++ 0 ∷ []) old mid new s.room puts
+      (subst (λ (o : Option (List ℕ)). Changes (Written gate (1 ∷ [])) o (Some new)) kept opens))
 
   pub may_from : (old new : Option (List ℕ)) → Changes (FilesChanged change) old new → Changes (FilesMayChange change) old new
   may_from None new is = is

@@ -5,7 +5,7 @@ use Rattle.std.proofs.lemmas.List.{append-nil, drop_at, drop_more, get_or-take, 
 use Rattle.std.specs.FinMap as map
 use Rattle.tcm_edges.specs.Files.{Files}
 use Rattle.durable_log.specs.Disk.{Torn, Written}
-use Rattle.durable_log.specs.code.Ends.{IsEnd, IsFront}
+use Rattle.durable_log.specs.Ends.{IsEnd, IsFront}
 use Rattle.durable_log.specs.Records.{Change, body, changed, changed_all, files, records}
 use Rattle.durable_log.proofs.Fronts.{closed_end, front_kept, records_end}
 use Rattle.durable_log.proofs.RecordLemmas.{records-written, records_none, shut}

@@ -1,13 +1,15 @@
 -- The steps of closing the end of the records, on a disk that may tell its content.
-use Rattle.std.proofs.Common.{◌≡◌, ℕ, false, List, [], ◌∷◌, Option, None, Some, IfSome, inl, inr, ⊎_elim, refl, sym, ◌∙◌, ap, subst}
+use Rattle.std.proofs.Common.{◌≡◌, ℕ, false, true, List, [], ◌∷◌, ◌++◌, Option, None, Some, IfSome, inl, inr, ⊎_elim, refl, sym, ◌∙◌, ap, subst}
 use Rattle.durable_log.specs.Disk.{Changes, Only, Passes, Same, Torn, Written}
 use Rattle.durable_log.specs.Images.{ClosesGate, SameFiles, SameFilesOr, Stands, StandsEither}
-use Rattle.durable_log.specs.code.Ends.{EndsAt, IsSettled}
+use Rattle.durable_log.specs.Ends.{AddsRecord, ClosesAt, EndsAt}
+use Rattle.durable_log.specs.code.Ends.{IsSettled}
 use Rattle.tcm_edges.specs.Files.{Files}
-use Rattle.durable_log.specs.Records.{Change, changed, files}
+use Rattle.durable_log.specs.Records.{Change, body, changed, files}
 use Rattle.durable_log.proofs.Crash.{torn_end, written_end}
+use Rattle.durable_log.proofs.Fronts.{closed_end}
 use Rattle.durable_log.proofs.Moments.{Step, from_start, goes_on, told_as}
-use Rattle.durable_log.proofs.Writes.{written_torn}
+use Rattle.durable_log.proofs.Writes.{written_over, written_torn}
 use Rattle.durable_log.proofs.AddSteps.{then_same}
 
 module _ (place : ℕ) where
@@ -34,15 +36,39 @@ module _ (place : ℕ) where
       let here : IsSettled place image new = record { front = there.front; room = there.room; closed = there.closed; only = only } in
       subst (λ (o : Option (List ℕ)). IfSome o (IsSettled place image)) (sym kept) here
 
-  pub closes_written : (old mid new : Option (List ℕ)) → mid ≡ old → Changes (Written place (0 ∷ [])) mid new → Changes ClosesGate old new
-  closes_written None mid new same is = subst (λ (o : Option (List ℕ)). Changes (Written place (0 ∷ [])) o new) same is
-  closes_written (Some old) mid None same is = subst (λ (o : Option (List ℕ)). Changes (Written place (0 ∷ [])) o None) same is
-  closes_written (Some old) mid (Some new) same is = inr (place, subst (λ (o : Option (List ℕ)). Changes (Written place (0 ∷ [])) o (Some new)) same is)
+  pub closes_written : (old mid new : Option (List ℕ)) → mid ≡ old → Ends mid → Changes (Written place (0 ∷ [])) mid new → Changes (ClosesAt place) old new
+  closes_written None mid new same ends is = subst (λ (o : Option (List ℕ)). Changes (Written place (0 ∷ [])) o new) same is
+  closes_written (Some old) mid None same ends is = subst (λ (o : Option (List ℕ)). Changes (Written place (0 ∷ [])) o None) same is
+  closes_written (Some old) mid (Some new) same ends is =
+      inr (subst (λ (o : Option (List ℕ)). IfSome o (EndsAt place false)) same ends, subst (λ (o : Option (List ℕ)). Changes (Written place (0 ∷ [])) o (Some new)) same is)
 
-pub closes_kept : (old new : Option (List ℕ)) → new ≡ old → Changes ClosesGate old new
-closes_kept None new is = is
-closes_kept (Some old) None is = absurd (cc is)
-closes_kept (Some old) (Some new) is = inl (cc is)
+  pub closes_kept : (old new : Option (List ℕ)) → new ≡ old → IfSome old (EndsAt place true) → Changes (ClosesAt place) old new
+  closes_kept None new is ends = is
+  closes_kept (Some old) None is ends = absurd (cc is)
+  closes_kept (Some old) (Some new) is ends = inl (ends, cc is)
+
+  -- a settled disk is left as it is
+  pub closes_settled : (told : Option (List ℕ)) (image : List ℕ → Type 0) → IfSome told (IsSettled place image) → Changes (ClosesAt place) told told
+  closes_settled None image s = refl
+  closes_settled (Some old) image s =
+      inl (record { end = closed_end place old s.front s.room s.closed; closed = λ _. (s.room, s.closed); bare = λ is. absurd (cc is) }, refl)
+
+  -- the place isn't told
+  pub closes_some : (old new : Option (List ℕ)) → Changes (ClosesAt place) old new → Changes ClosesGate old new
+  closes_some None new is = is
+  closes_some (Some old) None is = is
+  closes_some (Some old) (Some new) is = (place, is)
+
+  -- a record that is written at the gate that was closed
+  pub adds : (change : Change) (old mid new : Option (List ℕ)) → Changes (ClosesAt place) old mid → Changes (Written place (1 ∷ (body change ++ 0 ∷ []))) mid new → Changes (AddsRecord change) old new
+  adds change None None new first second = second
+  adds change None (Some mid) new first second = absurd (cc first)
+  adds change (Some old) None new first second = absurd first
+  adds change (Some old) (Some mid) None first second = second
+  adds change (Some old) (Some mid) (Some new) first second = ⊎_elim
+      (λ it. (place, it.0.end, subst (λ (l : List ℕ). Written place (1 ∷ (body change ++ 0 ∷ [])) l new) it.1 second))
+      (λ it. (place, it.0.end, written_over place 0 1 (body change ++ 0 ∷ []) old mid new it.0.end.front.within it.1 second))
+      first
 
 module _ {D : Type 0} (moment : D → ℕ) (image : D → ℕ → List ℕ → Type 0) where
   abbrev Goes : Option (List ℕ) → D → D → Type 0

@@ -8,6 +8,7 @@ use Rattle.tcm_edges.specs.Causes.{OnFailed}
 use Rattle.tcm_edges.specs.declared.fault.Failed.{Failed}
 use Rattle.tcm_edges.specs.declared.fault.WriteFault.{WriteFault}
 use Rattle.durable_log.specs.Disk.{Changes}
+use Rattle.durable_log.specs.Ends.{AddsRecord}
 use Rattle.durable_log.specs.code.Ends.{FilesChanged, FilesMayChange}
 use Rattle.durable_log.specs.Records.{Change, changed, files}
 use Rattle.durable_log.specs.code.Ends.{change_by, write_result}
@@ -61,6 +62,13 @@ module _ (change : Change) where
 
 -- the same, by the results of the calls
 module _ (written name bytes : List ℕ) (old new : Option (List ℕ)) (added : Result (Unit {0}) Failed) (result : Result (Unit {0}) WriteFault) (same : written ≡ name) (is : result ≡ write_result added) where
+  pub add_ok : (kind : ℕ) → OnOk added (Changes (AddsRecord (change_by kind written bytes)) old new) → OnOk result (Changes (AddsRecord (change_by kind name bytes)) old new)
+  add_ok kind made = subst (λ (r : Result (Unit {0}) WriteFault). OnOk r (Changes (AddsRecord (change_by kind name bytes)) old new)) (sym is) (by added made)
+    where
+      by : (a : Result (Unit {0}) Failed) → OnOk a (Changes (AddsRecord (change_by kind written bytes)) old new) → OnOk (write_result a) (Changes (AddsRecord (change_by kind name bytes)) old new)
+      by (Ok x) made = subst (λ (n : List ℕ). Changes (AddsRecord (change_by kind n bytes)) old new) same made
+      by (Err e) made = tt
+
   pub append_ok : OnOk added (Changes (FilesChanged (change_by 0 written bytes)) old new) → OnOk result (ChangesFile (GainsAll bytes) (option_map files old) (option_map files new) name)
   append_ok made = subst (λ (r : Result (Unit {0}) WriteFault). OnOk r (ChangesFile (GainsAll bytes) (option_map files old) (option_map files new) name)) (sym is) (by added made)
     where

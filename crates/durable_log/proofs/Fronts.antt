@@ -3,7 +3,7 @@ use Rattle.std.proofs.Common.{◌≡◌, ◌≢◌, ℕ, ◌+◌, ◌-◌, ◌<�
 use Rattle.std.proofs.Math.Seq.{take-add}
 use Rattle.std.proofs.lemmas.List.{append-nil, drop-take, drop_at, drop_more, get_or-take, length-take-le, take-take, take_at}
 use Rattle.std.specs.Int.{w64, from_be_bytes}
-use Rattle.durable_log.specs.code.Ends.{IsEnd, IsFront}
+use Rattle.durable_log.specs.Ends.{IsEnd, IsFront}
 use Rattle.durable_log.specs.Records.{Change, change_of, is_whole, number_at, record_len, records}
 use Rattle.durable_log.proofs.RecordLemmas.{Whole, is_whole_by, records_first, same_change, shut, whole_from}
 

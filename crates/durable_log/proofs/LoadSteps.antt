@@ -11,7 +11,7 @@ use Rattle.std.specs.Cmp.Lexicographic.{slice_cmp}
 use Rattle.std.specs.FinMap as map
 use Rattle.durable_log.specs.declared.scan.RecordHeader.{RecordHeader}
 use Rattle.durable_log.specs.Records.{Change, change_of, changed, changed_all, files, is_whole, number_at, records}
-use Rattle.durable_log.specs.code.Ends.{IsEnd, IsFront}
+use Rattle.durable_log.specs.Ends.{IsEnd, IsFront}
 use Rattle.durable_log.specs.code.Headers.{header_len, header_of, whole_header}
 use Rattle.durable_log.specs.code.Loads.{FitsLimit, bytes_at, front_of}
 use Rattle.durable_log.proofs.Crash.{changed_all_push, files_end}

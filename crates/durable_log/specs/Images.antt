@@ -1,8 +1,8 @@
 -- What the images of a store's disk stand for.
-use Rattle.std.specs.Prelude.{◌≡◌, ◌⊎◌, ℕ, List, [], ◌∷◌, Option, IfSome}
+use Rattle.std.specs.Prelude.{◌≡◌, ◌⊎◌, ℕ, List, Option, None, Some, IfSome}
 use Rattle.std.specs.Option.{option_map}
 use Rattle.tcm_edges.specs.Files.{Files}
-use Rattle.durable_log.specs.Disk.{Written}
+use Rattle.durable_log.specs.Ends.{ClosesAt}
 use Rattle.durable_log.specs.Records.{Change, changed, files}
 
 -- the files of a disk's content, if the disk tells it
@@ -25,6 +25,11 @@ Stands content image = IfSome content (λ bytes. (c : List ℕ) → image c → 
 abbrev pub StandsEither : Change → Option (List ℕ) → (List ℕ → Type 0) → Type 0
 StandsEither change content image = IfSome content (λ bytes. (c : List ℕ) → image c → SameFilesOr (changed (files bytes) change) bytes c)
 
--- nothing was written, or a single 0
+-- the records end at a closed gate: nothing was written where one stood there, and else a single 0, there
 abbrev pub ClosesGate : List ℕ → List ℕ → Type 0
-ClosesGate old new = (new ≡ old) ⊎ ((at : ℕ) × Written at (0 ∷ []) old new)
+ClosesGate old new = (place : ℕ) × ClosesAt place old new
+
+-- a crash may leave these files: those of the content, if the disk tells it, or those of an image
+abbrev pub Shows : Option (List ℕ) → (List ℕ → Type 0) → Files → Type 0
+Shows None image f = ⊥
+Shows (Some bytes) image f = (c : List ℕ) × ((c ≡ bytes) ⊎ image c) × (f ≡ files c)

@@ -1,4 +1,5 @@
 pub mod Disk
+pub mod Ends
 pub mod Images
 pub mod MemDisk
 pub mod MemImages

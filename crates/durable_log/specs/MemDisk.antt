@@ -1,7 +1,8 @@
 -- A disk in memory.
-use Rattle.std.specs.Prelude.{ℕ, List, length, reverse, Result, Ok, Err}
+use Rattle.std.specs.Prelude.{◌≡◌, ℕ, List, [], ◌∷◌, ◌++◌, ◌-◌, ◌/◌, length, take, reverse, Result, Ok, Err}
 use Rattle.tcm_edges.specs.Calls.{Plan, call_passed, failed}
 use Rattle.durable_log.specs.MemImages.{LeftAt, last_kept, latest}
+use Rattle.durable_log.specs.declared.mem_disk.Done.{Done}
 use Rattle.durable_log.specs.declared.mem_disk.MemDisk.{MemDisk}
 
 -- its bytes
@@ -28,3 +29,15 @@ kept_on disk = last_kept disk.first (reverse disk.done)
 abbrev pub counted : {T E : Type 0} → Result T E → Plan ℕ → Plan ℕ
 counted (Ok _) plan = call_passed plan
 counted (Err _) plan = failed plan
+
+-- the steps done to it are those of before
+abbrev pub SameSteps : MemDisk → MemDisk → Type 0
+SameSteps old new = new.done ≡ old.done
+
+-- the steps done to it are those of before and this one
+abbrev pub OneStep : Done → MemDisk → MemDisk → Type 0
+OneStep step old new = new.done ≡ old.done ++ step ∷ []
+
+-- what a listed write writes: the first half of the bytes, rounded up
+abbrev pub half_of : List ℕ → List ℕ
+half_of bytes = take (length bytes - length bytes / 2) bytes

@@ -1,10 +1,10 @@
-ghost use Rattle.std.specs.Prelude.{◌≡◌, ◌<◌, ◌≤◌, ◌^◌, ◌∷◌, ◌++◌, length, IfOk, OnOk, OnErr, IfSome};
+ghost use Rattle.std.specs.Prelude.{◌≡◌, ◌<◌, ◌≤◌, ◌^◌, [], ◌∷◌, ◌++◌, length, IfOk, OnOk, OnErr, IfSome};
 ghost use Rattle.std.specs.Int.{w64, to_be_bytes};
 ghost use Rattle.tcm_edges.specs.Causes.{count_read};
-ghost use Rattle.durable_log.specs.Disk.{Changes, Passes};
+ghost use Rattle.durable_log.specs.Disk.{Changes, Passes, Written};
 ghost use Rattle.durable_log.specs.Images.{SameFilesOr};
 ghost use Rattle.durable_log.specs.code.Ends.{change_by, FilesChanged, FilesMayChange, IsSettled};
-ghost use Rattle.durable_log.specs.Records.{changed, files};
+ghost use Rattle.durable_log.specs.Records.{body, changed, files};
 
 use crate::disk::Disk;
 use crate::put_down::put_down;
@@ -41,12 +41,15 @@ pub(crate) fn add_record<D: Disk>(
         (D.content disk.old) (D.content disk.new)) }
     ensures err { OnErr result (Changes (FilesMayChange (change_by kind name.now bytes.now))
         (D.content disk.old) (D.content disk.new)) }
+    ensures adds { OnOk result (Changes (Written gate (1 ∷ (body (change_by kind name.now bytes.now) ++ 0 ∷ [])))
+        (D.content disk.old) (D.content disk.new)) }
     // Each image since the start stands for the files of an image of the start, or for those that `Ok` promises.
     ensures images { IfSome (D.content disk.old) (λ old. Passes D.moment D.image
         (SameFilesOr (changed (files old) (change_by kind name.now bytes.now))) disk.old disk.new) }
     ensures cause { D.faults disk.new ≡ count_read result (D.faults disk.old) }
 {
     let header = header_of(kind, name.len() as u64, bytes.len() as u64);
+    // The closed gate behind the record is written with it, or else old bytes could count as a record.
     let end = put_down(disk, gate + 1, &header, name, bytes)?;
     disk.sync()?;
     disk.write_at(gate, &[1])?;

@@ -15,18 +15,21 @@ use tcm_edges::Failed;
 const MOST: u64 = 1 << 62;
 
 /// A disk in a file of the operating system. It tells nothing of its bytes. The file is opened at the first call, and
-/// made if it is absent; the folder must be there. A failure to do so is a failure of that call, and the next call tries
-/// again.
+/// made if it is absent; the folder must be there. A failure to do so is a failure of that call.
 ///
-/// When the file is opened, it and its entry in its folder are put on the disk by a sync of each. Entries of the
-/// folders above are not. A sync waits for the bytes of the file and for its length, but not for its times. What a sync
-/// is worth depends on the file system and the device: they may answer it while bytes are in a cache that loses them
-/// without power. Nothing keeps another process from writing to the file.
+/// When the file is opened, it and its entry in the folder of the path are put on the disk by a sync of each. Entries of
+/// the folders above are not, nor is the folder that a link leads to. A sync waits for the bytes of the file and for its
+/// length, but not for its times. What a sync is worth depends on the file system and the device: they may answer it
+/// while bytes are in a cache that loses them without power. Nothing keeps another process from writing to the file.
+///
+/// Once the file can't be opened, or a sync fails, each later call fails, too. After a failed sync Linux forgets which
+/// bytes aren't on the disk, and answers the next sync at once. So bytes that were read back then might be gone later.
 #[derive(Drop)]
 pub struct FileDisk<R: Files> {
     rt: R,
     path: String,
     file: Option<R::File>,
+    lost: bool,
     failed: u64,
 }
 
@@ -73,7 +76,6 @@ fn read_from<F: Read + Seek>(file: &mut F, at: u64, buf: &mut [u8]) -> io::Resul
     file.read(buf)
 }
 
-/// Writes all bytes at a place.
 fn write_to<F: Write + Seek>(file: &mut F, at: u64, bytes: &[u8]) -> io::Result<()> {
     file.seek(SeekFrom::Start(at))?;
     file.write_all(bytes)?;
@@ -89,21 +91,26 @@ impl<R: Files> FileDisk<R> {
             rt,
             path,
             file: None,
+            lost: false,
             failed: 0,
         }
     }
 
     /// The file, which is opened if it isn't open. It is out of the disk until it is put back.
-    fn take_file(&mut self) -> io::Result<R::File>
+    fn take_file(&mut self) -> Option<R::File>
         ensures { self.new ≡ self.old }
     {
-        match self.file.take() {
-            Some(file) => Ok(file),
-            None => open_file(&self.rt, self.path.as_str()),
+        if self.lost {
+            return None;
         }
+        let file = match self.file.take() {
+            Some(file) => Some(file),
+            None => open_file(&self.rt, self.path.as_str()).ok(),
+        };
+        self.lost = file.is_none();
+        file
     }
 
-    /// Counts a failure.
     fn fail(&mut self) -> Failed
         ensures { self.new ≡ with_failure self.old }
     {
@@ -123,8 +130,10 @@ impl<R: Files> Disk for FileDisk<R> {
 
     ghost among = { λ _. tt };
 
+    ghost imageless = { λ _ _ _ none. none };
+
     fn size(&mut self) -> Result<u64, Failed> {
-        let Ok(file) = self.take_file() else {
+        let Some(file) = self.take_file() else {
             return Err(self.fail());
         };
         let about = file.metadata();
@@ -136,7 +145,7 @@ impl<R: Files> Disk for FileDisk<R> {
     }
 
     fn read_at(&mut self, at: u64, buf: &mut [u8]) -> Result<usize, Failed> {
-        let Ok(mut file) = self.take_file() else {
+        let Some(mut file) = self.take_file() else {
             return Err(self.fail());
         };
         let read = read_from(&mut file, at, buf);
@@ -152,7 +161,7 @@ impl<R: Files> Disk for FileDisk<R> {
         if at > MOST || len > MOST - at {
             return Err(self.fail());
         }
-        let Ok(mut file) = self.take_file() else {
+        let Some(mut file) = self.take_file() else {
             return Err(self.fail());
         };
         let written = write_to(&mut file, at, bytes);
@@ -164,14 +173,18 @@ impl<R: Files> Disk for FileDisk<R> {
     }
 
     fn sync(&mut self) -> Result<(), Failed> {
-        let Ok(file) = self.take_file() else {
+        let Some(file) = self.take_file() else {
             return Err(self.fail());
         };
-        let synced = file.sync_data();
-        self.file = Some(file);
-        match synced {
-            Ok(()) => Ok(()),
-            Err(_) => Err(self.fail()),
+        match file.sync_data() {
+            Ok(()) => {
+                self.file = Some(file);
+                Ok(())
+            }
+            Err(_) => {
+                self.lost = true;
+                Err(self.fail())
+            }
         }
     }
 }

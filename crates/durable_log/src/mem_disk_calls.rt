@@ -3,7 +3,8 @@ ghost use Rattle.std.specs.Io.{ReadsAtMost};
 ghost use Rattle.tcm_edges.specs.Calls.{fresh_plan, next_fails, call_passed, failed};
 ghost use Rattle.tcm_edges.specs.Causes.{count_read};
 ghost use Rattle.durable_log.specs.Disk.{Changes, Only, Passes, ReadsAt, Same, Torn, Written};
-ghost use Rattle.durable_log.specs.MemDisk.{bytes_on, counted, kept_on, plan_of, steps_of, CrashLeaves};
+ghost use Rattle.durable_log.specs.MemDisk.{bytes_on, counted, half_of, kept_on, plan_of, steps_of, CrashLeaves, OneStep, SameSteps};
+ghost use Rattle.durable_log.specs.declared.mem_disk.Done.TheVariants.{Synced, Wrote};
 
 use crate::disk::Disk;
 use crate::disk_calls::DiskCalls;
@@ -27,7 +28,6 @@ fn overwritten(alloc: Global, old: &[u8], at: u64, bytes: &[u8]) -> Result<ByteT
     Ok(next)
 }
 
-/// A copy of the bytes.
 fn copy_of(alloc: Global, bytes: &[u8]) -> Result<ByteText, Memory>
     ensures { IfOk result (λ copy. copy ≡ bytes.now) }
 {
@@ -39,6 +39,7 @@ fn copy_of(alloc: Global, bytes: &[u8]) -> Result<ByteText, Memory>
 impl MemDisk {
     /// A disk with these bytes as its only image, at which the calls with these numbers fail.
     pub fn new(bytes: ByteText, fails: CallList) -> MemDisk
+        // Promise: a disk in memory begins with its bytes as the only image. Guards: by the contract.
         ensures bytes { bytes_on result ≡ bytes }
         ensures image { Only (CrashLeaves result (steps_of result)) bytes }
         ensures plan { plan_of result ≡ fresh_plan fails }
@@ -79,6 +80,8 @@ impl MemDisk {
 
     /// What a crash leaves that loses each write since the last sync that succeeded. This counts as no call.
     pub fn crash(&self) -> Result<ByteText, Memory>
+        // Promise: what a disk in memory shows as the bytes after a crash, those after its last successful sync, is one
+        // of its images. Guards: stops.rt.
         ensures image { IfOk result (λ bytes. ∥ CrashLeaves self.now (steps_of self.now) bytes ∥₁) }
         ensures kept { IfOk result (λ bytes. bytes ≡ kept_on self.now) }
     {
@@ -93,6 +96,7 @@ impl MemDisk {
         ensures bytes { OnOk result (Written at bytes.now (bytes_on self.old) (bytes_on self.new)) }
         ensures images { OnOk result (Passes steps_of CrashLeaves (Torn at len) self.old self.new) }
         ensures bound { OnOk result (at + length bytes.now ≤ 2 ^ 62) }
+        ensures steps { OnOk result (OneStep (Wrote at len) self.old self.new) }
         ensures plan { plan_of self.new ≡ plan_of self.old }
         ensures err { OnErr result (self.new ≡ self.old) }
     {
@@ -114,6 +118,7 @@ impl MemDisk {
         ensures bytes { bytes_on self.new ≡ bytes_on self.old }
         ensures only { OnOk result (Only (CrashLeaves self.new (steps_of self.new)) (bytes_on self.new)) }
         ensures images { OnOk result (Passes steps_of CrashLeaves Same self.old self.new) }
+        ensures steps { OnOk result (OneStep (Synced (bytes_on self.old)) self.old self.new) }
         ensures plan { plan_of self.new ≡ plan_of self.old }
         ensures err { OnErr result (self.new ≡ self.old) }
     {
@@ -126,7 +131,6 @@ impl MemDisk {
         Ok(())
     }
 
-    /// Counts a failed call.
     fn fail(&mut self) -> Failed
         ensures { self.new ≡ record self.old { calls = failed self.old.calls } }
     {
@@ -146,6 +150,8 @@ impl Disk for MemDisk {
 
     ghost among = { λ disk. disk.among };
 
+    ghost imageless = { λ _. tt };
+
     /// Fails if it is listed or if there are more than 2^62 bytes, and otherwise never.
     fn size(&mut self) -> Result<u64, Failed>
         ensures size { IfOk result (λ n. n ≡ length (bytes_on self.old)) }
@@ -155,6 +161,9 @@ impl Disk for MemDisk {
         ensures cause { (plan_of self.new).faults ≡ count_read result (plan_of self.old).faults }
         ensures fails { IsErr result ↔ (IsTrue (next_fails (plan_of self.old)) ⊎ (2 ^ 62 < length (bytes_on self.old))) }
         ensures plan { plan_of self.new ≡ counted result (plan_of self.old) }
+        // Promise: a disk in memory keeps no more through a crash than its calls promise: a read and a sync that fails
+        // add no step, a sync that succeeds adds one, and a write adds one at its place. Guards: tried.
+        ensures steps { SameSteps self.old self.new }
     {
         let size = self.bytes().len();
         if self.calls.next_fails() || size > 1 << 62 {
@@ -174,6 +183,7 @@ impl Disk for MemDisk {
         ensures cause { (plan_of self.new).faults ≡ count_read result (plan_of self.old).faults }
         ensures fails { IsErr result ↔ IsTrue (next_fails (plan_of self.old)) }
         ensures plan { plan_of self.new ≡ counted result (plan_of self.old) }
+        ensures steps { SameSteps self.old self.new }
     {
         if self.calls.next_fails() {
             return Err(self.fail());
@@ -191,7 +201,8 @@ impl Disk for MemDisk {
     }
 
     /// Fails if it is listed, if the disk would have more than 2^62 bytes, or if memory runs out. A listed call writes
-    /// the first half of the bytes, rounded up, if there is memory for it. No other call that fails writes any.
+    /// the first half of the bytes, rounded up, if there is memory for it, so one that is to open a gate opens
+    /// it. No other call that fails writes any.
     fn write_at(&mut self, at: u64, bytes: &[u8]) -> Result<(), Failed>
         requires { at ≤ length (bytes_on self.old) }
         ensures ok { OnOk result (Written at bytes.now (bytes_on self.old) (bytes_on self.new)) }
@@ -201,6 +212,12 @@ impl Disk for MemDisk {
         ensures cause { (plan_of self.new).faults ≡ count_read result (plan_of self.old).faults }
         ensures fails { IsTrue (next_fails (plan_of self.old)) → IsErr result }
         ensures plan { plan_of self.new ≡ counted result (plan_of self.old) }
+        ensures steps { MatchResult result
+            (λ _. OneStep (Wrote at (length bytes.now)) self.old self.new)
+            (λ _. SameSteps self.old self.new
+            ⊎ (IsTrue (next_fails (plan_of self.old)) × OneStep (Wrote at (length bytes.now)) self.old self.new)) }
+        ensures half { OnErr result ((bytes_on self.new ≡ bytes_on self.old)
+            ⊎ (IsTrue (next_fails (plan_of self.old)) × Written at (half_of bytes.now) (bytes_on self.old) (bytes_on self.new))) }
     {
         let len = bytes.len() as u64;
         if self.calls.next_fails() {
@@ -223,6 +240,9 @@ impl Disk for MemDisk {
         ensures cause { (plan_of self.new).faults ≡ count_read result (plan_of self.old).faults }
         ensures fails { IsTrue (next_fails (plan_of self.old)) → IsErr result }
         ensures plan { plan_of self.new ≡ counted result (plan_of self.old) }
+        ensures steps { MatchResult result
+            (λ _. OneStep (Synced (bytes_on self.old)) self.old self.new)
+            (λ _. SameSteps self.old self.new) }
     {
         if self.calls.next_fails() || self.keep().is_err() {
             return Err(self.fail());

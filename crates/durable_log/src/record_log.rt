@@ -3,6 +3,7 @@ ghost use Rattle.std.proofs.Props.{props};
 ghost use Rattle.tcm_edges.specs.Causes.{count_load, count_read, one_more, OnLoadMemory};
 ghost use Rattle.tcm_edges.specs.Files.{IsLoad};
 ghost use Rattle.durable_log.specs.Disk.{Changes, Passes};
+ghost use Rattle.durable_log.specs.Ends.{AddsRecord, ClosesAt};
 ghost use Rattle.durable_log.specs.Images.{ClosesGate, SameFiles, SameFilesOr, Stands, StandsEither, told_files};
 ghost use Rattle.durable_log.specs.Records.{changed, files};
 ghost use Rattle.durable_log.specs.code.Ends.{change_by, FilesChanged, FilesMayChange, IsSettled};
@@ -71,7 +72,7 @@ impl<D: Disk> RecordLog<D> {
     fn gate(&mut self) -> Result<u64, Failed>
         ensures kept { IfOk result (λ gate. self.new.gate ≡ Some gate) }
         ensures files { Changes SameFiles (D.content self.old.disk) (D.content self.new.disk) }
-        ensures closes { OnOk result (Changes ClosesGate (D.content self.old.disk) (D.content self.new.disk)) }
+        ensures closes { IfOk result (λ gate. Changes (ClosesAt gate) (D.content self.old.disk) (D.content self.new.disk)) }
         ensures images { IfSome (D.content self.old.disk)
             (λ _. Passes D.moment D.image SameFiles self.old.disk self.new.disk) }
         ensures cause { D.faults self.new.disk ≡ count_read result (D.faults self.old.disk) }
@@ -92,6 +93,8 @@ impl<D: Disk> RecordLog<D> {
         ensures ok { OnOk result (Changes (FilesChanged (change_by kind name.now bytes.now))
             (D.content self.old.disk) (D.content self.new.disk)) }
         ensures err { OnErr result (Changes (FilesMayChange (change_by kind name.now bytes.now))
+            (D.content self.old.disk) (D.content self.new.disk)) }
+        ensures adds { OnOk result (Changes (AddsRecord (change_by kind name.now bytes.now))
             (D.content self.old.disk) (D.content self.new.disk)) }
         ensures images { IfSome (D.content self.old.disk) (λ old. Passes D.moment D.image
             (SameFilesOr (changed (files old) (change_by kind name.now bytes.now))) self.old.disk self.new.disk) }

@@ -1,7 +1,7 @@
 ghost use Rattle.std.specs.Prelude.{◌≡◌, ◌<◌, ◌≤◌, ◌+◌, ◌^◌, length, take, drop, IfOk, IfSome, IsTrue};
 ghost use Rattle.tcm_edges.specs.Causes.{count_read};
 ghost use Rattle.durable_log.specs.Disk.{Passes, Same};
-ghost use Rattle.durable_log.specs.code.Ends.{EndsAt};
+ghost use Rattle.durable_log.specs.Ends.{EndsAt};
 ghost use Rattle.durable_log.specs.code.Headers.{header_len, whole_header};
 
 use crate::disk::Disk;

@@ -14,7 +14,8 @@ use transformations::Entry;
 pub struct Log {
     /// The entries by id, in order of epoch.
     entries: IndexMap<u64, Entry>,
-    /// No entry has an id above this one.
+    /// No entry has an id above this one, and an id above it isn't looked up. After `pop` it may be too great, which
+    /// costs a look-up.
     greatest_id: u64,
 }
 
@@ -35,6 +36,7 @@ impl Model for Log {
 impl Log {
     /// The log without entries. Takes no memory.
     pub fn empty(alloc: Global) -> Log
+        // Promise: a log begins without entries. Guards: calls/log.rt.
         ensures { result ≡ [] }
     {
         Log {
@@ -48,7 +50,11 @@ impl Log {
     pub fn push(&mut self, entry: Entry) -> Result<(), (Entry, Memory)>
         requires epoch { entry.epoch ≡ length self.old + 1 }
         requires id { entry_with_id self.old entry.id ≡ None }
+        // Promise: an entry with the next epoch and an id that no entry has is added at the end. Guards:
+        // calls/log.rt.
         ensures ok { OnOk result (self.new ≡ self.old ++ entry ∷ []) }
+        // Promise: if memory runs out, nothing changes and the entry is handed back. Guards:
+        // an_entry_lost_without_memory.edit.
         ensures err { OnErr result (self.new ≡ self.old) }
         ensures handed_back { IfErr result (λ e. e.0 ≡ entry) }
     {
@@ -68,6 +74,7 @@ impl Log {
     /// Removes the last entry. The log has an entry. Takes no memory. The cost is a removal by hash.
     pub fn pop(&mut self)
         requires { 0 < length self.old }
+        // Promise: the last entry is removed, and the others stay. Guards: calls/log.rt, tried.
         ensures { self.new ≡ take (length self.old - 1) self.old }
     {
         let _last = self.entries.pop();
@@ -76,7 +83,10 @@ impl Log {
     /// The entry with this id. Returns `None` if and only if no entry has the id. The cost is a look-up by hash, or one
     /// comparison if the id is above all ids that the log has had.
     pub fn seen(&self, id: u64) -> Option<&Entry>
+        // Promise: an entry is found by its id, and no other id is found. Guards: calls/log.rt, tried.
         ensures entry { option_copied result ≡ entry_with_id self.now id }
+        // Promise: the entries of a log have the epochs 1, 2 and so on, and no two have the same id. Guards: by the
+        // invariant of `Log`.
         ensures entries { AreEntries self.now }
     {
         if id > self.greatest_id {
@@ -88,6 +98,8 @@ impl Log {
     /// The entry at this epoch. Returns `None` if and only if the epoch is 0 or above the last epoch. The cost is a
     /// read by position.
     pub fn entry(&self, epoch: u64) -> Option<&Entry>
+        // Promise: an entry is found by its epoch, and no entry is at epoch 0 or above the last epoch. Guards:
+        // calls/log.rt, tried.
         ensures entry { option_copied result ≡ entry_at self.now epoch }
         ensures entries { AreEntries self.now }
     {
@@ -99,6 +111,7 @@ impl Log {
 
     /// The epoch of the last entry, 0 if the log is empty. This is the number of entries.
     pub fn last_epoch(&self) -> u64
+        // Promise: the last epoch is the number of entries. Guards: calls/log.rt.
         ensures last { result ≡ length self.now }
         ensures entries { AreEntries self.now }
     {

@@ -20,6 +20,8 @@ struct LargeFiles {
 impl Store for LargeFiles {
     ghost files = { λ _. untold_files };
 
+    ghost shows = { λ _ _. ⊥ };
+
     ghost faults = { λ _. 0 };
 
     fn load(&mut self, _name: &str, limit: u64) -> Result<Loaded, LoadFault> {

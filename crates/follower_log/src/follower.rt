@@ -57,10 +57,11 @@ fn compared(held: &Entry, came: &Entry, epoch: u64) -> Result<Took, FollowerFaul
 }
 
 impl Follower {
-    /// The follower before it is handed anything: at epoch 0, and nothing waits. It stands for every log. Fails only if
-    /// memory runs out.
+    /// The follower before it is handed anything: at epoch 0, and nothing waits. It stands for every log.
     pub fn empty(alloc: Global) -> Result<Follower, Memory>
+        // Promise: a follower begins at epoch 0, and nothing waits. Guards: calls/follower.rt.
         ensures empty { IfOk result (λ follower. follower ≡ empty_follower) }
+        // Promise: the follower before it is handed anything stands for every log. Guards: law.
         ensures stands { (log : List LogEntry) → StandsFor log nothing_taken empty_follower }
     {
         Ok(Follower {
@@ -72,6 +73,7 @@ impl Follower {
 
     /// The epoch of the metadata.
     pub fn epoch(&self) -> u64
+        // Promise: it shows its epoch, its metadata and how many entries wait. Guards: calls/follower.rt.
         ensures { result ≡ self.now.image.epoch }
     {
         self.metadata.epoch()
@@ -106,9 +108,18 @@ impl Follower {
     pub fn deliver(&mut self, entry: &Entry) -> Result<Took, FollowerFault>
         requires formed { IsTrue (is_command entry.now.cmd) }
         requires epoch { entry.now.epoch ≤ most_epochs }
+        // Promise: an entry is old, held, a fork, one too many, or taken, and then waiting entries that come next are
+        // applied; a refused one is dropped, and the others wait. Guards: full_buffer_skips_gap.edit,
+        // a_fork_is_held.edit, calls/follower.rt, tried.
+        // Promise: after `Memory` nothing changed; after `MemoryAt` what was handed was taken, the step is cut at that
+        // epoch, and the next entry waits. Guards: by `step`.
         ensures step { Performs self.old (hand_entry self.old entry.now) result self.new }
+        // Promise: the epoch of `MemoryAt` isn't below the one before the call, and an entry of the next epoch that
+        // can't be applied isn't taken. Guards: by `step`.
         ensures next { is_next self.old.image entry.now ≡ true → IsCutFrom (self.old.image.epoch + 1) result }
         ensures least { IsCutFrom self.old.image.epoch result }
+        // Promise: handed entries of one log and its images, a follower shows a state reached without a gap, after `At`
+        // the longest; no fork, refusal or bad image comes. Guards: by `step`.
         ensures shows { (log : List LogEntry) (taken : Taken) → IsLog log → IsEntryOf log entry.now
             → StandsFor log taken self.old
             → StandsAfter log taken (with_entry taken entry.now.epoch) result self.new }
@@ -137,6 +148,7 @@ impl Follower {
     /// doesn't wait, and as many entries wait as there are epochs after it. The cost is a search among the waiting
     /// entries, if their number fits.
     pub fn lacks_only(&self, epoch: u64, last: u64) -> bool
+        // Promise: it tells whether an entry is all that it lacks up to some epoch. Guards: followers.rt, tried.
         ensures { result ≡ lacks_only self.now epoch last }
     {
         epoch > self.epoch()
@@ -147,12 +159,13 @@ impl Follower {
     }
 
     /// Takes over the metadata of the last epoch of a log, if no movement is in flight in them, and forgets the entries
-    /// that wait. Returns whether it did. If the follower lacks one entry of this log, it comes to the same as `deliver`
-    /// with this entry, without applying it and those that wait. Fails only if memory runs out, and then changes
-    /// nothing.
+    /// that wait. Returns whether it did. If the follower lacks one entry of this log, it comes to the same as
+    /// `deliver` with this entry, without applying it and those that wait. If memory runs out, nothing changes.
     ///
     /// Cost: that of `Metadata::follow`.
     pub fn end_at(&mut self, last: &Metadata) -> Result<bool, Memory>
+        // Promise: it takes over metadata without movements, and forgets what waits; if it lacks one entry of the log
+        // that leads there, `deliver` of it comes to the same. Guards: followers.rt, tried.
         ensures state { IfOk result (λ ended. IsTrue ended → self.new ≡ record { image = last.now; waiting = [] }) }
         ensures stays { IfOk result (λ ended. IsFalse ended → self.new ≡ self.old) }
         ensures unchanged { OnErr result (self.new ≡ self.old) }
@@ -217,6 +230,11 @@ impl Follower {
     ///
     /// Cost: that of `Metadata::from_image`, and that of `Metadata::apply` for each entry that is applied.
     pub fn snapshot(&mut self, image: Image) -> Result<Took, FollowerFault>
+        // Promise: an image that isn't valid is refused with the first rule that it breaks, at any epoch, and nothing
+        // changes. Guards: bad_images.rt, replays.rt.
+        // Promise: a valid image above the follower's epoch replaces its image, waiting entries that it contains are
+        // dropped, and those that come next are applied. Guards: snapshot_keeps_buffering.edit, calls/follower.rt,
+        // replays.rt, tried.
         ensures step { Performs self.old (hand_image self.old image) result self.new }
         ensures least { IsCutFrom self.old.image.epoch result }
         ensures shows { (log : List LogEntry) (taken : Taken) → IsLog log → IsImageOf log image
@@ -226,7 +244,7 @@ impl Follower {
         self.hand_over_image(image)
     }
 
-    /// Hands over an image, as `snapshot` does.
+    /// Hands over an image, as `snapshot` does. Metadata is made of the image before the epochs are compared.
     fn hand_over_image(&mut self, image: Image) -> Result<Took, FollowerFault>
         ensures { Performs self.old (hand_image self.old image) result self.new }
     {
@@ -258,6 +276,8 @@ impl Follower {
     ///
     /// Errors: `Refused` and `MemoryAt`, as for `deliver`. Cost: that of `Metadata::apply` for each entry.
     pub fn advance(&mut self) -> Result<Took, FollowerFault>
+        // Promise: waiting entries are applied as long as the first is the next one; the answer is `At`, `Refused` or
+        // `MemoryAt`, and goes no further back. Guards: calls/follower.rt.
         ensures step { Performs self.old (advanced self.old.image self.old.waiting) result self.new }
         ensures alone { IsAdvance self.old.image.epoch result }
         ensures shows { (log : List LogEntry) (taken : Taken) → IsLog log

@@ -12,7 +12,8 @@ use std::collections::BTreeMap;
 use std::marker::Model;
 use transformations::Entry;
 
-/// Entries that ascend by epoch, no two at one epoch.
+/// Entries that ascend by epoch, no two at one epoch, in an ordered map. At most 1,024 wait. An entry of the next epoch
+/// is applied without waiting, so it isn't taken if memory runs out.
 #[derive(Drop)]
 pub struct Waiting {
     entries: BTreeMap<u64, Entry>,

@@ -1,5 +1,4 @@
-//! The lines of the generated script. Each function adds its line at the end of `out`. It fails only if memory runs
-//! out.
+//! The lines of the generated script. Each function adds its line at the end of `out`.
 
 ghost use Rattle.std.specs.Prelude.{◌≡◌, ◌++◌, codes, decimal, OnOk};
 ghost use Rattle.generated_scripts.specs.GeneratedLines as spec;

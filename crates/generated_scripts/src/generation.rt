@@ -19,7 +19,7 @@ pub struct Generation {
 }
 
 impl Generation {
-    /// The session before the first line. Fails only if memory runs out.
+    /// The session before the first line.
     pub fn empty(alloc: Global) -> Result<Generation, Memory>
         ensures { IfOk result (λ generation. generation ≡ spec.nothing_generated) }
     {
@@ -35,7 +35,6 @@ impl Generation {
         session.close();
     }
 
-    /// Notes the kind of an answer.
     fn note(&mut self, kind: AnswerKind) -> Result<(), Memory>
         ensures kinds { OnOk result (self.new.kinds ≡ self.old.kinds ++ kind ∷ []) }
         ensures session { self.new.session ≡ self.old.session }
@@ -46,7 +45,8 @@ impl Generation {
         }
     }
 
-    /// Answers a line. Without the name of a file a step fails only if memory runs out, and uses no store.
+    /// Answers a line. Without the name of a file a step fails only if memory runs out, and doesn't use the store that
+    /// it gets.
     pub fn answer(&mut self, alloc: Global, line: &[u8]) -> Result<(), Memory>
         ensures { OnOk result (self.new ≡ spec.after_line self.old line.now) }
     {

@@ -3,7 +3,7 @@
 ghost use Rattle.std.specs.Prelude.{◌≡◌, ◌≤◌, filter, length, map};
 ghost use Rattle.generated_scripts.specs.Generated as spec;
 
-/// The kind of an answer.
+/// The kind of an answer: two bytes for each line. Kinds are counted at the end, so no bound of a count is carried.
 #[derive(Clone, Copy, Debug, PartialEq, Eq)]
 pub enum AnswerKind {
     /// A commit is accepted.
@@ -14,7 +14,8 @@ pub enum AnswerKind {
     Other,
 }
 
-/// The texts that the answers to refused commits begin with, by the number of the refusal, from 1 on.
+/// The texts that the answers to refused commits begin with, by the number of the refusal, from 1 on. The bytes of an
+/// answer tell its refusal, as none of these texts is a prefix of another.
 const REFUSALS: [&[u8]; 20] = [
     b"NO NAME-TAKEN",
     b"NO NODES-FULL",
@@ -38,7 +39,6 @@ const REFUSALS: [&[u8]; 20] = [
     b"NO KEYSPACE-LOCKED",
 ];
 
-/// Whether a text begins with another one.
 #[tactic(auto, unfolding(crate::specs::Generated::begins))]
 fn begins(text: &[u8], front: &[u8]) -> bool
     ensures { result ≡ spec.begins text.now front.now }
@@ -73,14 +73,12 @@ pub fn kind_of(text: &[u8]) -> AnswerKind
     }
 }
 
-/// Whether a commit is accepted.
 fn is_accepted(kind: &AnswerKind) -> bool
     ensures { result ≡ spec.is_accepted kind.now }
 {
     matches!(kind, AnswerKind::Accepted)
 }
 
-/// Whether a commit is refused with the refusal of this number.
 fn is_refused(number: u8, kind: &AnswerKind) -> bool
     ensures { result ≡ spec.is_refused number kind.now }
 {

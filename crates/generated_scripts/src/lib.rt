@@ -1,4 +1,5 @@
-//! Generated scripts: their lines, the session that answers them, and the summary of the answers.
+//! Generated scripts: their lines, the session that answers them, and the summary of the answers. Commits and
+//! deliveries are made as text, and are parsed like those of any script.
 #![tactic(auto)]
 
 mod command_lines;

@@ -41,7 +41,6 @@ fn opening_token(i: u64) -> Token
     Token::new((i as i64 - 12) * 700_000_000_000_000_000 - 300_000_000_000_000_000)
 }
 
-/// Joins node `i`.
 fn join_node(generation: &mut Generation, alloc: Global, i: u64) -> Result<(), Memory>
     requires first { 1 ≤ i }
     requires last { i ≤ 24 }

@@ -16,7 +16,6 @@ use std::alloc::Global;
 /// The number of the last refusal.
 const LAST_REFUSAL: u8 = 20;
 
-/// Adds a line of a label and a number.
 fn count_line(label: &[u8], count: u64, out: &mut ByteText) -> Result<(), Memory>
     ensures { OnOk result (out.new ≡ out.old ++ spec.count_line label.now count) }
 {
@@ -78,7 +77,6 @@ fn head_text(start: u64, rounds: u64, out: &mut ByteText) -> Result<(), Memory>
     count_line(b" ", rounds, out)
 }
 
-/// Answers the lines of the generated script.
 fn run_script(
     generation: &mut Generation,
     alloc: Global,
@@ -112,7 +110,7 @@ fn summary_of(
     Ok(text)
 }
 
-/// The summary of the generated script with these numbers. Fails only if memory runs out.
+/// The summary of the generated script with these numbers.
 ///
 /// Cost: a session answers up to 60,101 lines, and one more for each epoch that the rounds commit. It is in memory
 /// until the end, with two bytes for each line.

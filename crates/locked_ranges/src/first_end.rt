@@ -12,7 +12,6 @@ ghost use Rattle.locked_ranges.specs.Sharing.{ShareNoToken};
 use cluster_terms::{RightEnd, Token};
 use token_ring::{RangeList, RangeRow};
 
-/// The lesser of two right ends.
 fn lesser_end(one: RightEnd, end: RightEnd) -> RightEnd
     ensures { result ≡ lesser_end one end }
 {

@@ -23,6 +23,7 @@ impl Model for LockKey {
 impl LockKey {
     /// The node whose lock this is.
     pub fn node(&self) -> NodeId
+        // Promise: a key shows its node. Guards: none.
         ensures { result ≡ self.now }
     {
         self.node

@@ -19,7 +19,11 @@ use token_ring::LockRow;
 pub fn first_overlap(rows: &[LockRow], cuts: &[Token]) -> Option<(NodeId, NodeId, RightEnd)>
     requires ascending { IsStrictlySortedBy int_cmp cuts.now }
     requires cut_out { AllByRecursion (λ w. AllByRecursion (λ r. AreCutOut cuts.now r.ranges) w.ranges) rows.now }
+    // Promise: the first movement that shares a row with a later one is found, with the first such one and the right
+    // end of that row. Guards: greater_node_first.edit, renewals.rt.
     ensures overlap { result ≡ overlap_among rows.now cuts.now }
+    // Promise: no overlap is found if and only if no two movements share a token. Guards: greater_node_first.edit,
+    // renewals.rt.
     ensures apart { IsNone result ↔ AllPairs (λ one other. ShareNoToken one.ranges other.ranges) rows.now }
 {
     let mut rest = rows;

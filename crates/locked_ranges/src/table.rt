@@ -39,6 +39,7 @@ impl Model for LockTable {
 impl LockTable {
     /// The table of no movement. Takes no memory.
     pub fn empty(alloc: Global) -> LockTable
+        // Promise: a table begins without rows. Guards: calls/rings.rt, calls/copies.rt.
         ensures { result ≡ [] }
     {
         LockTable {
@@ -48,14 +49,17 @@ impl LockTable {
 
     /// The rows, in their order.
     pub fn rows(&self) -> &[LockRow]
+        // Promise: the nodes of a table are distinct, and no two rows share a token. Guards: by the invariant of
+        // `LockTable`.
         ensures rows { result.now ≡ self.now }
         ensures table { IsLockTable self.now }
     {
         self.rows.as_slice()
     }
 
-    /// An equal table, or `Memory` if memory runs out. Makes no key.
+    /// An equal table. Makes no key.
     pub fn copy(&self) -> Result<LockTable, Memory>
+        // Promise: a copy equals the table and has no key. Guards: calls/rings.rt, calls/copies.rt.
         ensures { IfOk result (λ copied. copied ≡ self.now) }
     {
         let rows = self.rows.copy()?;
@@ -84,7 +88,11 @@ impl LockTable {
         requires own_cut { AllByRecursion (λ r. AreCutOut cuts.now r.ranges) ranges.now }
         requires wide_cut { AllByRecursion
             (λ row. AllByRecursion (λ r. AreCutOut cuts.now r.ranges) row.ranges) wide.now }
+        // Promise: the first movement of `wide` that shares a row with new ranges is found, and the right end of the
+        // first such row. Guards: compares_stale_ranges.edit, ConflictExamples.antt, tried.
         ensures conflict { result ≡ conflict_of ranges.now wide.now cuts.now }
+        // Promise: no conflict is found if and only if no token is in both, and then none is in a row of the table
+        // either. Guards: compares_stale_ranges.edit.
         ensures free { IsNone result ↔ AllByRecursion (λ row. ShareNoToken ranges.now row.ranges) wide.now }
         ensures table { IsNone result → AllByRecursion (λ row. ShareNoToken ranges.now row.ranges) self.now }
     {
@@ -100,6 +108,8 @@ impl LockTable {
         requires own_cut { AllByRecursion (λ r. AreCutOut cuts.now r.ranges) ranges.now }
         requires rows_cut { AllByRecursion
             (λ row. AllByRecursion (λ r. AreCutOut cuts.now r.ranges) row.ranges) self.now }
+        // Promise: new ranges are free if and only if no row of the table shares a row between cuts, and then they
+        // share no token with it. Guards: snapshots.rt.
         ensures free { IsTrue result → AllByRecursion (λ row. ShareNoToken ranges.now row.ranges) self.now }
         ensures conflict { result ≡ not (is_some (conflict_of ranges.now self.now cuts.now)) }
     {
@@ -111,6 +121,8 @@ impl LockTable {
     pub fn lock(&mut self, node: NodeId, ranges: RangeBook) -> Result<LockKey, (RangeBook, Memory)>
         requires new { has_row self.old node ≡ false }
         requires apart { AllByRecursion (λ row. ShareNoToken ranges row.ranges) self.old }
+        // Promise: a lock adds one row and gives its key, and if memory runs out, nothing changes and the ranges are
+        // handed back. Guards: scripts.
         ensures table { MatchResult result (λ _. self.new ≡ self.old ++ lock_row node ranges ∷ [])
             (λ _. self.new ≡ self.old) }
         ensures key { IfOk result (λ key. key ≡ node) }
@@ -139,6 +151,7 @@ impl LockTable {
         requires apart { AllByRecursion (λ row. ShareNoToken ranges row.ranges) self.old }
         requires place { at ≤ length self.old }
         requires room { length self.old < room }
+        // Promise: with memory made beforehand, a lock takes no memory. Guards: scripts.
         ensures table { self.new ≡ insert self.old at (lock_row node ranges) }
         ensures key { result ≡ node }
     {
@@ -152,6 +165,8 @@ impl LockTable {
         requires names { (n : ℕ) → has_row rows n ≡ has_row self.old n }
         requires once { AllPairs (λ one other. one.node ≢ other.node) rows }
         requires apart { AllPairs (λ one other. ShareNoToken one.ranges other.ranges) rows }
+        // Promise: new ranges of which no two share a token take the places of the old ones, the keys stay, and no
+        // memory is taken. Guards: renewals.rt.
         ensures { self.new ≡ rows }
     {
         self.rows = rows;
@@ -161,6 +176,8 @@ impl LockTable {
     /// cost is one pass over the rows.
     pub fn unlock(&mut self, key: LockKey)
         requires { has_row self.old key ≡ true }
+        // Promise: a key removes the row of its node and no other, with no memory and no error. Guards:
+        // unlocks_another_row.edit.
         ensures { self.new ≡ other_locks self.old key }
     {
         let node = key.spend();
@@ -168,7 +185,6 @@ impl LockTable {
     }
 }
 
-/// Keeps the rows of the other nodes.
 fn keep_others(rows: &mut LockRows, node: NodeId)
     ensures { rows.new ≡ other_locks rows.old node }
 {

@@ -44,7 +44,6 @@ impl Model for Directory {
     ghost invariant = { λ d. IsKept d.nodes.entries d.next × (reserve_at d.next ≤ spare d.nodes) };
 }
 
-/// Whether two rows are equal.
 fn is_same(row: &NodeRow, other: &NodeRow) -> bool
     ensures { result ≡ same_node row.now other.now }
 {
@@ -64,6 +63,8 @@ impl Directory {
         rows: &[NodeRow],
         next: u32,
     ) -> Result<Option<Directory>, Memory>
+        // Promise: rows make a directory if and only if ids ascend from 1 to below the next id, and names differ.
+        // Guards: calls/directory.rt, tried.
         ensures valid { IfOk result (λ found. IsSome found ↔ IsTrue (is_directory 1 rows.now next)) }
         ensures registry { IfOk result (λ found.
             IfSome found (λ d. d ≡ record { rows = rows.now; next = next })) }
@@ -78,9 +79,10 @@ impl Directory {
     }
 
     /// The directory with these rows, where `next` is the id of the next node. The ids ascend, begin at 1 or more and
-    /// are below `next`, and no name comes twice. The cost is that of `from_rows`.
+    /// are below `next`, and no name comes twice: it requires what `from_rows` checks. The cost is that of `from_rows`.
     pub fn from_valid(alloc: Global, rows: &[NodeRow], next: u32) -> Result<Directory, Memory>
         requires { IsTrue (is_directory 1 rows.now next) }
+        // Promise: rows with ascending ids and different names have a directory. Guards: scripts, tried.
         ensures { IfOk result (λ d. d ≡ record { rows = rows.now; next = next }) }
     {
         match Directory::from_rows(alloc, rows, next)? {
@@ -100,8 +102,10 @@ impl Directory {
     ) -> Result<NodeId, (Name, Name, Name, Memory)>
         requires free { node_named self.old.rows name ≡ None }
         requires room { self.old.next < u32.MAX }
+        // Promise: a new node gets the next id, which rises. Guards: calls/directory.rt, tried.
         ensures id { IfOk result (λ n. n ≡ self.old.next) }
         ensures registry { OnOk result (self.new ≡ registered self.old name dc rack) }
+        // Promise: if memory runs out, nothing changes and the names are handed back. Guards: tried.
         ensures unchanged { OnErr result (self.new ≡ self.old) }
         ensures handed_back { IfErr result (λ e. (e.0 ≡ name) × (e.1 ≡ dc) × (e.2 ≡ rack)) }
     {
@@ -120,6 +124,8 @@ impl Directory {
         requires free { node_named self.old.rows name ≡ None }
         requires ids { self.old.next < u32.MAX }
         requires room { IsRoomFor (length self.old.rows) self.old.next name room }
+        // Promise: with memory made beforehand, a new node is registered as by `register`, and no memory is taken.
+        // Guards: calls/directory.rt, scripts.
         ensures id { result ≡ self.old.next }
         ensures registry { self.new ≡ registered self.old name dc rack }
     {
@@ -143,6 +149,7 @@ impl Directory {
     /// Removes the row of a registered node. Its id is not used again. The cost is a move of each later row.
     pub fn unregister(&mut self, n: NodeId)
         requires { IsSome (row_of self.old.rows n) }
+        // Promise: a node is removed, and its id isn't given again. Guards: calls/directory.rt, tried.
         ensures rows { self.new.rows ≡ other_rows self.old.rows n }
         ensures next { self.new.next ≡ self.old.next }
     {
@@ -153,6 +160,7 @@ impl Directory {
     /// Marks a registered node as having left the cluster. Its name stays taken. The cost is a binary search.
     pub fn mark_left(&mut self, n: NodeId)
         requires { IsSome (row_of self.old.rows n) }
+        // Promise: a node is marked as having left, and its name stays taken. Guards: calls/directory.rt, tried.
         ensures rows { self.new.rows ≡ marked_left self.old.rows n }
         ensures next { self.new.next ≡ self.old.next }
     {
@@ -163,6 +171,7 @@ impl Directory {
     /// The node with this name, which may be a node that left. Returns `None` if and only if no node has this name. The
     /// cost is a look-up by hash.
     pub fn find(&self, name: &Name) -> Option<NodeId>
+        // Promise: a node that left is found by its name. Guards: calls/directory.rt, tried.
         ensures { result ≡ node_named self.now.rows name.now }
     {
         self.nodes.get(name.as_str()).map(|row| row.id)
@@ -171,6 +180,7 @@ impl Directory {
     /// The datacenter and the rack of a node. Returns `None` if and only if the node is not registered. The cost is a
     /// binary search.
     pub fn place_of(&self, n: NodeId) -> Option<(&Name, &Name)>
+        // Promise: a node's datacenter and rack are shown. Guards: tried.
         ensures { option_map (λ place. (place.0.now, place.1.now)) result ≡ place_in self.now.rows n }
     {
         let row = self.row(self.place(n)?)?;
@@ -180,6 +190,7 @@ impl Directory {
     /// The rack of a node in this datacenter. Returns `None` if and only if the node is not registered or is in another
     /// datacenter. The cost is a binary search.
     pub fn rack_in(&self, dc: &Name, n: NodeId) -> Option<&Name>
+        // Promise: a node's rack is shown, if it is in a given datacenter. Guards: calls/directory.rt, tried.
         ensures { option_copied result ≡ rack_within dc.now (row_of self.now.rows n) }
     {
         let (home, rack) = self.place_of(n)?;
@@ -195,6 +206,8 @@ impl Directory {
     /// the nodes up to the next id that is a multiple of 64.
     pub fn renumber(&mut self, next: u32) -> Result<(), Memory>
         requires { IsTrue (is_directory 0 self.old.rows next) }
+        // Promise: the id of the next node is set, if all ids are below it, and if memory runs out, nothing changes.
+        // Guards: tried.
         ensures renumbered { OnOk result (self.new ≡ record { rows = self.old.rows; next = next }) }
         ensures unchanged { OnErr result (self.new ≡ self.old) }
     {
@@ -205,6 +218,7 @@ impl Directory {
 
     /// Whether the directory has these rows. The cost is a comparison of each row.
     pub fn has_rows(&self, rows: &[NodeRow]) -> bool
+        // Promise: it is told whether the directory has these rows. Guards: tried.
         ensures { IsTrue result ↔ (self.now.rows ≡ rows.now) }
     {
         self.len() == rows.len() && self.has_beside(rows)
@@ -252,7 +266,6 @@ impl Directory {
         Some(row)
     }
 
-    /// Whether the row at a position is that of a node.
     fn is_at(&self, at: usize, n: NodeId) -> bool
         ensures { IsTrue result → IsPlace self.now.rows n at }
     {

@@ -30,7 +30,8 @@ impl Model for DirectoryRoom {
 }
 
 /// How many more nodes a directory always has memory for, where `next` is the id of its next node: up to the next
-/// multiple of 64.
+/// multiple of 64. It goes by the next id and not by the number of nodes, as the map may not use a removed row's place
+/// again.
 pub(crate) fn reserve_at(next: u32) -> usize
     ensures reserve { result ≡ spec.reserve_at next }
     ensures most { result ≤ 64 }
@@ -70,15 +71,16 @@ fn move_over(nodes: &mut IndexMap<String, NodeRow>, room: &mut IndexMap<String, 
 }
 
 impl DirectoryRoom {
-    /// Room for a new node with this name and the id `next`, in a directory of `count` nodes, or `Memory` if memory
-    /// runs out. Cost: a copy of the name and, if the id after `next` is a multiple of 64, an empty table for more than
-    /// four times the nodes.
+    /// Room for a new node with this name and the id `next`, in a directory of `count` nodes. Cost: a copy of the
+    /// name and, if the id after `next` is a multiple of 64, an empty table for more than four times the nodes.
     pub fn for_node(
         alloc: Global,
         name: &Name,
         next: u32,
         count: usize,
     ) -> Result<DirectoryRoom, Memory>
+        // Promise: a room has memory for a node of this name, in a directory with this number of nodes and this next
+        // id. Guards: calls/directory.rt, scripts.
         ensures { IfOk result (spec.IsRoomFor count next name.now) }
     {
         let key = String::from_str(alloc, name.as_str())?;

@@ -18,6 +18,7 @@ impl<'a> Members<'a> {
 
     /// The number of replicas that the group is to have, from 1 to 16.
     pub fn rf(&self) -> usize
+        // Promise: a group has its number of replicas, at most 16. Guards: scripts.
         ensures value { result ≡ (group_of self.now).rf }
         ensures high { result ≤ 16 }
     {
@@ -30,6 +31,7 @@ impl<'a> Members<'a> {
     /// The name of a node's rack, which is empty for the group of all nodes. Returns `None` if and only if the node is
     /// not in the group. In a datacenter the cost is a look-up in the directory.
     pub fn rack_of(&self, node: NodeId) -> Option<&'a [u8]>
+        // Promise: a group has a node's rack, and none if and only if the node isn't in the group. Guards: scripts.
         ensures { option_copied result ≡ (group_of self.now).rack_of node }
     {
         match self {

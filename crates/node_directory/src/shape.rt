@@ -48,6 +48,8 @@ fn tally_of<'a>(members: &Members<'a>, pairs: &[Pair]) -> Tally<'a>
 /// the group as there are to be replicas. A pair costs a look at no more nodes and racks than that, and in a datacenter
 /// a look-up in the directory. Takes no memory.
 pub fn shape_of(members: &Members, pairs: &[Pair]) -> Shape
+    // Promise: a group's shape in a ring is how many replicas are wanted, at most 16, and how many rack repeats are
+    // spare. Guards: scripts.rt, tried.
     ensures shape { result ≡ spec.shape_of (nodes_of pairs.now) (group_of members.now) }
     ensures bound { result.wanted ≤ 16 }
 {

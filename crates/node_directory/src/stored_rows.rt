@@ -40,7 +40,6 @@ pub(crate) fn push_copy(nodes: &mut IndexMap<String, NodeRow>, row: &NodeRow) ->
     Ok(())
 }
 
-/// Whether a row has this name.
 fn has_name(nodes: &IndexMap<String, NodeRow>, name: &Name) -> bool
     requires { AreNamed nodes.now.entries }
     ensures { result ≡ is_member bytes_eq (node_names (values_of nodes.now.entries)) name.now }

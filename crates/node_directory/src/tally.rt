@@ -35,14 +35,12 @@ impl<'a> Model for Tally<'a> {
     ghost invariant = { λ t. (t.most_nodes ≤ 16) × (t.most_racks ≤ 16) };
 }
 
-/// Whether a node is in a list.
 fn has_node(nodes: &[NodeId], node: NodeId) -> bool
     ensures { result ≡ is_member nat_eq nodes.now node }
 {
     nodes.iter().any(|other| node == *other)
 }
 
-/// Whether a rack is equal to a rack in a list.
 fn is_one_of(rack: &[u8], racks: &[&[u8]]) -> bool
     ensures { result ≡ list_any (λ r. bytes_eq rack.now r.now) racks.now }
 {
@@ -51,6 +49,7 @@ fn is_one_of(rack: &[u8], racks: &[&[u8]]) -> bool
 
 /// Whether a list contains a rack. The cost is one pass over the list.
 pub fn has_rack(racks: &[&[u8]], rack: &[u8]) -> bool
+    // Promise: a rack is found in a list by its name. Guards: scripts.rt.
     ensures { result ≡ is_member bytes_eq (spec.racks_in racks.now) rack.now }
 {
     is_one_of(rack, racks)
@@ -81,6 +80,7 @@ impl<'a> Tally<'a> {
     pub fn new(most_nodes: usize, most_racks: usize) -> Tally<'a>
         requires nodes { most_nodes ≤ 16 }
         requires racks { most_racks ≤ 16 }
+        // Promise: a tally begins with no node and no rack, for at most 16 of each. Guards: locks.rt.
         ensures { result ≡ spec.nothing most_nodes most_racks }
     {
         Tally {
@@ -107,6 +107,7 @@ impl<'a> Tally<'a> {
 
     /// Whether the tally has fewer nodes or fewer racks than asked for.
     pub fn lacks(&self) -> bool
+        // Promise: a tally tells whether it lacks nodes or racks. Guards: locks.rt.
         ensures { result ≡ spec.lacks self.now }
     {
         self.nodes.len() < self.most_nodes || self.racks.len() < self.most_racks
@@ -121,6 +122,7 @@ impl<'a> Tally<'a> {
 
     /// Removes all nodes and racks.
     pub fn clear(&mut self)
+        // Promise: a tally that is cleared has no node and no rack. Guards: locks.rt, tried.
         ensures { self.new ≡ spec.nothing self.old.most_nodes self.old.most_racks }
     {
         self.nodes.clear();
@@ -129,6 +131,8 @@ impl<'a> Tally<'a> {
 
     /// Meets a node. If the node is in the group, adds the node and its rack, each if it is new and still asked for.
     pub fn meet(&mut self, members: &Members<'a>, node: NodeId)
+        // Promise: a tally has the different nodes of a group that it met, and their different racks, up to the numbers
+        // asked for, without memory. Guards: locks.rt.
         ensures { self.new ≡ spec.met (group_of members.now) node self.old }
     {
         if let Some(rack) = members.rack_of(node) {

@@ -27,7 +27,7 @@ impl Model for Changes {
 }
 
 impl Changes {
-    /// No row yet, and room for this many. Fails only if memory runs out.
+    /// No row yet, and room for this many.
     pub fn with_room(alloc: Global, count: usize) -> Result<Changes, Memory>
         ensures { IfOk result (AreJoined []) }
     {
@@ -37,17 +37,18 @@ impl Changes {
         })
     }
 
-    /// Adds a row up to a right end, with the nodes before and after. Fails only if memory runs out; then the changes
-    /// may lack rows.
+    /// Adds a row up to a right end, with the nodes before and after. If memory runs out, the changes may lack rows.
     pub fn push(&mut self, right: RightEnd, before: &NodeSet, after: &NodeSet) -> Result<(), Memory>
+        // Promise: of rows added one after another, with the nodes before and after or without a change, a delta has
+        // the changes, with neighbours joined that change the same. Guards: by plan, gained_and_lost_exchanged.edit,
+        // tried.
         ensures { OnOk result (AreWithRow self.old (spec.change_row right before.now after.now) self.new) }
     {
         let row = change_row(self.alloc, right, before, after)?;
         push_joined(&mut self.rows, row)
     }
 
-    /// Adds a row up to a right end, in which nothing changes. Fails only if memory runs out; then the changes may lack
-    /// rows.
+    /// Adds a row up to a right end, in which nothing changes. If memory runs out, the changes may lack rows.
     pub fn push_unchanged(&mut self, right: RightEnd) -> Result<(), Memory>
         ensures { OnOk result (AreWithRow self.old (spec.change_row right [] []) self.new) }
     {

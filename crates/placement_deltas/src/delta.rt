@@ -37,7 +37,6 @@ impl Model for Delta {
     ghost invariant = { λ delta. IsDelta delta.rows };
 }
 
-/// Whether no node is gained and none is lost in a row.
 fn changes_nothing(row: &DeltaRow) -> bool
     ensures yes { IsTrue result → change_in row.now ≡ ([], []) }
     ensures no { IsFalse result → change_in row.now ≢ ([], []) }
@@ -58,7 +57,7 @@ fn exchanged(row: &DeltaRow) -> Result<DeltaRow, Memory>
 
 impl Delta {
     /// The nodes gained and lost at each token between two lists of node sets. Each list has a set for each row between
-    /// the cuts. Fails only if memory runs out. The cost is one pass over the rows and the sets.
+    /// the cuts. The cost is one pass over the rows and the sets.
     pub fn between(
         alloc: Global,
         cuts: &[Token],
@@ -68,7 +67,10 @@ impl Delta {
         requires ascending { IsStrictlySortedBy int_cmp cuts.now }
         requires before { length before.now ≡ length (rows_between cuts.now) }
         requires after { length after.now ≡ length (rows_between cuts.now) }
+        // Promise: at each token of each row between the cuts, a delta shows which nodes only the set after has, and
+        // which only the set before has. Guards: gained_and_lost_exchanged.edit, calls/deltas.rt, tried.
         ensures sets { IfOk result (ShowsChanges (rows_between cuts.now) before.now after.now) }
+        // Promise: each row of a delta ends at a cut or in `Max`. Guards: calls/deltas.rt.
         ensures cuts { IfOk result (EndAtCuts cuts.now) }
     {
         let between = rows_between(alloc, cuts)?;
@@ -76,8 +78,8 @@ impl Delta {
         Ok(Delta { alloc, rows })
     }
 
-    /// The delta of changes that make one: those in rows that follow each other up to the end of the ring. Fails only
-    /// if memory runs out. Copies nothing.
+    /// The delta of changes that make one: those in rows that follow each other up to the end of the ring. Copies
+    /// nothing.
     pub fn of_changes(alloc: Global, changes: Changes) -> Result<Delta, Memory>
         requires { MakeDelta changes }
         ensures { IfOk result
@@ -89,6 +91,7 @@ impl Delta {
 
     /// The rows in ascending order.
     pub fn rows(&self) -> &[DeltaRow]
+        // Promise: rows ascend, adjacent rows differ, and the last row ends in `Max`. Guards: calls/deltas.rt.
         ensures rows { result.now ≡ self.now }
         ensures delta { IsDelta self.now }
     {
@@ -97,6 +100,8 @@ impl Delta {
 
     /// The nodes gained and the nodes lost at a token. Takes no memory. The cost is a binary search.
     pub fn at(&self, t: Token) -> (&NodeSet, &NodeSet)
+        // Promise: the nodes gained and the nodes lost at a token are those of the first row that ends at or after it.
+        // Guards: calls/deltas.rt, tried.
         ensures { (result.0.now, result.1.now) ≡ delta_at self.now t }
     {
         let rows = self.rows();
@@ -123,8 +128,11 @@ impl Delta {
     }
 
     /// The tokens from `t` up to the end of its row, if the delta changes nothing at `t`. Returns `None` if and only if
-    /// it changes something there. Takes no memory. `hint` and the cost are as for `at_by_hint`.
+    /// it changes something there. Takes no memory. `hint` and the cost are as for `at_by_hint`, so a pass over
+    /// tokens gets past unchanged rows by one binary search.
     pub fn unchanged_from(&self, t: Token, hint: &mut usize) -> Option<Unchanged>
+        // Promise: a delta changes nothing at the tokens from a token up to another one, and none are given exactly
+        // where it changes something at the first. Guards: calls/deltas.rt.
         ensures changed { IsNone result → delta_at self.now t ≢ ([], []) }
         ensures ends { IfSome result (λ tokens. (tokens.first ≡ t) × (t ≤ℤ tokens.last)) }
         ensures unchanged { IfSome result (λ tokens. ChangesNothing self.now tokens.first tokens.last) }
@@ -144,9 +152,11 @@ impl Delta {
         Some(Unchanged { first: t, last })
     }
 
-    /// The delta of one side alone: the nodes gained, and none lost, or the nodes lost, and none gained. Fails only if
-    /// memory runs out. The cost is a copy of the sets of this side.
+    /// The delta of one side alone: the nodes gained, and none lost, or the nodes lost, and none gained. The cost is a
+    /// copy of the sets of this side.
     pub fn only(&self, side: Side) -> Result<Delta, Memory>
+        // Promise: one side of a delta has at each token the nodes that the delta gains, and loses none, and the other
+        // has those that it loses, and gains none. Guards: calls/deltas.rt, tried.
         ensures { IfOk result
             (λ delta. (x : ℤ) → IsToken x → delta_at delta x ≡ only side (delta_at self.now x)) }
     {
@@ -157,9 +167,10 @@ impl Delta {
         })
     }
 
-    /// The delta with the nodes gained and the nodes lost exchanged. Fails only if memory runs out. The cost is a
-    /// copy of the rows.
+    /// The delta with the nodes gained and the nodes lost exchanged. The cost is a copy of the rows.
     pub fn inverse(&self) -> Result<Delta, Memory>
+        // Promise: the inverse has the nodes gained and the nodes lost exchanged in each row. Guards:
+        // inverse_keeps_one_side.edit, calls/deltas.rt.
         ensures { IfOk result (λ delta. delta ≡ inverse_of self.now) }
     {
         let mut rows = DeltaRows::empty(self.alloc);

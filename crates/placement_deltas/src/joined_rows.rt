@@ -39,7 +39,6 @@ pub(crate) fn change_row(
     })
 }
 
-/// The row with the nodes of one side alone.
 fn row_of_side(alloc: Global, side: Side, row: &DeltaRow) -> Result<DeltaRow, Memory>
     ensures { IfOk result (λ other. other ≡ spec.row_of_side side row.now) }
 {
@@ -54,7 +53,6 @@ fn row_of_side(alloc: Global, side: Side, row: &DeltaRow) -> Result<DeltaRow, Me
     })
 }
 
-/// Whether two rows have the same nodes gained and the same nodes lost.
 fn same_change(row: &DeltaRow, other: &DeltaRow) -> bool
     ensures { result ≡ spec.same_change row.now other.now }
 {

@@ -7,7 +7,7 @@ use transformations::SeqRow;
 /// each replication, and the ranges of all other movements (`wide`).
 ///
 /// `gain` adds the gained nodes to the writes. `swap` takes the lost nodes from the reads and adds the gained nodes.
-/// `lose` takes the lost nodes from the writes.
+/// `lose` takes the lost nodes from the writes. They are three deltas, so whoever carries out a step reads one list.
 #[derive(Drop)]
 pub struct Plan {
     pub row: SeqRow,

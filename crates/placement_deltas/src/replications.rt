@@ -10,15 +10,13 @@ use transformations::KeyspaceRow;
 /// A list of replications.
 pub type Replications = SmallList<Replication>;
 
-/// Whether a replication is in a list.
 fn has(replications: &[Replication], replication: &Replication) -> bool
     ensures { result ≡ list_any (λ r. same_replication r replication.now) replications.now }
 {
     replications.iter().any(|other| other.same(replication))
 }
 
-/// The replications of these keyspaces, each once, in the order in which they first appear. Fails only if memory runs
-/// out.
+/// The replications of these keyspaces, each once, in the order in which they first appear.
 pub fn replications_of(alloc: Global, keyspaces: &[KeyspaceRow]) -> Result<Replications, Memory>
     ensures { IfOk result (λ list. list ≡ replications_of keyspaces.now) }
 {

@@ -290,8 +290,11 @@ fn recut_map(
 }
 
 /// The new nodes of the rows of a book's maps that the deltas of a movement change. The deltas are under the same
-/// replications in the same order. Fails only if memory runs out. Cost: under each replication a few binary searches for
-/// each row of the delta, and a pass over a set for each row of the map that changes.
+/// replications in the same order. Cost: under each replication a few binary searches for each row of the delta, and a
+/// pass over a set for each row of the map that changes.
+///
+/// A start, the step half way and a cancel half way change reads or writes, never both, so they make a new set only for
+/// rows that change, and one for each.
 pub fn turned_book(
     alloc: Global,
     turn: Turn,
@@ -309,9 +312,13 @@ pub fn turned_book(
 }
 
 /// The edits that make the maps of a book those of these ranges, with the sets of their last tokens in the maps of the
-/// book, changed by the deltas of a movement. The deltas are under the same replications in the same order. Fails only
-/// if memory runs out. Cost: under each replication one pass over the map and the ranges, a few binary searches for each
-/// row of the delta and each row that is new or changes, and a copy of the sets of the latter.
+/// book, changed by the deltas of a movement. The deltas are under the same replications in the same order. Cost: under
+/// each replication one pass over the map and the ranges, a few binary searches for each row of the delta and each row
+/// that is new or changes, and a copy of the sets of the latter.
+///
+/// This serves where a movement begins or ends: the ranges are those between the cuts of the next image, and their sets
+/// are read off the map as it is, at their last tokens. So the rows are right whichever cuts come and go, and each row
+/// is made or moved once.
 pub fn recut_book(
     alloc: Global,
     turn: Turn,

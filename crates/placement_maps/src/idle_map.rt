@@ -51,15 +51,13 @@ fn rows_once<L: Ledger>(
     Ok(rows)
 }
 
-/// Whether no node has a token.
 fn has_no_tokens(image: &Image) -> bool
     ensures { IsTrue result → image.now.tokens ≡ [] }
 {
     image.tokens.as_slice().is_empty()
 }
 
-/// The placement map of a ring without tokens: all tokens are in one row, and no node is read or written. Fails only if
-/// memory runs out.
+/// The placement map of a ring without tokens: all tokens are in one row, and no node is read or written.
 fn map_without_nodes(alloc: Global) -> Result<PlacementMap, Memory>
     ensures { IfOk result (λ map. map ≡ one_row_without_nodes) }
 {
@@ -73,8 +71,10 @@ fn map_without_nodes(alloc: Global) -> Result<PlacementMap, Memory>
 }
 
 /// The placement map of a replication in an image without movements. The directory must hold the nodes of the image.
-/// Fails only if memory runs out. Cost: a copy of the ring, its cuts, and one walk for each row between cuts; without
-/// tokens, one row.
+/// With no movement in flight the three rings are one, so one walk makes a row. A ring without tokens has one row
+/// without nodes.
+///
+/// Cost: a copy of the ring, its cuts, and one walk for each row between cuts; without tokens, one row.
 #[tactic(auto, using(crate::proofs::ImageRings::low_tokens))]
 pub fn idle_map<L: Ledger>(
     alloc: Global,

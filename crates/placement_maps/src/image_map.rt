@@ -19,7 +19,6 @@ use std::alloc::Global;
 use std::sync::ledger::Ledger;
 use transformations::Image;
 
-/// The row of a replication in a book. Returns `None` if there is none.
 fn find_row<'a>(book: &'a [MapRow], replication: &Replication) -> Option<&'a MapRow>
     ensures { option_copied result ≡ find (λ row. same_replication row.replication replication.now) book.now }
 {
@@ -37,7 +36,8 @@ pub fn find_map<'a>(book: &'a MapBook, replication: &Replication) -> Option<&'a 
     }
 }
 
-/// The map of a replication in an image. The directory must hold the nodes of the image. Fails only if memory runs out.
+/// The map of a replication in an image. The directory must hold the nodes of the image.
+///
 /// Cost: three rings, as `Rings::of_image` makes them, and three walks for each row between cuts; without movements, one
 /// ring and one walk.
 pub fn place_map<L: Ledger>(

@@ -19,9 +19,9 @@ pub struct Rings {
 }
 
 impl Rings {
-    /// The rings of an image. Fails only if memory runs out. Cost: for p pairs in the low ring and k pairs of movements,
-    /// some passes over the p pairs, a sort of the pairs that movements put in, and about k log p comparisons. If the
-    /// tokens of the pairs that movements take out don't ascend, up to 2·p·k comparisons more.
+    /// The rings of an image. Cost: for p pairs in the low ring and k pairs of movements, some passes over the p pairs,
+    /// a sort of the pairs that movements put in, and about k log p comparisons. If the tokens of the pairs that
+    /// movements take out don't ascend, up to 2·p·k comparisons more.
     #[tactic(auto, using(crate::proofs::ImageRings::low_tokens, crate::proofs::ImageRings::read_tokens, crate::proofs::ImageRings::high_tokens))]
     pub fn of_image(alloc: Global, image: &Image) -> Result<Rings, Memory>
         requires { IsValid image.now }

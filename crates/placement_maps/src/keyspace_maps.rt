@@ -19,7 +19,6 @@ use std::marker::Brand;
 use std::sync::ledger::{Blank, Ledger};
 use transformations::{Image, KeyspaceRow};
 
-/// The replications of the maps of a book.
 fn replications_in(alloc: Global, book: &[MapRow]) -> Result<Vec<Replication>, Memory>
     ensures { IfOk result (λ list. list.items ≡ map (λ row. row.replication) book.now) }
 {
@@ -30,7 +29,6 @@ fn replications_in(alloc: Global, book: &[MapRow]) -> Result<Vec<Replication>, M
     Ok(list)
 }
 
-/// The position of a replication in a list. Returns `None` if and only if it isn't there.
 fn place_of(list: &[Replication], replication: &Replication) -> Option<usize>
     ensures { result ≡ position (λ r. same_replication r replication.now) list.now }
 {
@@ -77,7 +75,6 @@ fn slot_for<L: Ledger>(
     }
 }
 
-/// Whether some keyspace has a replication.
 fn has(keyspaces: &[KeyspaceRow], replication: &Replication) -> bool
     ensures { result ≡ list_any (λ k. same_replication k.replication replication.now) keyspaces.now }
 {
@@ -118,8 +115,7 @@ fn slots_of<L: Ledger>(
 }
 
 /// The placement maps of keyspaces in an image, whose own keyspaces don't matter. The directory must hold the nodes of
-/// the image. The maps of the image that are known are kept where a keyspace has their replication. Fails only if
-/// memory runs out.
+/// the image. The maps of the image that are known are kept where a keyspace has their replication.
 ///
 /// Cost: a copy of each known replication, and memory for a list of the maps. Under each replication that isn't known,
 /// three rings, as `Rings::of_image` makes them, and three walks for each row between cuts; without movements, one ring
@@ -142,7 +138,7 @@ pub fn arrangement_of(
 }
 
 /// The placement maps of keyspaces in an image, whose own keyspaces don't matter. The directory must hold the nodes of
-/// the image. Fails only if memory runs out. All maps are placed, at the cost that `arrangement_of` states.
+/// the image. All maps are placed, at the cost that `arrangement_of` states.
 pub fn maps_of(
     alloc: Global,
     image: &Image,

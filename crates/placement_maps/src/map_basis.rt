@@ -23,7 +23,7 @@ pub struct MapBasis<'a> {
 }
 
 impl<'a> MapBasis<'a> {
-    /// The basis of an image's maps. The directory must hold the nodes of the image. Fails only if memory runs out.
+    /// The basis of an image's maps. The directory must hold the nodes of the image.
     pub fn of_image(
         alloc: Global,
         image: &'a Image,
@@ -44,8 +44,7 @@ impl<'a> MapBasis<'a> {
         })
     }
 
-    /// The placement map of a replication. Fails only if memory runs out. Makes three walks for each row between
-    /// cuts.
+    /// The placement map of a replication. Makes three walks for each row between cuts.
     pub fn place_map<L: Ledger>(
         &self,
         replication: &Replication,

@@ -13,7 +13,7 @@ use std::alloc::Global;
 use std::marker::Model;
 
 /// The placements under each replication that a keyspace has, in the order in which the replications first appear.
-/// Keyspaces with the same replication share a row.
+/// Keyspaces with the same replication share a row. A lookup compares replications, of at most 64 maps.
 #[derive(Debug, Drop)]
 pub struct MapBook {
     rows: Vec<MapRow>,

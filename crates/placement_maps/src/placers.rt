@@ -18,7 +18,7 @@ pub struct Placers<'a> {
 }
 
 impl<'a> Placers<'a> {
-    /// The placers of a replication on these rings. Fails only if memory runs out.
+    /// The placers of a replication on these rings.
     pub fn new(
         alloc: Global,
         rings: &'a Rings,
@@ -53,7 +53,7 @@ impl<'a> Placers<'a> {
         })
     }
 
-    /// The ranges with their reads and their writes. Fails only if memory runs out. Makes three walks for each range.
+    /// The ranges with their reads and their writes. Makes three walks for each range.
     pub fn rows<L: Ledger>(
         &self,
         alloc: Global,

@@ -38,8 +38,13 @@ fn count_pending(reads: &NodeSet, writes: &NodeSet) -> usize
 #[tactic(auto, using(crate::proofs::PendingLemmas::few_pending))]
 pub fn quorum(reads: &NodeSet, writes: &NodeSet, replication: &Replication) -> Quorum
     requires { length writes.now ≤ 1024 }
+    // Promise: a read needs half of the replicas that are asked for, rounded down, plus one. Guards: quorums.rt, tried.
     ensures read { result.read_need ≡ read_need (whole_sets replication.now reads.now writes.now) }
+    // Promise: a write needs as many as a read, and one more for each node that is written and not read. Guards:
+    // need_without_pending.edit, quorums.rt, tried.
     ensures write { result.write_need ≡ write_need (whole_sets replication.now reads.now writes.now) }
+    // Promise: if each node that is read is written, a write quorum exists if and only if a read quorum does. Guards:
+    // need_without_pending.edit.
     ensures exist { ExistTogether reads.now result.read_need writes.now result.write_need }
 {
     let read_need = quorum_of(replication.total());
@@ -65,7 +70,6 @@ fn count_local_pending(reads: &NodeSet, writes: &NodeSet, dir: &Directory, dc: &
         .count()
 }
 
-/// The row of a datacenter, if the factors name it.
 fn row_of_datacenter<'a>(factors: &'a Factors, dc: &Name) -> Option<&'a (Name, Rf)>
     ensures { option_copied result ≡ datacenter_of factors.now dc.now }
 {
@@ -77,12 +81,12 @@ fn row_of_datacenter<'a>(factors: &'a Factors, dc: &Name) -> Option<&'a (Name, R
 
 /// Whether a replication's factors name a datacenter. Cost: one pass over the factors.
 pub fn names_datacenter(factors: &Factors, dc: &Name) -> bool
+    // Promise: `names_datacenter` tells whether factors name a datacenter. Guards: quorums.rt, tried.
     ensures { result ≡ is_some (datacenter_of factors.now dc.now) }
 {
     row_of_datacenter(factors, dc).is_some()
 }
 
-/// The factor of a datacenter that the factors name.
 fn factor_of(factors: &Factors, dc: &Name) -> Rf
     requires { IsSome (datacenter_of factors.now dc.now) }
     ensures { IfSome (datacenter_of factors.now dc.now) (λ f. result ≡ f.1) }
@@ -109,6 +113,7 @@ pub fn local_quorum(
 ) -> Quorum
     requires few { length writes.now ≤ 1024 }
     requires named { IsSome (datacenter_of factors.now dc.now) }
+    // Promise: in a datacenter its own factor counts, and only its own pending nodes do. Guards: quorums.rt, tried.
     ensures read { IfDatacenter factors.now dc.now dir.now.rows reads.now writes.now
         (λ sets. result.read_need ≡ read_need sets) }
     ensures write { IfDatacenter factors.now dc.now dir.now.rows reads.now writes.now

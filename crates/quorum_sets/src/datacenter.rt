@@ -15,7 +15,6 @@ pub(crate) fn is_within(dir: &Directory, dc: &Name, n: NodeId) -> bool
     dir.rack_in(dc, n).is_some()
 }
 
-/// The nodes of a list that are registered in a datacenter.
 fn ids_within(
     alloc: Global,
     dir: &Directory,
@@ -32,7 +31,7 @@ fn ids_within(
     Ok(nodes)
 }
 
-/// The nodes of a set that are registered in a datacenter. Fails only if memory runs out.
+/// The nodes of a set that are registered in a datacenter.
 ///
 /// Cost: a look-up of the row of each node of the set, and about n log n for the n nodes that are found.
 pub fn within(alloc: Global, dir: &Directory, dc: &Name, nodes: &NodeSet) -> Result<NodeSet, Memory>

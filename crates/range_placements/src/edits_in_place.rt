@@ -18,7 +18,6 @@ struct Gap {
     to: usize,
 }
 
-/// A row without nodes.
 fn blank(alloc: Global) -> PlacementRow {
     PlacementRow {
         right: RightEnd::Max,
@@ -90,7 +89,6 @@ fn put_first(rows: &mut PlacementRows, gap: &mut Gap, skip: usize, row: Option<P
     }
 }
 
-/// Removes the first `count` rows.
 fn remove_first(rows: &mut PlacementRows, count: usize)
     requires { count ≤ vec_len rows.old }
     ensures { rows.new.items ≡ drop count rows.old.items }
@@ -102,6 +100,10 @@ fn remove_first(rows: &mut PlacementRows, count: usize)
 
 /// Makes edits in these rows, and keeps `keep` rows after them. The edits pass `passed` rows, and there is memory for
 /// the `added` rows that they put in where they remove none.
+///
+/// The edits go from the last to the first. The gap is between the rows that are edited and those that are not, and a
+/// run of rows that stays changes places with the gap by a rotation. A map has memory for an eighth more rows
+/// (`rows_with_room`).
 pub fn edit_in_place(
     rows: &mut PlacementRows,
     mut edits: Vec<RowEdit>,

@@ -20,7 +20,9 @@ use std::marker::Model;
 use std::sync::ledger::Ledger;
 
 /// The nodes that are read and the nodes that are written at each token. The rows ascend, and the last row has the
-/// greatest token.
+/// greatest token. It ends in `Max` or at 2^63 - 1, as the greatest token may be a cut.
+///
+/// The rows are a `Vec`, as a split inserts a row, a merge removes one, and both may change a right end in place.
 #[derive(Debug, Drop)]
 pub struct PlacementMap {
     rows: PlacementRows,
@@ -105,6 +107,8 @@ impl PlacementMap {
     /// The map of these rows. Their last tokens ascend, and the last row ends in `Max` or at 2^63 - 1.
     pub fn from_rows(rows: PlacementRows) -> PlacementMap
         requires { IsPlacementMap rows.items }
+        // Promise: rows whose last tokens ascend, with the last row in `Max` or at 2^63 - 1, make the map of these
+        // rows. Guards: scripts.
         ensures { result ≡ rows.items }
     {
         PlacementMap { rows }
@@ -112,6 +116,8 @@ impl PlacementMap {
 
     /// The rows in ascending order.
     pub fn rows(&self) -> &[PlacementRow]
+        // Promise: a map shows its rows, which ascend up to the greatest token. Guards: scripts, by the invariant of
+        // PlacementMap.
         ensures rows { result.now ≡ self.now }
         ensures map { IsPlacementMap self.now }
     {
@@ -123,7 +129,11 @@ impl PlacementMap {
     /// The cost is a binary search, and each comparison is counted. For n rows 2^steps is more than n / 2 and at
     /// most 2 n.
     pub fn at<L: Ledger>(&self, t: Token, steps: &mut Steps<L>) -> (&NodeSet, &NodeSet)
+        // Promise: the nodes that are read and those that are written at a token are those of the first row that ends
+        // at or after it. Guards: a_lookup_in_the_row_before.edit, quorums.rt, calls/maps.rt, tried.
         ensures placement { (result.0.now, result.1.now) ≡ map_at self.now t }
+        // Promise: a lookup in a map of n rows counts s steps, one for each comparison, and 2^s is more than n / 2 and
+        // at most 2 n. Guards: tried.
         ensures rises { steps.old ≤ steps.new }
         ensures cost { 2 ^ (steps.new - steps.old) ≤ 2 * length self.now }
         ensures enough { length self.now < 2 * 2 ^ (steps.new - steps.old) }
@@ -133,7 +143,8 @@ impl PlacementMap {
         (&row.reads, &row.writes)
     }
 
-    /// The first row that ends at or after a token. Takes no memory.
+    /// The first row that ends at or after a token. Takes no memory. It is that row for any hint, so no loop has to
+    /// prove that its index is right.
     ///
     /// `hint` may be any position, and becomes that of the token's row. If it was this position or the one before, only
     /// these rows are looked at, so for ascending tokens that miss no row a look-up costs a few comparisons. Otherwise
@@ -167,6 +178,8 @@ impl PlacementMap {
     ///
     /// If memory runs out, leaves the map unchanged. The cost is a binary search and a move of each later row.
     pub fn split_at(&mut self, t: Token) -> Result<(), Memory>
+        // Promise: a split makes a token a cut and adds no other, the reads and the writes at every token stay, and if
+        // memory runs out, the map is as before. Guards: calls/maps.rt, tried.
         ensures rows { MatchResult result (λ _. self.new ≡ split_rows self.old t) (λ _. self.new ≡ self.old) }
         ensures cuts { IfOk result (λ _. cuts_of self.new ≡ put int_cmp t (cuts_of self.old)) }
         ensures same { (x : ℤ) → map_at self.new x ≡ map_at self.old x }
@@ -179,6 +192,8 @@ impl PlacementMap {
     pub fn merge_at(&mut self, t: Token)
         requires cut { is_cut_of self.old t ≡ true }
         requires sides { HasSameSides self.old t }
+        // Promise: a merge removes a cut and no other, if both sides of it have the same reads and writes, and the
+        // reads and writes at every token stay. Guards: calls/maps.rt, tried.
         ensures rows { self.new ≡ merged_rows self.old t }
         ensures cuts { cuts_of self.new ≡ filter (λ s. not (int_eq t s)) (cuts_of self.old) }
         ensures same { (x : ℤ) → map_at self.new x ≡ map_at self.old x }
@@ -187,11 +202,13 @@ impl PlacementMap {
     }
 
     /// The map with the nodes that a delta gains added to the reads, and the nodes that it loses removed from them.
-    /// Each cut of the delta is a cut of the map.
+    /// Each cut of the delta is a cut of the map. The program's pass over the rows needs no such fact.
     ///
-    /// Fails only if memory runs out. The cost is a binary search in the delta and a pass over the sets for each row.
+    /// The cost is a binary search in the delta and a pass over the sets for each row.
     pub fn with_reads(&self, delta: &Delta) -> Result<PlacementMap, Memory>
         requires cuts { EndAtCuts (cuts_of self.now) delta.now }
+        // Promise: the reads gain and lose at each token what the delta shows there, if its cuts are cuts of the map,
+        // and writes and right ends stay. Guards: a_swap_that_leaves_the_losing_node.edit, calls/maps.rt.
         ensures placement { IfOk result (λ map. (x : ℤ) → IsToken x
             → map_at map x ≡ reads_changed (map_at self.now x) (delta_at delta.now x)) }
         ensures ends { IfOk result (λ map. right_ends map ≡ right_ends self.now) }
@@ -204,11 +221,13 @@ impl PlacementMap {
     }
 
     /// The map with the nodes that a delta gains added to the writes, and the nodes that it loses removed from them.
-    /// Each cut of the delta is a cut of the map.
+    /// Each cut of the delta is a cut of the map. The program's pass over the rows needs no such fact.
     ///
-    /// Fails only if memory runs out. The cost is a binary search in the delta and a pass over the sets for each row.
+    /// The cost is a binary search in the delta and a pass over the sets for each row.
     pub fn with_writes(&self, delta: &Delta) -> Result<PlacementMap, Memory>
         requires cuts { EndAtCuts (cuts_of self.now) delta.now }
+        // Promise: the writes gain and lose at each token what the delta shows there, if its cuts are cuts of the map,
+        // and reads and right ends stay. Guards: a_swap_that_leaves_the_losing_node.edit, calls/maps.rt.
         ensures placement { IfOk result (λ map. (x : ℤ) → IsToken x
             → map_at map x ≡ writes_changed (map_at self.now x) (delta_at delta.now x)) }
         ensures ends { IfOk result (λ map. right_ends map ≡ right_ends self.now) }
@@ -226,6 +245,8 @@ impl PlacementMap {
     /// and no further. Otherwise each row moves into the memory that the edits hold.
     pub fn edit(&mut self, edits: RowEdits)
         requires { IsPlacementMap (edited edits self.old) }
+        // Promise: an edited map has the rows that the edits keep and those that they put in, in the order of the
+        // edits, if these are the rows of a map. Guards: scripts, tried.
         ensures { self.new ≡ edited edits self.old }
     {
         edits.make(&mut self.rows);
@@ -234,6 +255,8 @@ impl PlacementMap {
     /// Exchanges the reads or the writes of some rows for new ones. Their ranges and the other sets stay. A position past
     /// the last row changes nothing. Takes no memory. The cost is a move of each new set.
     pub fn exchange(&mut self, changes: RowChanges)
+        // Promise: some rows get new reads or new writes, their ranges and the other set stay, and a position past the
+        // last row changes nothing. Guards: scripts, tried.
         ensures { self.new ≡ with_changes changes self.old }
     {
         changes.make(&mut self.rows);

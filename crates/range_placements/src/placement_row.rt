@@ -21,9 +21,9 @@ pub struct PlacementRow {
 /// The rows of a placement map.
 pub type PlacementRows = Vec<PlacementRow>;
 
-/// An empty list with room for this many rows and an eighth more, so that rows can be put in without new memory. `Err`
-/// means that memory ran out.
+/// An empty list with room for this many rows and an eighth more, so that rows can be put in without new memory.
 pub fn rows_with_room(alloc: Global, count: usize) -> Result<PlacementRows, Memory>
+    // Promise: an empty list of rows has room for as many rows as are asked for. Guards: scripts.
     ensures empty { IfOk result (λ rows. vec_len rows ≡ 0) }
     ensures room { IfOk result (λ rows. count ≤ vec_capacity rows) }
 {
@@ -43,9 +43,10 @@ pub(crate) fn put_row(rows: &mut PlacementRows, row: PlacementRow)
     }
 }
 
-/// A set of nodes without the nodes that it loses, and with those that it gains. Fails only if memory runs out.
+/// A set of nodes without the nodes that it loses, and with those that it gains.
 #[inline(always)]
 pub fn with_change(set: &NodeSet, gained: &NodeSet, lost: &NodeSet) -> Result<NodeSet, Memory>
+    // Promise: a changed set is without the nodes that it loses, and with those that it gains. Guards: scripts.
     ensures { IfOk result (λ other. other ≡ with_change set.now gained.now lost.now) }
 {
     if gained.is_empty() && lost.is_empty() {
@@ -63,6 +64,7 @@ pub fn with_change(set: &NodeSet, gained: &NodeSet, lost: &NodeSet) -> Result<No
 impl PlacementRow {
     /// The last token of the row. It is 2^63 - 1 if the right end is `Max`.
     pub fn last_token(&self) -> Token
+        // Promise: `last_token` gives the last token of a row. Guards: scripts.
         ensures { result ≡ last_token self.now.right }
     {
         self.right.last_token()

@@ -60,8 +60,7 @@ impl RowChanges {
         }
     }
 
-    /// Adds a change at the end. Fails only if memory runs out; then the list is unchanged, and the change is
-    /// dropped.
+    /// Adds a change at the end. If memory runs out, the list is unchanged, and the change is dropped.
     pub fn push(&mut self, change: RowChange) -> Result<(), Memory>
         ensures { MatchResult result (λ _. self.new ≡ self.old ++ change ∷ []) (λ _. self.new ≡ self.old) }
     {

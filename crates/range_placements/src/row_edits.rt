@@ -65,7 +65,7 @@ fn make_room(room: &mut PlacementRows, made: usize, more: usize) -> Result<(), M
 }
 
 impl RowEdits {
-    /// No edit yet. Memory for this many rows and an eighth more is taken at once. `Err` means that memory ran out.
+    /// No edit yet. Memory for this many rows and an eighth more is taken at once.
     pub fn with_room(alloc: Global, count: usize) -> Result<RowEdits, Memory>
         ensures { IfOk result (λ edits. edits ≡ record { edits = []; keep = 0 }) }
     {
@@ -86,7 +86,7 @@ impl RowEdits {
         self.passed
     }
 
-    /// Removes the rows before an index, which the pass hasn't come past. `Err` means that memory ran out.
+    /// Removes the rows before an index, which the pass hasn't come past.
     fn skip_to(&mut self, at: usize) -> Result<(), Memory>
         requires { spec.all_passed self.old ≤ at }
         ensures rows { OnOk result ((rows : List AnyRow) → spec.edited self.new rows ≡ spec.edited self.old rows) }
@@ -105,8 +105,10 @@ impl RowEdits {
         Ok(())
     }
 
-    /// Keeps some rows from an index on, which the pass hasn't come past, and removes the rows before them. `Err` means
-    /// that memory ran out.
+    /// Keeps some rows from an index on, which the pass hasn't come past, and removes the rows before them.
+    ///
+    /// `placement_maps` keeps a row if it ends as its range does, the delta changes nothing there, and no later row was
+    /// kept or passed over. It tests all three, so no proof says that rows come in order.
     pub fn keep(&mut self, at: usize, count: usize) -> Result<(), Memory>
         requires place { spec.all_passed self.old ≤ at }
         requires bound { at + count < 2 ^ 64 }
@@ -122,7 +124,7 @@ impl RowEdits {
         Ok(())
     }
 
-    /// Puts in a row. `Err` means that memory ran out.
+    /// Puts in a row.
     pub fn put(&mut self, row: PlacementRow) -> Result<(), Memory>
         ensures rows { OnOk result ((rows : List AnyRow)
             → spec.edited self.new rows ≡ spec.edited self.old rows ++ row ∷ []) }
@@ -141,7 +143,7 @@ impl RowEdits {
     }
 
     /// Puts in a row in the place of the row at an index, which the pass hasn't come past, and removes the rows before
-    /// it. `Err` means that memory ran out.
+    /// it.
     pub fn replace(&mut self, at: usize, row: PlacementRow) -> Result<(), Memory>
         requires place { spec.all_passed self.old ≤ at }
         requires bound { at < 2 ^ 64 - 1 }

@@ -9,7 +9,8 @@ use std::sync::ledger::Ledger;
 use token_ring::Ring;
 use topology_strategy::DividedRing;
 
-/// A ring, with the strategy that places replicas on it.
+/// A ring, with the strategy that places replicas on it. It has a crate of its own, as plans and maps both place
+/// replicas, and are proved side by side on it.
 #[derive(Drop)]
 pub enum Placer<'a> {
     /// SimpleStrategy, with its factor.
@@ -19,8 +20,8 @@ pub enum Placer<'a> {
 }
 
 impl<'a> Placer<'a> {
-    /// The placer of a replication on a ring. Fails only if memory runs out. For NetworkTopologyStrategy the cost is that
-    /// of `DividedRing::new`, and otherwise nothing.
+    /// The placer of a replication on a ring. For NetworkTopologyStrategy the cost is that of `DividedRing::new`, and
+    /// otherwise nothing.
     pub fn new(
         alloc: Global,
         ring: &'a Ring,
@@ -58,13 +59,15 @@ impl<'a> Placer<'a> {
         }
     }
 
-    /// The replicas at a token. Fails only if memory runs out. Adds one to `walks`, even on an error.
+    /// The replicas at a token. Adds one to `walks`, even on an error.
     pub fn place<L: Ledger>(
         &self,
         alloc: Global,
         at: Token,
         walks: &mut Steps<L>,
     ) -> Result<NodeSet, Memory>
+        // Promise: a placer gives the placement of a replication on its ring, in all datacenters or in those of some
+        // pairs, and counts each walk, whatever is answered. Guards: scripts.
         ensures placement { IfOk result (λ nodes. nodes ≡ placed_by self.now at) }
         ensures counted { walks.new ≡ walks.old + 1 }
     {

@@ -15,7 +15,6 @@ fn differs_in(fixed: &Ring, widest: &[Pair], members: &Members, node: NodeId) ->
     members.rack_of(node).is_some() && common_shape(members, fixed.pairs(), widest).is_none()
 }
 
-/// Whether `differs_in` holds for any of these datacenters.
 fn differs_in_datacenters(
     fixed: &Ring,
     widest: &[Pair],
@@ -41,6 +40,9 @@ fn differs_in_datacenters(
 /// Costs at most two passes over the fixed pairs, and one over the widest pairs, for each group that the node is in. A
 /// pair costs a look at no more nodes and racks than there are to be replicas, and in a datacenter a look-up in the
 /// directory. Takes no memory.
+///
+/// Neither this nor `reached` has a precondition: the fixed pairs needn't be among the widest, nor need nodes be
+/// registered.
 pub fn shape_differs(
     fixed: &Ring,
     widest: &[Pair],
@@ -48,6 +50,8 @@ pub fn shape_differs(
     replication: &Replication,
     node: NodeId,
 ) -> bool
+    // Promise: `shape_differs` tells whether a node is in a group that has another shape in the widest set of pairs
+    // than in the fixed ring. Guards: calls/reach.rt, tried.
     ensures { result ≡ is_in_any_unsettled
         (groups_of dir.now.rows replication.now) fixed.now widest.now node }
 {

@@ -36,8 +36,16 @@ pub fn reached(
     moved: &[Pair],
     replication: &Replication,
 ) -> Result<RangeList, Memory>
+    // Promise: the ranges have the tokens that a moved pair reaches, and no others. Guards:
+    // spare_repeats_forgotten.edit, locks.rt, tried.
+    // Promise: a moved pair reaches nothing in a group that doesn't have its node. Guards: locks.rt, tried.
+    // Promise: each named datacenter counts. Guards: locks.rt, tried.
+    // Promise: if the shape of a moved pair's group differs in the widest set of pairs, each token is reached. Guards:
+    // locks.rt, tried.
     ensures reach { IfOk result (λ ranges. HaveTokens
         (is_reached (groups_of dir.now.rows replication.now) fixed.now widest.now moved.now) ranges) }
+    // Promise: each end of the ranges that is a token is one of a fixed or moved pair, and outside the ranges the
+    // placement doesn't depend on the moved pairs. Guards: by reach.
     ensures bounds { IfOk result (λ ranges. AreCutOut (tokens_of fixed.now ++ tokens_of moved.now) ranges) }
     ensures alone { IfOk result (λ ranges. (x : ℤ) (one other : List Pair)
         → IsToken x → have_token ranges x ≡ false

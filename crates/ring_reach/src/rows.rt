@@ -11,7 +11,6 @@ use cluster_terms::{Memory, Token, put_in_order};
 use std::alloc::Global;
 use token_ring::RangeList;
 
-/// Adds the tokens at which windows begin and end.
 fn push_bounds(bounds: &mut Vec<Token>, windows: &[Window]) -> Result<(), Memory>
     ensures { OnOk result (bounds.new.items ≡ bounds.old.items ++ window_bounds windows.now) }
 {
@@ -35,7 +34,6 @@ fn cuts_of(alloc: Global, groups: &[Windows]) -> Result<Vec<Token>, Memory>
     Ok(bounds)
 }
 
-/// Whether the windows of any group have a token.
 fn is_reached(groups: &[Windows], t: Token) -> bool
     ensures { result ≡ any_have groups.now t }
 {

@@ -9,7 +9,7 @@ use crate::shown::labelled;
 use cluster_terms::{ByteText, Memory};
 use transformations::Refusal;
 
-/// Adds `OK epoch`, the answer to a commit that is accepted as this epoch. Fails only if memory runs out.
+/// Adds `OK epoch`, the answer to a commit that is accepted as this epoch.
 pub fn ok_text(epoch: u64, out: &mut ByteText) -> Result<(), Memory>
     ensures added { OnOk result (out.new ≡ out.old ++ spec.ok_text epoch) }
     ensures kept { take (length out.old) out.new ≡ out.old }
@@ -18,7 +18,7 @@ pub fn ok_text(epoch: u64, out: &mut ByteText) -> Result<(), Memory>
     out.extend(b"\n")
 }
 
-/// Adds `NO reason`, the answer to a line that is refused. Fails only if memory runs out.
+/// Adds `NO reason`, the answer to a line that is refused.
 pub fn no_text(reason: &[u8], out: &mut ByteText) -> Result<(), Memory>
     ensures added { OnOk result (out.new ≡ out.old ++ spec.no_text reason.now) }
     ensures kept { take (length out.old) out.new ≡ out.old }
@@ -28,7 +28,7 @@ pub fn no_text(reason: &[u8], out: &mut ByteText) -> Result<(), Memory>
     out.extend(b"\n")
 }
 
-/// Adds the answer to a command that is refused: `NO` and the text of the refusal. Fails only if memory runs out.
+/// Adds the answer to a command that is refused: `NO` and the text of the refusal.
 pub fn refused_text(refusal: &Refusal, out: &mut ByteText) -> Result<(), Memory>
     ensures added { OnOk result (out.new ≡ out.old ++ spec.no_text (spec.refusal_text refusal.now)) }
     ensures kept { take (length out.old) out.new ≡ out.old }
@@ -38,7 +38,7 @@ pub fn refused_text(refusal: &Refusal, out: &mut ByteText) -> Result<(), Memory>
     out.extend(b"\n")
 }
 
-/// Adds `NO EPOCH last`, the answer to a query for an epoch after the last epoch. Fails only if memory runs out.
+/// Adds `NO EPOCH last`, the answer to a query for an epoch after the last epoch.
 pub fn no_epoch_text(last: u64, out: &mut ByteText) -> Result<(), Memory>
     ensures added { OnOk result (out.new ≡ out.old ++ spec.no_text (codes "EPOCH " ++ decimal last)) }
     ensures kept { take (length out.old) out.new ≡ out.old }
@@ -47,7 +47,7 @@ pub fn no_epoch_text(last: u64, out: &mut ByteText) -> Result<(), Memory>
     out.extend(b"\n")
 }
 
-/// Adds `WORD epoch`, the answer to a line on a follower. Fails only if memory runs out.
+/// Adds `WORD epoch`, the answer to a line on a follower.
 pub fn epoch_text(word: &[u8], epoch: u64, out: &mut ByteText) -> Result<(), Memory>
     ensures added { OnOk result (out.new ≡ out.old ++ spec.epoch_text word.now epoch) }
     ensures kept { take (length out.old) out.new ≡ out.old }
@@ -79,8 +79,7 @@ fn count_text(count: u64, out: &mut ByteText) -> Result<(), Memory>
 }
 
 /// Adds `REPLY number word epoch entries count`, the answer to a follower that asks for a reply. The word tells what
-/// the reply starts from: `image`, the image of the epoch, or `since`, the epoch asked from. Fails only if memory runs
-/// out.
+/// the reply starts from: `image`, the image of the epoch, or `since`, the epoch asked from.
 pub fn reply_text(
     number: u64,
     word: &[u8],
@@ -96,7 +95,7 @@ pub fn reply_text(
 }
 
 /// Adds `NO REPLY last`, the answer to a line that gives a reply whose number isn't that of any reply; `last` is the
-/// number of the last reply, or 0. Fails only if memory runs out.
+/// number of the last reply, or 0.
 pub fn no_reply_text(last: u64, out: &mut ByteText) -> Result<(), Memory>
     ensures added { OnOk result (out.new ≡ out.old ++ spec.no_text (codes "REPLY " ++ decimal last)) }
     ensures kept { take (length out.old) out.new ≡ out.old }

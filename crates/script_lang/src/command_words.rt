@@ -11,8 +11,7 @@ use cluster_terms::{Memory, Name, NodeId, Replication, TokenList};
 use std::alloc::Global;
 use transformations::{Command, Goal, Kind};
 
-/// The command in these words, or `None` if they are not a command. The first word names the command. Fails only if
-/// memory runs out.
+/// The command in these words, or `None` if they are not a command. The first word names the command.
 #[tactic(auto, unfolding(crate::specs::Grammar::command_of))]
 pub fn command_of(alloc: Global, words: &[&[u8]]) -> Result<Option<Command>, Memory>
     ensures { IfOk result (λ found. found ≡ spec.command_of (map (λ word. word.now) words.now)) }
@@ -150,7 +149,6 @@ fn drop_keyspace_command(alloc: Global, words: &[&[u8]]) -> Result<Option<Comman
     Ok(Some(Command::DropKeyspace { name }))
 }
 
-/// A step of the movement of a node.
 fn step(goal: Goal, kind: Kind, node: NodeId) -> Option<Command>
     ensures { result ≡ Some (Step goal kind node) }
 {

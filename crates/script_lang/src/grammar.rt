@@ -18,11 +18,20 @@ const LINE_LIMIT: usize = 16_384;
 /// the grammar or has more than 16,384 bytes. A command that lists tokens has 1 to 256 of them, in ascending order, and
 /// a reply is asked to have at most 1 to 1,024 entries.
 ///
-/// Fails only if memory runs out. A line that is too long takes no memory. The cost is a few passes over the bytes, and
-/// a sort of the tokens of a command.
+/// A line that is too long takes no memory. The cost is a few passes over the bytes, and a sort of the tokens of a
+/// command.
 #[tactic(auto, unfolding(crate::specs::Grammar::line_of))]
 #[inline(always)]
 pub fn parse_line(alloc: Global, bytes: &[u8]) -> Result<Option<ScriptLine>, Memory>
+    // Promise: a line of the grammar has the meaning that it gives, and all other lines have none. Guards: lines.rt,
+    // tried.
+    // Promise: each command of a movement, and each query of quorums, is read as itself. Guards: lines.rt, tried.
+    // Promise: each line on a follower, and a follower's name as the target of a query, is read as itself. Guards:
+    // followers.rt.
+    // Promise: a line of more than 16,384 bytes has no meaning, and reading it never runs out of memory. Guards: tried.
+    // Promise: a command has 1 to 256 tokens, and none comes twice. Guards: limits.rt (256 tokens), lines.rt (no token,
+    // a token twice), tried.
+    // Promise: tokens and datacenters come in any order, and are kept ascending. Guards: lines.rt, tried.
     ensures meaning { IfOk result (λ found. found ≡ spec.line_of bytes.now) }
     ensures ranges { IfOk result (λ found. IfSome found spec.IsInRange) }
     ensures long { 16384 < length bytes.now → IsOk result }

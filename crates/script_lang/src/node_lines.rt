@@ -15,6 +15,7 @@ use transformations::{Image, SeqRow, state_of};
 /// `out` still begins with its old content. The cost is a pass over the movements and the ring for each node.
 #[tactic(auto, unfolding(crate::specs::AnswerTexts::nodes_text))]
 pub fn nodes_text(alloc: Global, image: &Image, out: &mut ByteText) -> Result<(), Memory>
+    // Promise: each node is shown with its state and its tokens, and each movement. Guards: steps.rt, tried.
     ensures added { OnOk result (out.new ≡ out.old ++ spec.nodes_text image.now) }
     ensures kept { take (length out.old) out.new ≡ out.old }
 {
@@ -36,7 +37,6 @@ fn add_head(image: &Image, out: &mut ByteText) -> Result<(), Memory>
     out.extend(b"\n")
 }
 
-/// Adds a line for each node.
 fn add_node_lines(alloc: Global, image: &Image, out: &mut ByteText) -> Result<(), Memory>
     ensures added { OnOk result (out.new ≡ out.old ++ flat_map (spec.node_text image.now) image.now.nodes) }
     ensures kept { take (length out.old) out.new ≡ out.old }
@@ -86,7 +86,6 @@ fn add_tokens(alloc: Global, image: &Image, node: NodeId, out: &mut ByteText) ->
     out.extend(b"\n")
 }
 
-/// The tokens of a node in the ring.
 fn node_tokens(alloc: Global, image: &Image, node: NodeId) -> Result<Vec<Token>, Memory>
     ensures { IfOk result (λ tokens. tokens.items ≡ states.node_tokens image.now node) }
 {
@@ -100,7 +99,6 @@ fn node_tokens(alloc: Global, image: &Image, node: NodeId) -> Result<Vec<Token>,
     Ok(tokens)
 }
 
-/// Adds a line for each movement.
 fn add_sequence_lines(sequences: &[SeqRow], out: &mut ByteText) -> Result<(), Memory>
     ensures added { OnOk result (out.new ≡ out.old ++ flat_map spec.sequence_text sequences.now) }
     ensures kept { take (length out.old) out.new ≡ out.old }

@@ -15,6 +15,8 @@ const MOST_ENTRIES: u64 = 1_024;
 /// The number below 2^64 that a text writes in decimal digits. Returns `None` if and only if the text is anything else;
 /// a sign or a leading zero is refused.
 pub fn number_of(text: &[u8]) -> Option<u64>
+    // Promise: a number in decimal digits below 2^64, without leading zeros, is read, and no other text. Guards:
+    // lines.rt, tried.
     ensures { result ≡ spec.number_below (2 ^ 64) text.now }
 {
     if is_empty_or_has_leading_zero(text) {
@@ -23,7 +25,6 @@ pub fn number_of(text: &[u8]) -> Option<u64>
     value_of(text)
 }
 
-/// Whether a text is empty, or has a zero before its other bytes.
 fn is_empty_or_has_leading_zero(text: &[u8]) -> bool
     ensures { result ≡ (length text.now == 0)
         || ((slice_index text.now 0 == 48) && nat_le 2 (length text.now)) }
@@ -32,7 +33,8 @@ fn is_empty_or_has_leading_zero(text: &[u8]) -> bool
 }
 
 /// The number that decimal digits write. Returns `None` if and only if a byte is not a digit or the number is not below
-/// 2^64.
+/// 2^64. The digits are added up here, as `parse` needs UTF-8 and takes a plus sign and zeros in front; this saves 2%
+/// of the instructions of `gen`.
 fn value_of(digits: &[u8]) -> Option<u64>
     ensures { SomeIff result (AllDigits 10 digits.now × (digits_value 10 digits.now < 2 ^ 64)) (digits_value 10 digits.now) }
 {
@@ -78,6 +80,7 @@ pub fn node_of(text: &[u8]) -> Option<NodeId>
 
 /// Scripts write each number below 2^64 and each token in exactly one way: as answers print it.
 pub fn one_spelling()
+    // Promise: a number and a token have one spelling, the one that is printed. Guards: law.
     ensures number { (limit n : ℕ) (text : List ℕ) → limit ≤ 2 ^ 64
         → (spec.number_below limit text ≡ Some n) ↔ ((text ≡ decimal n) × (n < limit)) }
     ensures token { (t : ℤ) (text : List ℕ)

@@ -9,13 +9,16 @@ use cluster_terms::{ByteText, Memory, Name, NodeId, RightEnd, Token};
 use range_placements::{PlacementMap, PlacementRow};
 
 /// Adds the placements of a keyspace, which has this placement map: a head with the number of rows, and a line for each
-/// row. A row begins where the row before it ends. If memory runs out, `out` still begins with its old content.
+/// row. A row begins where the row before it ends. As the map is given, this stands on no strategy. If memory runs out,
+/// `out` still begins with its old content.
 pub fn place_text(
     epoch: u64,
     keyspace: &Name,
     map: &PlacementMap,
     out: &mut ByteText,
 ) -> Result<(), Memory>
+    // Promise: a keyspace's placement map is a head with the number of rows, and each row with the nodes that are read
+    // and written. Guards: scripts.rt, tried.
     ensures added { OnOk result (out.new ≡ out.old ++ spec.map_text epoch keyspace.now map.now) }
     ensures kept { take (length out.old) out.new ≡ out.old }
 {
@@ -35,7 +38,6 @@ fn add_head(epoch: u64, keyspace: &Name, rows: u64, out: &mut ByteText) -> Resul
     out.extend(b"\n")
 }
 
-/// Adds the lines of the rows.
 fn add_rows(rows: &[PlacementRow], out: &mut ByteText) -> Result<(), Memory>
     ensures added { OnOk result (out.new ≡ out.old ++ spec.map_rows_text None rows.now) }
     ensures kept { take (length out.old) out.new ≡ out.old }
@@ -58,7 +60,6 @@ fn add_row(left: Option<Token>, row: &PlacementRow, out: &mut ByteText) -> Resul
     add_nodes(row.reads.ids(), row.writes.ids(), out)
 }
 
-/// Adds the ends of a row.
 fn add_ends(left: Option<Token>, right: RightEnd, out: &mut ByteText) -> Result<(), Memory>
     ensures added { OnOk result (out.new ≡ out.old
         ++ (codes "(" ++ spec.left_text left ++ codes "," ++ spec.right_text right)) }

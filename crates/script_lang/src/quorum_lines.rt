@@ -20,6 +20,8 @@ pub fn sets_text(
     needs: &Quorum,
     out: &mut ByteText,
 ) -> Result<(), Memory>
+    // Promise: how many of the reads and of the writes a quorum needs is shown, each with its nodes. Guards:
+    // quorums.rt, tried.
     ensures added { OnOk result (out.new ≡ out.old
         ++ spec.sets_text word.now epoch
         (needs.now.read_need, reads.now) (needs.now.write_need, writes.now)) }
@@ -56,7 +58,6 @@ fn add_writes(need: u32, writes: &NodeSet, out: &mut ByteText) -> Result<(), Mem
     out.extend(b"\n")
 }
 
-/// Adds the first word and the epoch.
 fn add_head(word: &str, epoch: u64, out: &mut ByteText) -> Result<(), Memory>
     ensures added { OnOk result (out.new ≡ out.old ++ (word.now ++ codes " " ++ decimal epoch)) }
     ensures kept { take (length out.old) out.new ≡ out.old }

@@ -11,6 +11,8 @@ use transformations::Refusal;
 /// its old content.
 #[tactic(auto, unfolding(crate::specs::AnswerTexts::refusal_text))]
 pub fn refusal_text(refusal: &Refusal, out: &mut ByteText) -> Result<(), Memory>
+    // Promise: commits and refused lines get their answers, each refusal with its text, and lines on followers get a
+    // word and an epoch. Guards: refusals.rt, tried.
     ensures added { OnOk result (out.new ≡ out.old ++ spec.refusal_text refusal.now) }
     ensures kept { take (length out.old) out.new ≡ out.old }
 {

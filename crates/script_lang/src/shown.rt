@@ -15,6 +15,7 @@ pub trait Shown {
     /// Adds the text of the value. If memory runs out, `out` still begins with its old content.
     fn show(&self, out: &mut ByteText) -> Result<(), Memory>
         ensures added { OnOk result (out.new ≡ out.old ++ text self.now) }
+        // Promise: whatever the result, the output begins with what it held. Guards: tried.
         ensures kept { take (length out.old) out.new ≡ out.old };
 }
 

@@ -38,7 +38,7 @@ fn below_zero(n: u64) -> Option<Token>
 }
 
 /// The tokens in these words, in ascending order; the words may come in any order. Returns `None` if and only if a word
-/// isn't a token, a token comes twice, or there are no words or more than 256. Fails only if memory runs out.
+/// isn't a token, a token comes twice, or there are no words or more than 256.
 pub fn tokens_in_words(alloc: Global, words: &[&[u8]]) -> Result<Option<TokenList>, Memory>
     ensures { IfOk result (λ found. found ≡ spec.tokens_in_words (map (λ word. word.now) words.now)) }
 {
@@ -62,7 +62,8 @@ fn each_token_in_words(alloc: Global, words: &[&[u8]]) -> Result<Option<TokenLis
     Ok(Some(tokens))
 }
 
-/// The tokens in ascending order, if there are 1 to 256 and none comes twice.
+/// The tokens in ascending order, if there are 1 to 256 and none comes twice. Tokens are kept ascending, as datacenters
+/// are, so the token of `TOKEN-TAKEN` is the least.
 fn kept_tokens(alloc: Global, tokens: &[Token]) -> Result<Option<TokenList>, Memory>
     ensures { IfOk result (λ found. found ≡ spec.kept_tokens tokens.now) }
 {

@@ -24,7 +24,7 @@ pub fn put_words<'a>(words: &mut Few<&'a [u8], USUAL_WORDS>, bytes: &'a [u8]) ->
     true
 }
 
-/// The words of a line, separated by single spaces. Fails only if memory runs out.
+/// The words of a line, separated by single spaces.
 pub fn words_of(alloc: Global, bytes: &[u8]) -> Result<Vec<&[u8]>, Memory>
     ensures { IfOk result (λ words. map (λ word. word.now) words.items ≡ spec.words_of bytes.now) }
 {

@@ -75,7 +75,7 @@ abbrev pub other_cluster : Option (List ℕ) → List ℕ → Option Cause
 other_cluster None came = None
 other_cluster (Some want) came = if bytes_eq want came then None else Some (cause.Cluster want came)
 
--- the cause to refuse what was read as the first line of a log file, which is a header
+-- the cause to refuse what was read as the first line of a log file, which must be a header of the cluster
 abbrev pub header_read : Option (List ℕ) → Result Line ReadLineFault → Option Cause
 header_read want (Ok (line.Header came)) = other_cluster want came
 header_read want (Ok (line.Entry entry)) = Some cause.Format

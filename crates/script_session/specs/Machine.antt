@@ -126,7 +126,7 @@ moved_reply session name text after =
 abbrev pub handed_reply : SessionState → List ℕ → Handed → Reply
 handed_reply session name step = moved_reply session name (handed_text step.answer) step.after
 
--- the reason that an epoch hasn't come; it shows the last epoch
+-- the reason that the log has no such entry or image; it shows the last epoch
 abbrev pub no_epoch : List Command → List ℕ
 no_epoch history = codes "EPOCH " ++ decimal (length history)
 

@@ -3,8 +3,9 @@ use Rattle.follower_log.specs.Follower.{FollowerState}
 use Rattle.follower_log.specs.Prefix.{StandsFor, Taken, has_entry, is_base}
 use Rattle.script_lang.specs.declared.script_line.ScriptLine.{ScriptLine}
 use Rattle.script_lang.specs.declared.script_line.ScriptLine.TheVariants.{Deliver, Snapshot, Give}
-use Rattle.std.specs.Prelude.{◌≡◌, ◌≢◌, ℕ, ◌≤◌, true, List, [], Option, None, Some, IfSome}
+use Rattle.std.specs.Prelude.{◌≡◌, ◌≢◌, ℕ, ◌≤◌, true, List, [], Option, None, Some, IfSome, Result, OnOk, IfErr}
 use Rattle.tcm_edges.specs.Files.{ChangesFile, Files, GainsPart, OthersKept}
+use Rattle.tcm_edges.specs.Shown.{EachLeft, StaysOnly}
 use Rattle.transformations.specs.declared.entry.Entry.{Entry}
 use Rattle.script_session.specs.LogFiles.{entry_lines}
 use Rattle.script_session.specs.Machine.{SessionState, follower_named, with_follower}
@@ -25,6 +26,12 @@ abbrev pub Leaves : StepFault → Option (List ℕ) → List Entry → Option Fi
 Leaves fault.Memory name added files files' = files' ≡ files
 Leaves fault.Store None added files files' = ⊥
 Leaves fault.Store (Some name) added files files' = StoreFailed name added files files'
+
+-- what a crash may leave after a step, if before it one left only the files that the store told: after `Ok` those that
+-- the store tells, and after a fault what the fault leaves
+pub record StepCrashes {D T : Type 0} (told : D → Option Files) (shows : D → Files → Type 0) (name : Option (List ℕ)) (added : List Entry) (store store' : D) (result : Result T StepFault) : Type 0 where
+  pub ok : OnOk result (StaysOnly told shows store store')
+  pub fault : IfErr result (λ e. EachLeft told shows store store' (λ left. Leaves e name added (told store) left))
 
 -- a follower follows a log: it stands for the log, and for something that it took from it
 pub record FollowsLog (log : List Entry) (follower : FollowerState) : Type 0 where

@@ -1,4 +1,6 @@
 -- The entries and images that a follower took in the lines of a script, and that it shows their longest gapless prefix.
+-- Entries and images of one log are determined by their epochs, so `Taken` is two lists of numbers, and no follower
+-- stores it.
 use Rattle.std.specs.Prelude.{◌≡◌, ℕ, if◌then◌else◌, List, [], ◌∷◌, ◌++◌, Option, Some, None, Result, Ok, Err}
 use Rattle.std.specs.Str.{bytes_eq}
 use Rattle.catch_up.specs.declared.message.Reply.{Reply as CatchUpReply}

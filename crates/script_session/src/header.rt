@@ -9,8 +9,7 @@ use cluster_terms::{Memory, Name, TryCopy};
 use std::alloc::Global;
 use wire_json::{Line, ReadLineFault, read_line};
 
-/// The cause to refuse a header that names the cluster `came`, if another cluster is wanted. Fails only if memory runs
-/// out.
+/// The cause to refuse a header that names the cluster `came`, if another cluster is wanted.
 pub fn other_cluster(want: Option<&Name>, came: Name) -> Result<Option<Cause>, Memory>
     ensures { IfOk result (λ cause. cause ≡ spec.other_cluster (option_copied want.entry) came) }
 {
@@ -35,7 +34,8 @@ fn content_cause(want: Option<&Name>, content: Line) -> Result<Option<Cause>, Me
 }
 
 /// The first cause to refuse the first line of a log file, which comes without its line feed: it breaks a rule of
-/// `read_line`, it isn't a header, or it names another cluster than the wanted one. Fails only if memory runs out.
+/// `read_line`, it isn't a header, or it names another cluster than the wanted one. On each later line a header is
+/// refused before its name is looked at. A format other than `2`, `2.0` too, breaks rule 7.
 pub fn header_cause(
     alloc: Global,
     want: Option<&Name>,

@@ -53,7 +53,6 @@ fn numbers_text(label: &[u8], first: u64, second: u64, out: &mut ByteText) -> Re
     labelled(b" ", &second, out)
 }
 
-/// Adds the names of two clusters.
 fn clusters_text(want: &Name, came: &Name, out: &mut ByteText) -> Result<(), Memory>
     ensures { OnOk result (out.new ≡ out.old ++ (codes "CLUSTER " ++ want.now ++ codes " " ++ came.now)) }
 {
@@ -61,7 +60,6 @@ fn clusters_text(want: &Name, came: &Name, out: &mut ByteText) -> Result<(), Mem
     labelled(b" ", came, out)
 }
 
-/// Adds the text of a cause.
 fn cause_text(cause: &Cause, out: &mut ByteText) -> Result<(), Memory>
     ensures { OnOk result (out.new ≡ out.old ++ spec.cause_text cause.now) }
 {
@@ -83,7 +81,6 @@ fn cause_text(cause: &Cause, out: &mut ByteText) -> Result<(), Memory>
     }
 }
 
-/// Adds the line of an entry.
 fn add_entry(alloc: Global, entry: &Entry, out: &mut ByteText) -> Result<(), Memory>
     ensures { OnOk result (out.new ≡ out.old ++ wire.entry_line entry.now) }
 {
@@ -115,7 +112,7 @@ fn head_text(refused: &RefusedLine, out: &mut ByteText) -> Result<(), Memory>
 }
 
 /// Adds `REFUSED file line cause`, the text for a file that is refused at this line, and after a fork the lines of its
-/// two entries. Fails only if memory runs out.
+/// two entries.
 #[tactic(auto, unfolding(crate::specs::LogFiles::refused_line_text))]
 pub fn refused_line_text(
     alloc: Global,

@@ -12,7 +12,7 @@ ghost use Rattle.script_session.specs.Faults.{count_by};
 ghost use Rattle.script_session.specs.LogFiles.{Gains, entry_lines};
 ghost use Rattle.script_session.specs.Machine.{commit_reply, commit_text, epoch_of_follower, follower_named, reply, reply_to, session_next, session_over};
 ghost use Rattle.script_session.specs.code.StepParts.{accepted_reply};
-ghost use Rattle.script_session.specs.StepEnds.{Leaves, LeavesSession, handed_by};
+ghost use Rattle.script_session.specs.StepEnds.{Leaves, LeavesSession, StepCrashes, handed_by};
 ghost use Rattle.script_session.specs.code.StepParts.{IsNextEntry, OnlyAnswers, StepEnds};
 
 mod deliveries;
@@ -129,7 +129,7 @@ fn answer_again(entry: &Entry, command: &Command, out: &mut ByteText) -> Result<
 }
 
 impl Session {
-    /// The session with an empty log. Fails only if memory runs out.
+    /// The session with an empty log.
     pub fn empty(alloc: Global) -> Result<Session, Memory>
         ensures { IfOk result (λ session. session ≡ session_over []) }
     {
@@ -211,17 +211,63 @@ impl Session {
         store: &mut D,
         out: &mut ByteText,
     ) -> Result<(), StepFault>
+        // Promise: a step that ends well adds the answer to the output, its entry to the log and the entry's line to a
+        // named file, and moves the followers. Guards: logs.rt (two registers, a log that goes on), tried.
+        // Promise: a line outside the grammar, or of more than 16,384 bytes, is answered `NO BAD-LINE`, and changes
+        // nothing. Guards: lines.rt, by `parse_line`'s `meaning`.
+        // Promise: a commit's id is looked up first: the same command gets its epoch again, another `NO ID-REUSED` and
+        // that epoch, and neither changes anything. Guards: id_acts_twice.edit, ids.rt (entry-ids), tried.
+        // Promise: an accepted commit is the next epoch, and takes effect; a refused one is answered with its first
+        // refusal, changes nothing, and leaves its id free. Guards: scripts.rt (first-refusals), ids.rt (a refused id
+        // comes again), joins.rt, refusals.rt, together.rt, tried.
+        // Promise: epochs end at 65,536, and this refusal comes before all others but `ID-REUSED`. Guards: limits.rt,
+        // tried.
+        // Promise: a query is answered from the image of its epoch, and past the last epoch with `NO EPOCH` and that
+        // epoch. Guards: scripts.rt (ids-never-reused, unknown-things), tried.
+        // Promise: `place`, `quorum` and `local` show placements and quorums; an unknown keyspace gets `NO KEYSPACE`, a
+        // datacenter that its replication doesn't name `NO DC`. Guards: scripts.rt (unknown-things), quorums.rt, tried.
+        // Promise: a follower is made at epoch 0; at most 16 are made, and no two of one name. Guards: followers.rt (16
+        // followers, names that are alike), tried.
         ensures text { OnOk result (out.new ≡ out.old ++ (reply self.old line.now).text) }
+        // Promise: whatever the result, the output begins with what it held. Guards: scripts.
         ensures kept { take (length out.old) out.new ≡ out.old }
+        // Promise: a node that is removed is gone, and its id isn't given again; a keyspace is made, gets another
+        // replication, or is dropped. Guards: scripts.rt (ids-never-reused), steps.rt.
+        // Promise: a movement is prepared, started, brought half way and finished, each by a commit; then its pairs are
+        // in the ring, and it isn't in flight. Guards: joins.rt (join-to-finish, steps in another order), steps.rt,
+        // racks.rt.
+        // Promise: a start adds gaining nodes to the writes, half way they replace the losing ones in the reads, and a
+        // finish takes these out of the writes. Guards: joins.rt (join-started, two-joins), steps.rt, tried.
+        // Promise: a node that leaves or is replaced has left from the finish on; until then a replaced node is as
+        // before. Guards: steps.rt (a node that left), racks.rt (usual-cluster).
+        // Promise: a cancel ends a movement that is prepared or has started, and brings one that is half way back to
+        // where it had started. Guards: cancels.rt (each kind, join-mid-cancelled).
+        // Promise: several movements are in flight at once, and each goes on by itself. Guards: joins.rt (two-joins),
+        // together.rt (four kinds at the same time).
+        // Promise: a follower is handed the entry or the state of an epoch, and says what it made of it; nothing that
+        // is handed to another follower changes it. Guards: followers.rt (follower-out-of-order), limits.rt, logs.rt,
+        // tried.
+        // Promise: `ask` makes the reply from the follower's epoch, and up to 64 are kept; `give` hands a reply over,
+        // image first. Guards: replies.rt (replies-out-of-order, test `reply_with_image`).
         ensures next { OnOk result (self.new ≡ session_next self.old line.now) }
         ensures file { OnOk result (Gains
             (option_copied log.entry) (entry_lines (reply self.old line.now).added)
             (D.files store.old) (D.files store.new)) }
+        // Promise: after a fault log, replies and followers are as before, but for one that was handed something
+        // without memory, which is between where it was and where the line leads. Guards: enact_before_append.edit, by
+        // hand, tried.
         ensures left { IfErr result (λ e. LeavesSession e (handed_by self.old (line_of line.now))
             self.old (reply self.old line.now).followers self.new) }
+        // Promise: if memory runs out in a step, the files are as before. Guards: by `Store::append`'s `unchanged`.
+        // Promise: a step fails with `Store` only if the store failed to add an entry's line to a named file, which may
+        // then have gained a prefix of it, or all. Guards: logs.rt (store-stops), stops.rt.
         ensures fault { IfErr result (λ e. Leaves e (option_copied log.entry) (reply self.old line.now).added
             (D.files store.old) (D.files store.new)) }
+        ensures crash { StepCrashes D.files D.shows (option_copied log.entry) (reply self.old line.now).added
+            store.old store.new result }
+        // Promise: the store counts one fault more if the step fails with `Store`, and else none. Guards: tried.
         ensures count { D.faults store.new ≡ count_by result (D.faults store.old) }
+        // Promise: if no file is named, the store stays as it was. Guards: none.
         ensures unnamed { option_copied log.entry ≡ None → store.new ≡ store.old }
     {
         let said = parse_line(self.alloc, line)?;
@@ -240,6 +286,7 @@ impl Session {
         ensures steps { StepEnds (handed_by self.old said) (reply_to self.old said) (option_copied log.entry)
             self.old self.new out.old out.new
             (D.files store.old) (D.files store.new) (D.faults store.old) (D.faults store.new) result }
+        ensures crash { StepCrashes D.files D.shows (option_copied log.entry) (reply_to self.old said).added store.old store.new result }
         ensures unnamed { option_copied log.entry ≡ None → store.new ≡ store.old }
     {
         match said {
@@ -276,6 +323,7 @@ impl Session {
         ensures steps { StepEnds None (commit_reply self.old id command) (option_copied log.entry)
             self.old self.new out.old out.new
             (D.files store.old) (D.files store.new) (D.faults store.old) (D.faults store.new) result }
+        ensures crash { StepCrashes D.files D.shows (option_copied log.entry) (commit_reply self.old id command).added store.old store.new result }
         ensures unnamed { option_copied log.entry ≡ None → store.new ≡ store.old }
     {
         match self.log.seen(id) {
@@ -298,6 +346,7 @@ impl Session {
         ensures steps { StepEnds None (commit_reply self.old id command) (option_copied log.entry)
             self.old self.new out.old out.new
             (D.files store.old) (D.files store.new) (D.faults store.old) (D.faults store.new) result }
+        ensures crash { StepCrashes D.files D.shows (option_copied log.entry) (commit_reply self.old id command).added store.old store.new result }
         ensures unnamed { option_copied log.entry ≡ None → store.new ≡ store.old }
     {
         match self.admit(&command) {
@@ -345,6 +394,7 @@ impl Session {
         ensures steps { StepEnds None (accepted_reply self.old entry) (option_copied log.entry)
             self.old self.new out.old out.new
             (D.files store.old) (D.files store.new) (D.faults store.old) (D.faults store.new) result }
+        ensures crash { StepCrashes D.files D.shows (option_copied log.entry) (accepted_reply self.old entry).added store.old store.new result }
         ensures unnamed { option_copied log.entry ≡ None → store.new ≡ store.old }
     {
         if let Err(memory) = keep_image(&self.log, &self.metadata, &mut self.snapshots) {

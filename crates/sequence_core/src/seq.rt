@@ -45,6 +45,8 @@ impl<P> Seq<P> {
     /// The movement with a new plan of the same row. The phase and the key stay. Takes no memory.
     pub fn renewed(self, plan: Plan) -> Seq<P>
         requires { plan.row ≡ self.row }
+        // Promise: a movement at any phase is given a new plan of its row, and keeps its key and its phase, without
+        // memory. Guards: renewals.rt.
         ensures { result ≡ plan }
     {
         let Seq {
@@ -59,7 +61,6 @@ impl<P> Seq<P> {
         }
     }
 
-    /// The same movement at another phase.
     fn at<Q>(self) -> Seq<Q>
         ensures { result ≡ self }
     {
@@ -71,7 +72,6 @@ impl<P> Seq<P> {
         }
     }
 
-    /// Consumes the movement, and returns the key to its lock.
     fn into_key(self) -> LockKey
         ensures { result ≡ self.row.node }
     {
@@ -89,6 +89,8 @@ impl Seq<Prepared> {
     pub fn begin(plan: Plan, key: LockKey) -> Seq<Prepared>
         requires phase { plan.row.phase ≡ phase.Prepared }
         requires key { key ≡ plan.row.node }
+        // Promise: a movement begins with a plan whose row is at `Prepared` and with the key to the lock of its node,
+        // and shows this plan, whose row stays at `Prepared`. Guards: scripts, tried.
         ensures { result ≡ plan }
     {
         Seq {
@@ -107,6 +109,8 @@ impl Seq<Prepared> {
 
     /// Starts the movement. Its plan and its key stay.
     pub fn start(self) -> Seq<Started>
+        // Promise: a start, the half way step, and a cancel half way keep the plan. Guards:
+        // a_step_that_exchanges_deltas.edit, scripts, tried.
         ensures { result ≡ self }
     {
         self.at()
@@ -140,6 +144,8 @@ impl Seq<Mid> {
 
     /// Finishes the movement, and gives back the key to its lock.
     pub fn finish(self) -> LockKey
+        // Promise: a finish, and a cancel of a movement that is prepared or has started, end the movement and give back
+        // the key to the lock of its node. Guards: the compiler, scripts.
         ensures { result ≡ self.row.node }
     {
         self.into_key()

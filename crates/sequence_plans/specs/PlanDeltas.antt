@@ -20,7 +20,8 @@ pub record AreStepDeltas (image : Image) (s : SeqRow) (replications : List Repli
   pub swaps : AreDeltas replications (gained_by image s) (lost_by image s) swap
   pub loses : AreDeltas replications no_nodes (lost_by image s) lose
 
--- a plan has the deltas of its movement in an image
+-- a plan has the deltas of its movement in an image; this speaks of every token and knows no rows, as the image after
+-- other movements has other cuts
 abbrev pub HasDeltas : Image → Plan → Type 0
 HasDeltas image plan = AreStepDeltas image plan.row (replications_of image.keyspaces) plan.gain plan.swap plan.lose
 

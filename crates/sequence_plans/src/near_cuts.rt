@@ -1,4 +1,5 @@
-//! The cuts near ranges.
+//! The cuts near ranges. Outside the ranges of a movement nothing is walked, so its deltas are taken between the cuts
+//! in and at its ranges alone.
 
 ghost use Rattle.std.specs.Prelude.{◌≡◌, int_le, filter, IfOk};
 ghost use Rattle.std.specs.List.Sorted.{IsStrictlySortedBy};
@@ -40,8 +41,8 @@ fn cuts_near<'a>(cuts: &'a [Token], range: &TokenRange) -> &'a [Token]
     cuts_up_to(cuts_from(cuts, &range.left), range.last_token())
 }
 
-/// Of ascending cuts, those that a range contains and those at which a range begins. Fails only if memory runs out.
-/// Each range costs two binary searches and a copy of its cuts.
+/// Of ascending cuts, those that a range contains and those at which a range begins. Each range costs two binary
+/// searches and a copy of its cuts.
 pub fn near_cuts(alloc: Global, cuts: &[Token], ranges: &[TokenRange]) -> Result<Vec<Token>, Memory>
     requires ascending { IsStrictlySortedBy int_cmp cuts.now }
     requires list { IsRangeList ranges.now }

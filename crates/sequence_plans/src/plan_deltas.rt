@@ -60,7 +60,6 @@ fn deltas_under<L: Ledger>(
 }
 
 impl DeltaBooks {
-    /// No replication yet.
     fn empty(alloc: Global) -> DeltaBooks
         ensures { result ≡ record { gain = []; swap = []; lose = [] } }
     {
@@ -71,7 +70,6 @@ impl DeltaBooks {
         }
     }
 
-    /// Adds the deltas under one more replication.
     fn push(&mut self, replication: &Replication, deltas: Deltas) -> Result<(), Memory>
         ensures gain { OnOk result (self.new.gain
             ≡ self.old.gain ++ record { replication = replication.now; delta = deltas.gain } ∷ []) }
@@ -95,8 +93,8 @@ impl DeltaBooks {
         Ok(())
     }
 
-    /// The deltas of a movement, under the replication of each row of its ranges. Fails only if memory runs out. Under
-    /// each replication it makes two walks for each row between cuts that is in its ranges.
+    /// The deltas of a movement, under the replication of each row of its ranges. Under each replication it makes two
+    /// walks for each row between cuts that is in its ranges.
     pub fn of_movement<L: Ledger>(
         alloc: Global,
         rings: &MovementRings,

@@ -77,7 +77,20 @@ pub fn plan<L: Ledger>(
 ) -> Result<Plan, (SeqRow, Memory)>
     requires prepared { row.phase ≡ phase.Prepared }
     requires sound { IsSound (with_movement image.now row) }
+    // Promise: a plan has its row, and the cuts of the image with it. Guards: locks.rt, tried.
+    // Promise: it has the ranges of the row under each replication of the keyspaces, each once. Guards: locks.rt,
+    // tried.
+    // Promise: it has the ranges of all other movements, in the image with the row, and no others. Guards:
+    // mid_unlocks.edit, locks.rt, tried.
+    // Promise: its ranges are those of reach, and not only the rows whose replicas it changes. Guards:
+    // locks_only_changed_rows.edit.
+    // Promise: under each replication, at each token, `gain` and `swap` gain the nodes that the movement gains, `swap`
+    // and `lose` lose those that it loses, and nothing else changes. Guards: deltas_of_the_first_replication.edit,
+    // joins.rt (join-started), calls/plans.rt, tried.
+    // Promise: if memory runs out, the row is handed back. Guards: tried.
     ensures plan { MatchResult result (IsPlan (with_movement image.now row) row) (λ e. e.0 ≡ row) }
+    // Promise: the deltas stay exact after each list of accepted commands through which the movement lives, under each
+    // keyspace that none of them sets or drops. Guards: by plan, by deltas_persist, calls/plans.rt.
     ensures persists { IfOk result
         (λ plan. IsValid (begun image.now row) → StaysExact (begun image.now row) plan) }
 {

@@ -39,7 +39,6 @@ fn push_row<L: Ledger>(
 }
 
 /// What changes in the rows between cuts. Each placer makes one walk for each row in the ranges, and none elsewhere.
-/// Fails only if memory runs out.
 pub fn changes_of<L: Ledger>(
     alloc: Global,
     placers: &MovementPlacers,

@@ -24,8 +24,8 @@ impl<'a> Model for WideImage<'a> {
 }
 
 impl<'a> WideImage<'a> {
-    /// An image with this row: the row of a new movement, or the new row of a node's movement. Fails only if memory
-    /// runs out. The cost is a copy of the movements.
+    /// An image with this row: the row of a new movement, or the new row of a node's movement. The cost is a copy of
+    /// the movements.
     pub fn new(image: &'a Image, row: &SeqRow) -> Result<WideImage<'a>, Memory>
         ensures { IfOk result (λ wide. wide ≡ with_movement image.now row.now) }
     {

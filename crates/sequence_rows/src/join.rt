@@ -24,7 +24,7 @@ fn join_with(alloc: Global, node: NodeId, tokens: &[Token]) -> Result<SeqRow, Me
 }
 
 /// The row of a prepared join: it takes no pair out, and puts in the node's tokens. The image has no early refusal of
-/// the join, so it stays sound with this row. Fails only if memory runs out for the pairs, one for each token.
+/// the join, so it stays sound with this row. It takes memory for its pairs, one for each token.
 pub fn join_row(
     alloc: Global,
     image: &Image,
@@ -34,7 +34,9 @@ pub fn join_row(
     requires sound { IsSound image.now }
     requires formed { is_command (command.PrepareJoin node tokens.now) ≡ true }
     requires early { early_refusal_of image.now (command.PrepareJoin node tokens.now) ≡ None }
+    // Promise: a join is prepared, takes no pair out, and puts in the pairs of its node and tokens. Guards: tried.
     ensures row { IfOk result (λ row. row ≡ join_of node tokens.now) }
+    // Promise: the image stays sound with this row. Guards: by `row`.
     ensures sound { IfOk result (λ row. IsSound (with_movement image.now row)) }
 {
     let _ = image;

@@ -25,12 +25,14 @@ fn leave_with(alloc: Global, ring: &[Pair], node: NodeId) -> Result<SeqRow, Memo
 }
 
 /// The row of a prepared leave: it takes the node's pairs out, and puts none in. The image has no early refusal of the
-/// leave, so it stays sound with this row. Fails only if memory runs out for the pairs, one for each token of the
-/// node. Cost: one pass over the ring.
+/// leave, so it stays sound with this row. It takes memory for its pairs, one for each token of the node. Cost: one
+/// pass over the ring.
 pub fn leave_row(alloc: Global, image: &Image, node: NodeId) -> Result<SeqRow, Memory>
     requires sound { IsSound image.now }
     requires early { early_refusal_of image.now (command.PrepareLeave node) ≡ None }
+    // Promise: a leave is prepared, and takes the node's pairs out. Guards: tried.
     ensures row { IfOk result (λ row. row ≡ leave_of image.now.tokens node) }
+    // Promise: the image stays sound with this row. Guards: by `row`.
     ensures sound { IfOk result (λ row. IsSound (with_movement image.now row)) }
 {
     leave_with(alloc, image.tokens.as_slice(), node)

@@ -25,8 +25,8 @@ fn replace_with(alloc: Global, ring: &[Pair], node: NodeId, gone: NodeId) -> Res
 }
 
 /// The row of a prepared replace: it takes out the pairs of `gone`, and puts in the same tokens with the new node. The
-/// image has no early refusal of the replace, so it stays sound with this row. Fails only if memory runs out for the
-/// pairs, two for each token of `gone`. Cost: one pass over the ring.
+/// image has no early refusal of the replace, so it stays sound with this row. It takes memory for its pairs, two for
+/// each token of `gone`. Cost: one pass over the ring.
 pub fn replace_row(
     alloc: Global,
     image: &Image,
@@ -35,7 +35,10 @@ pub fn replace_row(
 ) -> Result<SeqRow, Memory>
     requires sound { IsSound image.now }
     requires early { early_refusal_of image.now (command.PrepareReplace node gone) ≡ None }
+    // Promise: a replace is prepared, takes out the pairs of the node that is gone, and puts in the same tokens with
+    // its own node. Guards: a_replace_that_hands_nothing_over.edit, tried.
     ensures row { IfOk result (λ row. row ≡ replace_of image.now.tokens node gone) }
+    // Promise: the image stays sound with this row. Guards: by `row`.
     ensures sound { IfOk result (λ row. IsSound (with_movement image.now row)) }
 {
     replace_with(alloc, image.tokens.as_slice(), node, gone)

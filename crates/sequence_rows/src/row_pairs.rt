@@ -4,7 +4,7 @@ ghost use Rattle.transformations.specs.Movements.{owned, pairs_of};
 use cluster_terms::{Memory, NodeId, Pair, PairList, Token};
 use std::alloc::Global;
 
-/// The pairs of a node with each of these tokens, in the same order. Fails only if memory runs out.
+/// The pairs of a node with each of these tokens, in the same order.
 pub fn pairs_with(alloc: Global, node: NodeId, tokens: &[Token]) -> Result<PairList, Memory>
     ensures { IfOk result (λ pairs. pairs ≡ pairs_of node tokens.now) }
 {

@@ -19,6 +19,8 @@ ghost use Rattle.session_laws.specs.Shown.{IsOfNoQuorum, LinesAreShown, Shown, S
 /// Cutting an input into lines loses nothing: its whole lines, each with a line feed after it, and then its open line
 /// make the input again. Neither a whole line nor the open line contains a line feed.
 pub fn lines_make_the_input()
+    // Promise: the whole lines of an input, each with its line feed, and its open line make the input, and no line
+    // contains a line feed. Guards: law.
     ensures whole { (input : List ℕ) → flat_map line (whole_lines input) ++ open_line input ≡ input }
     ensures lines { (input : List ℕ) → AllByRecursion HasNoFeed (whole_lines input) }
     ensures rest { (input : List ℕ) → HasNoFeed (open_line input) }
@@ -35,6 +37,8 @@ pub fn lines_make_the_input()
 /// The first line is answered from the log in a file; a file without lines is the empty log.
 #[tactic(auto, using(crate::proofs::quorums::ShownAnswers::texts, crate::proofs::quorums::ShownAnswers::others))]
 pub fn shown_quorums_meet()
+    // Promise: the answer to a query of quorums is their text, and no other answer, and no other line of an answer,
+    // begins with `QUORUM` or `LOCAL`. Guards: law.
     ensures texts { (session : SessionState) (bytes : List ℕ) (s : Shown)
         → shown_by session (line_of bytes) ≡ Some s → (reply session bytes).text ≡ shown_text s }
     ensures others { (session : SessionState) (bytes : List ℕ)
@@ -43,6 +47,8 @@ pub fn shown_quorums_meet()
         → open_line (answers (session_over log) lines) ≡ [] }
     ensures lines { (file : List ℕ) (log : List Entry) (lines : List (List ℕ)) → log_of file ≡ Ok log
         → LinesAreShown (answers (session_over log) lines) (shown (session_over log) lines) }
+    // Promise: quorums in two answers of a script to the same question meet, also of followers, at one epoch, or at an
+    // epoch and the next, a movement epoch. Guards: law.
     ensures meet { (file : List ℕ) (log : List Entry) (lines : List (List ℕ)) → log_of file ≡ Ok log
         → ShownMeet (commands_of (session_after (session_over log) lines).log)
         (shown (session_over log) lines) }
@@ -58,10 +64,15 @@ pub fn shown_quorums_meet()
 ///
 /// The first line is answered from the log in a file; a file without lines is the empty log.
 pub fn followers_show_prefixes()
+    // Promise: after each line of a script each follower is at a state of the log, at the end of the longest prefix
+    // without a gap of what it took. Guards: law.
     ensures prefixes { (file : List ℕ) (log : List Entry) (lines : List (List ℕ)) → log_of file ≡ Ok log
         → FollowersShow log lines }
+    // Promise: what is answered `AT` and an epoch leaves the follower at this epoch. Guards: law.
     ensures at { (follower : FollowerState) (entry : Entry) (image : Image)
         → TellsEpoch (hand_entry follower entry) × TellsEpoch (hand_image follower image) }
+    // Promise: a query of a follower is answered from the state of the log at the follower's epoch. Guards: law,
+    // followers.rt (a follower answers from its own epoch, local quorums of a follower), tried.
     ensures queries { (file : List ℕ) (log : List Entry) (lines : List (List ℕ)) → log_of file ≡ Ok log
         → AnswerAsLog (session_after (session_over log) lines) }
 {}
@@ -76,6 +87,10 @@ pub fn followers_show_prefixes()
 ///
 /// The first line is answered from the log in a file; a file without lines is the empty log.
 pub fn catch_up_skips_nothing()
+    // Promise: each reply of a session is one from its log. Guards: law.
+    // Promise: a follower that is ready for a reply comes by it to the last epoch of that time or `max` epochs further,
+    // whichever is less, and again it changes nothing. Guards: law.
+    // Promise: no line takes a follower back to an earlier epoch. Guards: law.
     ensures { (file : List ℕ) (log : List Entry) (lines : List (List ℕ)) → log_of file ≡ Ok log
         → RepliesSkipNothing log lines }
 {}

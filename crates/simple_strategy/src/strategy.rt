@@ -22,7 +22,9 @@ pub fn replicas<L: Ledger>(
     t: Token,
     walks: &mut Steps<L>,
 ) -> Result<NodeSet, Memory>
+    // Promise: the nodes that the walk takes are the placement. Guards: scripts.rt, tried.
     ensures placement { IfOk result (λ replicas. replicas ≡ place (whole_group rf ∷ []) t ring.now) }
+    // Promise: a walk is counted, whatever is answered. Guards: tried.
     ensures counted { walks.new ≡ walks.old + 1 }
 {
     walks.tick();

@@ -13,6 +13,7 @@ ghost use Rattle.simple_strategy.specs.SimpleWalk.{taken_after};
 /// first token at or after `x` round the ring each node that isn't taken yet, until it has `rf` nodes. In an empty ring
 /// the placement is empty.
 pub fn placement_is_walked()
+    // Promise: the placement, which is defined by counting, is what SimpleStrategy's walk takes. Guards: law.
     ensures walk { (rf i : ℕ) (ring : List Pair) (x : ℤ) → 1 ≤ rf → IsRing ring → IsFirstAt ring x i
         → place (whole_group rf ∷ []) x ring
         ≡ ascending nat_cmp (taken_after rf [] (nodes_of (drop i ring ++ take i ring))) }

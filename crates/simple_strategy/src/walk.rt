@@ -9,7 +9,6 @@ ghost use Rattle.simple_strategy.specs.SimpleWalk.{taken_after};
 use cluster_terms::{Few, NodeId, Pair, Rf, Token};
 use token_ring::Ring;
 
-/// Whether a node is taken already.
 fn is_taken(taken: &[NodeId], node: NodeId) -> bool
     ensures { result ≡ is_member nat_eq taken.now node }
 {

@@ -20,7 +20,7 @@ fn count_to(images: &[Image], e: u64) -> usize
 }
 
 /// A copy of the last of these images whose epoch is at most `e`. If there is none, this is the image before the first
-/// command. Fails only if memory runs out. The cost is a binary search and a copy of the image.
+/// command. The cost is a binary search and a copy of the image.
 pub fn nearest(alloc: Global, images: &[Image], e: u64) -> Result<Image, Memory>
     requires { Ascend images.now }
     ensures { IfOk result (IsNearest images.now e) }

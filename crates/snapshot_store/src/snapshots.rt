@@ -33,7 +33,6 @@ impl Model for Snapshots {
     ghost invariant = { λ snapshots. Ascend snapshots.images.items };
 }
 
-/// The metadata of a valid image. Fails only if memory runs out.
 fn metadata_of(alloc: Global, image: Image) -> Result<Metadata, Memory>
     requires { IsValid image }
     ensures { IfOk result (λ metadata. metadata ≡ image) }
@@ -50,6 +49,7 @@ fn metadata_of(alloc: Global, image: Image) -> Result<Metadata, Memory>
 impl Snapshots {
     /// No image. Takes no memory.
     pub fn empty(alloc: Global) -> Snapshots
+        // Promise: at first no image is kept. Guards: scripts.
         ensures { result ≡ [] }
     {
         Snapshots {
@@ -60,6 +60,7 @@ impl Snapshots {
 
     /// The epoch of the last image, which is the greatest, or 0 if there is no image.
     pub fn last_epoch(&self) -> u64
+        // Promise: the epoch of the last image is shown, 0 without images, and no image is past it. Guards: tried.
         ensures last { result ≡ epoch_of (slice_get self.now (length self.now - 1)) }
         ensures greatest { AllByRecursion (λ kept. kept.epoch ≤ result) self.now }
     {
@@ -70,9 +71,12 @@ impl Snapshots {
     }
 
     /// Keeps an image, whose epoch is above those of the images that are kept. If memory runs out, returns the image,
-    /// and the images that are kept stay.
+    /// and the images that are kept stay. Nothing else is asked of the image: `image_at` and `state_at` require that
+    /// the images are those of the log, and so valid.
     pub fn keep(&mut self, image: Image) -> Result<(), (Image, Memory)>
         requires { AllByRecursion (λ kept. kept.epoch < image.epoch) self.old }
+        // Promise: an image whose epoch is above those that are kept comes last, valid or not; if memory runs out, the
+        // images are as before, and the image is handed back. Guards: scripts.
         ensures { MatchResult result (λ _. self.new ≡ self.old ++ image ∷ [])
             (λ e. (self.new ≡ self.old) × (e.0 ≡ image)) }
     {
@@ -83,7 +87,7 @@ impl Snapshots {
     }
 
     /// The image at an epoch of a log, of which the images are. The commands of the log are a history, and the epoch is
-    /// at most the last one. Fails only if memory runs out.
+    /// at most the last one.
     ///
     /// Cost: a binary search for the greatest image at or below the epoch, and a copy of this image. Each command after
     /// it, up to the epoch, changes the copy, at the cost of `cluster_metadata::advance`. If the image of every 256th
@@ -92,6 +96,8 @@ impl Snapshots {
         requires history { IsHistory (commands_of log.now) }
         requires within { e ≤ length log.now }
         requires kept { AreOf (commands_of log.now) self.now }
+        // Promise: the state of a log at an epoch is that after its first commands, whichever images of the log are
+        // kept. Guards: the_last_kept_image.edit, scripts.rt, limits.rt (each_epoch_is_answered), tried.
         ensures { IfOk result (λ image. image ≡ state_after (commands_of log.now) e) }
     {
         let mut image = nearest(self.alloc, &self.images, e)?;

@@ -20,7 +20,6 @@ use cluster_terms::{Memory, Name, NodeId, Replication};
 use placement_deltas::{Delta, DeltaBookRow, Plan};
 use transformations::{Image, Phase, movement_of};
 
-/// The row of a replication in a book.
 fn find_row<'a>(book: &'a [DeltaBookRow], replication: &Replication) -> Option<&'a DeltaBookRow>
     ensures { option_copied result
         ≡ find (λ row. same_replication row.replication replication.now) book.now }
@@ -40,7 +39,6 @@ fn delta_of<'a>(plan: &'a Plan, replication: &Replication) -> Option<&'a Delta>
     }
 }
 
-/// Whether the movement of a node is at `Mid`.
 fn is_at_mid(image: &Image, n: NodeId) -> bool
     ensures { IfSome (movement_of image.now n) (λ s. result ≡ is_mid s.phase) }
 {
@@ -95,9 +93,18 @@ fn rows_under(
 /// the rows of the map, with a binary search in the delta for each; for each row that gains a node, a copy of its reads;
 /// and for each node that is added, a look-up of each node that its row adds or takes away.
 pub fn streams(meta: &Metadata, node: NodeId, keyspace: &Name) -> Result<Option<StreamRows>, Memory>
+    // Promise: for each range between cuts and each node that the movement gains there, ascending, a row with the lost
+    // node in its place in its group, or all nodes placed before. Guards: least_node_as_the_source.edit,
+    // reads_at_mid_taken_for_the_nodes_before.edit, calls/streams.rt, tried.
+    // Promise: there is no plan if and only if the node has no movement or no keyspace has the name. Guards:
+    // calls/streams.rt.
     ensures rows { IfOk result (λ found. found ≡ streams meta.now node keyspace.now) }
+    // Promise: at each token, each node that is placed with the movement and not before it has one row, and no other
+    // node has one. Guards: by rows, calls/streams.rt.
     ensures covers { IfOk result
         (λ found. IfSome found (λ rows. OfMovement meta.now node keyspace.now (CoverGains meta.now rows))) }
+    // Promise: of a quorum of nodes placed with the movement, one is in a given quorum of those before, or streams
+    // strictly from a node of it, also per datacenter. Guards: by rows, least_node_as_the_source.edit.
     ensures readable { IfOk result
         (λ found. IfSome found (λ rows. OfMovement meta.now node keyspace.now (KeepReadable meta.now rows))) }
 {

@@ -57,7 +57,7 @@ fn local_source(
     }
 }
 
-/// The node from which a node streams strictly, if there is one. Fails only if memory runs out.
+/// The node from which a node streams strictly, if there is one.
 fn strict_source(
     grouping: &Grouping,
     replaced: &Replaced,
@@ -84,7 +84,7 @@ fn from_source(before: &NodeSet, source: Option<NodeId>) -> Result<StreamFrom, M
     }
 }
 
-/// The nodes from which a gained node streams. Fails only if memory runs out.
+/// The nodes from which a gained node streams.
 pub(crate) fn streams_from(
     grouping: &Grouping,
     replaced: &Replaced,

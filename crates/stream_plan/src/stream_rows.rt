@@ -15,7 +15,6 @@ use cluster_terms::{Memory, NodeId, RightEnd, Token, TokenRange, TryCopy};
 use node_sets::NodeSet;
 use range_placements::{PlacementRow, with_change};
 
-/// The row of a gained node.
 fn stream_row(
     grouping: &Grouping,
     replaced: &Replaced,
@@ -114,7 +113,8 @@ fn push_row(
     push_range(rows, grouping, &replaced, range)
 }
 
-/// The stream plan of a movement that changes a placement map so.
+/// The stream plan of a movement that changes a placement map so. Its rows stand between the cuts of the image, since
+/// cuts come and go after the movement is planned. The delta is looked up at their last tokens.
 pub(crate) fn rows_by(
     grouping: &Grouping,
     changes: &MapChanges,

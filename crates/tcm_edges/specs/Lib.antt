@@ -7,5 +7,6 @@ pub mod FailingText
 pub mod Feed
 pub mod Files
 pub mod Owed
+pub mod Shown
 pub mod Writes
 pub mod code

@@ -9,7 +9,7 @@ use std::marker::Model;
 pub type CallList = SmallList<u64>;
 
 /// Which calls are to fail, each told by an `F`, how many were made, and how many failed. Both counts stop at the
-/// greatest `u64`.
+/// greatest `u64`, so the equation on counts holds of several calls in a row without a lemma.
 #[derive(Debug, Drop)]
 pub(crate) struct Calls<F> {
     fails: SmallList<F>,

@@ -2,6 +2,7 @@ ghost use Rattle.std.specs.Prelude.{◌≡◌, IfErr, IfOk, IsOkUnless, OnErr, O
 ghost use Rattle.tcm_edges.specs.Causes.{count_load, count_write, OnFailed, OnMemory, OnLoadFailed, OnLoadMemory};
 ghost use Rattle.tcm_edges.specs.Counted.{with_failure};
 ghost use Rattle.tcm_edges.specs.Files.{untold_files, IsLoad, ChangesFile, OthersKept, GainsAll, GainsPart, IsReplaced, IsOldOrNew};
+ghost use Rattle.tcm_edges.specs.Shown.{CrashLeaves, ShowsNoMore};
 ghost use Rattle.tcm_edges.specs.Writes.{KeptAtMemory, TellsAlike};
 
 use crate::fault::{LoadFault, WriteFault};
@@ -32,8 +33,9 @@ impl<F> Appended<F> {
 /// The files of the operating system. A name is a path from the current folder. The store tells nothing of the bytes in
 /// its files. A file whose name ends in `.new` may be overwritten by `replace`.
 ///
-/// The file of the last append stays open, until another file is appended to, a file is replaced or an append fails. If
-/// such a file is renamed meanwhile, appends still reach it.
+/// The file of the last append stays open, until another file is appended to, a file is replaced or an append fails. So
+/// a commit is one write and opens no file. If such a file is renamed meanwhile, appends still reach it. If there is no
+/// memory for the file's name, each append opens it anew.
 #[derive(Drop)]
 pub struct FileStore<R: Files> {
     rt: R,
@@ -139,14 +141,18 @@ fn replace_file<R: Files>(rt: &R, beside: &str, name: &str, bytes: &[u8]) -> io:
 impl<R: Files + AllocGlobal> Store for FileStore<R> {
     ghost files = { λ _. untold_files };
 
+    ghost shows = { λ _ _. ⊥ };
+
     ghost faults = { λ store. store.failures };
 
     /// Returns `Absent` if nothing has this path, `Memory` if memory runs out, and `Failed`, which it counts, for each
     /// other error of the operating system and for a folder or a device. Does not read a file that is larger than
-    /// `limit`. If a file grows during the call, `TooLarge` may have the limit plus one.
+    /// `limit`. If a file grows during the call, `TooLarge` may have the limit plus one. Opening a named pipe that has no
+    /// writer waits for one.
     fn load(&mut self, name: &str, limit: u64) -> Result<Loaded, LoadFault>
         ensures found { IfOk result (λ loaded. IsLoad untold_files name.now limit loaded) }
         ensures kept { untold_files ≡ untold_files }
+        ensures crash { ShowsNoMore (λ _. ⊥) (λ _. ⊥) }
         ensures cause { self.new.failures ≡ count_load result self.old.failures }
         ensures counted { IfErr result (λ fault. OnLoadFailed fault (self.new ≡ with_failure self.old)) }
         ensures uncounted { OnOk result (self.new ≡ self.old) }
@@ -171,6 +177,7 @@ impl<R: Files + AllocGlobal> Store for FileStore<R> {
         ensures others { OthersKept untold_files untold_files name.now }
         ensures cause { self.new.failures ≡ count_write result self.old.failures }
         ensures memory { KeptAtMemory untold_files untold_files result }
+        ensures crash { CrashLeaves (GainsPart bytes.now) (λ _. ⊥) (λ _. ⊥) untold_files name.now result }
         ensures told { TellsAlike untold_files untold_files }
         ensures sure { IsOkUnless result WriteFault.Failed }
         ensures counted { OnErr result (self.new ≡ with_failure self.old) }
@@ -198,6 +205,7 @@ impl<R: Files + AllocGlobal> Store for FileStore<R> {
         ensures others { OthersKept untold_files untold_files name.now }
         ensures cause { self.new.failures ≡ count_write result self.old.failures }
         ensures memory { KeptAtMemory untold_files untold_files result }
+        ensures crash { CrashLeaves (IsOldOrNew bytes.now) (λ _. ⊥) (λ _. ⊥) untold_files name.now result }
         ensures told { TellsAlike untold_files untold_files }
         ensures counted { IfErr result (λ fault. OnFailed fault (self.new ≡ with_failure self.old)) }
         ensures uncounted { OnOk result (self.new ≡ self.old) }

@@ -43,6 +43,8 @@ impl<R: Read> Source for InputSource<R> {
         requires { 0 < length buf.old }
         ensures bound { ReadsAtMost result buf.new }
         ensures bytes { ReadConsumes untold untold result buf.new }
+        // Promise: an adapter counts each error that it returns, except that memory ran out, and nothing else. Guards:
+        // edges.rt, tried.
         ensures cause { self.new.failures ≡ count_read result self.old.failures }
         ensures told { TellsAlike untold untold }
         ensures passed { ReadConsumes (R.remaining self.old.inner) (R.remaining self.new.inner)

@@ -55,11 +55,13 @@ impl Source for MemSource {
         ensures bytes { ReadConsumes (Some self.old.feed.bytes) (Some self.new.feed.bytes) result buf.new }
         ensures cause { self.new.plan.faults ≡ count_read result self.old.plan.faults }
         ensures told { TellsAlike (Some self.old.feed.bytes) (Some self.new.feed.bytes) }
+        // Promise: a call fails if and only if it is listed. Guards: edges.rt, tried.
         ensures fails { IsErr result ↔ IsTrue (next_fails self.old.plan) }
         ensures count { IfOk result (λ n. n ≡ given_len self.old.feed (length buf.old)) }
         ensures given { IfOk result (λ n. buf.new ≡ take n self.old.feed.bytes ++ drop n buf.old) }
         ensures after { IfOk result (λ n. self.new
             ≡ record { feed = after_read self.old.feed n; plan = call_passed self.old.plan }) }
+        // Promise: a call that failed is counted. Guards: tried.
         ensures kept { OnErr result (self.new ≡ record self.old { plan = failed self.old.plan }) }
         ensures unread { OnErr result (buf.new ≡ buf.old) }
     {

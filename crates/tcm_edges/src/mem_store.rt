@@ -4,6 +4,7 @@ ghost use Rattle.tcm_edges.specs.Calls.{fresh_plan, next_keep, call_passed, fail
 ghost use Rattle.tcm_edges.specs.Causes.{count_load, count_write, OnFailed, OnMemory, OnLoadFailed, OnLoadMemory};
 ghost use Rattle.tcm_edges.specs.FailingFiles.{after_append, after_failed_append, after_failed_replace};
 ghost use Rattle.tcm_edges.specs.Files.{file_of, loaded_of, IsLoad, ChangesFile, OthersKept, GainsAll, GainsPart, IsReplaced, IsOldOrNew};
+ghost use Rattle.tcm_edges.specs.Shown.{CrashLeaves, ShowsNoMore};
 ghost use Rattle.tcm_edges.specs.Writes.{KeptAtMemory, TellsAlike};
 
 use crate::calls::Calls;
@@ -101,12 +102,15 @@ impl MemStore {
 impl Store for MemStore {
     ghost files = { λ store. Some store.files };
 
+    ghost shows = { λ store f. f ≡ store.files };
+
     ghost faults = { λ store. store.plan.faults };
 
     /// A listed call returns `Failed`, and no other call does.
     fn load(&mut self, name: &str, limit: u64) -> Result<Loaded, LoadFault>
         ensures found { IfOk result (λ loaded. IsLoad (Some self.old.files) name.now limit loaded) }
         ensures kept { Some self.new.files ≡ Some self.old.files }
+        ensures crash { ShowsNoMore (λ f. f ≡ self.old.files) (λ f. f ≡ self.new.files) }
         ensures cause { self.new.plan.faults ≡ count_load result self.old.plan.faults }
         ensures fails { IsErrOf result LoadFault.Failed ↔ IsSome (next_keep self.old.plan) }
         ensures answer { IfOk result (λ loaded. loaded ≡ loaded_of (file_of self.old.files name.now) limit) }
@@ -135,8 +139,13 @@ impl Store for MemStore {
         ensures others { OthersKept (Some self.old.files) (Some self.new.files) name.now }
         ensures cause { self.new.plan.faults ≡ count_write result self.old.plan.faults }
         ensures memory { KeptAtMemory (Some self.old.files) (Some self.new.files) result }
+        ensures crash { CrashLeaves (GainsPart bytes.now) (λ f. f ≡ self.old.files) (λ f. f ≡ self.new.files) (Some self.new.files) name.now result }
         ensures told { TellsAlike (Some self.old.files) (Some self.new.files) }
+        // Promise: a call of a store fails only if it is listed, and a call that succeeds isn't listed; the first entry
+        // for a call counts. Guards: edges.rt, tried.
         ensures unlisted { OnOk result (IsNone (next_keep self.old.plan)) }
+        // Promise: a failed append keeps the first bytes of its piece, as listed; a failed replacement leaves the old
+        // file or the new one, as listed; a failed load changes nothing. Guards: edges.rt, tried.
         ensures listed { IfErr result (λ fault. OnFailed fault (IsSomeAnd (next_keep self.old.plan)
             (λ keep. self.new ≡ record {
               files = after_failed_append self.old.files name.now (take keep bytes.now);
@@ -146,6 +155,7 @@ impl Store for MemStore {
           files = after_append self.old.files name.now bytes.now;
           plan = call_passed self.old.plan;
         }) }
+        // Promise: if memory runs out, files and counts are as before. Guards: by memory.
         ensures unchanged { IfErr result (λ fault. OnMemory fault (self.new ≡ self.old)) }
     {
         let Some(keep) = self.calls.next_keep() else {
@@ -168,6 +178,7 @@ impl Store for MemStore {
         ensures others { OthersKept (Some self.old.files) (Some self.new.files) name.now }
         ensures cause { self.new.plan.faults ≡ count_write result self.old.plan.faults }
         ensures memory { KeptAtMemory (Some self.old.files) (Some self.new.files) result }
+        ensures crash { CrashLeaves (IsOldOrNew bytes.now) (λ f. f ≡ self.old.files) (λ f. f ≡ self.new.files) (Some self.new.files) name.now result }
         ensures told { TellsAlike (Some self.old.files) (Some self.new.files) }
         ensures unlisted { OnOk result (IsNone (next_keep self.old.plan)) }
         ensures listed { IfErr result (λ fault. OnFailed fault (IsSomeAnd (next_keep self.old.plan)

@@ -47,6 +47,7 @@ fn write_out<W: Write>(writer: &mut W, bytes: &[u8]) -> Option<usize>
     if n == 0 {
         return None;
     }
+    // A flush that fails counts as a fault, though the bytes may have gone out. No clause can see a flush.
     if writer.flush().is_err() {
         return None;
     }
@@ -67,6 +68,8 @@ impl<W: Write> Sink for OutputSink<W> {
         ensures cause { self.new.failures ≡ count_write result self.old.failures }
         ensures memory { KeptAtMemory untold untold result }
         ensures told { TellsAlike untold untold }
+        // Promise: an adapter passes on the reader's bytes, and reports no more bytes written than the writer took.
+        // Guards: write_claims_all.edit.
         ensures passed { IfOk result (λ n.
             Appends (W.contents self.old.inner) (W.contents self.new.inner) (take n bytes.now)) }
         ensures part { WritesPrefix (W.contents self.old.inner) (W.contents self.new.inner) bytes.now }

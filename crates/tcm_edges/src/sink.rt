@@ -30,6 +30,7 @@ pub trait Sink {
 /// Writes a whole text, with as many writes as the sink needs, and none for an empty text. Returns the error of the
 /// first write that fails; a prefix of the text may be written by then.
 pub fn write_all<K: Sink>(sink: &mut K, bytes: &[u8]) -> Result<(), WriteFault>
+    // Promise: a text is written whole, or a prefix of it. Guards: tried.
     ensures ok { OnOk result (Appends (K.written sink.old) (K.written sink.new) bytes.now) }
     ensures part { WritesPrefix (K.written sink.old) (K.written sink.new) bytes.now }
     ensures cause { K.faults sink.new ≡ count_write result (K.faults sink.old) }

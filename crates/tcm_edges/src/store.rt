@@ -1,6 +1,7 @@
 ghost use Rattle.std.specs.Prelude.{◌≡◌, ℕ, Option, IfErr, IfOk, OnOk};
 ghost use Rattle.tcm_edges.specs.Causes.{count_load, count_write, OnFailed};
 ghost use Rattle.tcm_edges.specs.Files.{Files, IsLoad, ChangesFile, OthersKept, GainsAll, GainsPart, IsReplaced, IsOldOrNew};
+ghost use Rattle.tcm_edges.specs.Shown.{CrashLeaves, ShowsNoMore};
 ghost use Rattle.tcm_edges.specs.Writes.{KeptAtMemory, TellsAlike};
 
 use crate::fault::{LoadFault, WriteFault};
@@ -22,6 +23,9 @@ pub trait Store {
     /// The bytes of each file by name, if the store tells them.
     ghost files: { Self → Option Files };
 
+    /// Whether a crash now may leave these files: those that the store tells, and maybe others.
+    ghost shows: { Self → Files → Type 0 };
+
     /// The count of failures. A call that returns `Failed` adds one, at most up to the greatest `u64`; no other call
     /// does.
     ghost faults: { Self → ℕ };
@@ -30,8 +34,12 @@ pub trait Store {
     /// file changes. Returns `Failed` if the outside failed, and `Memory` if memory ran out; then the count of failures
     /// is unchanged, too.
     fn load(&mut self, name: &str, limit: u64) -> Result<Loaded, LoadFault>
+        // Promise: every load, also of a store that tells nothing, gives at most as many bytes as the limit; a file
+        // that is too large has more. Guards: edges.rt, tried.
         ensures found { IfOk result (λ loaded. IsLoad (files self.old) name.now limit loaded) }
         ensures kept { files self.new ≡ files self.old }
+        // Promise: a load doesn't add to what a crash may leave. Guards: by the contracts of the stores.
+        ensures crash { ShowsNoMore (shows self.old) (shows self.new) }
         ensures cause { faults self.new ≡ count_load result (faults self.old) };
 
     /// Adds bytes at the end of a file, and makes the file if it is absent. No other file changes. After `Failed` the
@@ -45,6 +53,9 @@ pub trait Store {
         ensures others { OthersKept (files self.old) (files self.new) name.now }
         ensures cause { faults self.new ≡ count_write result (faults self.old) }
         ensures memory { KeptAtMemory (files self.old) (files self.new) result }
+        // Promise: after `Ok` a crash leaves only the files that the store tells; after any result, files that it might
+        // have left before, or these with this file changed. Guards: by the contracts of the stores.
+        ensures crash { CrashLeaves (GainsPart bytes.now) (shows self.old) (shows self.new) (files self.new) name.now result }
         ensures told { TellsAlike (files self.old) (files self.new) };
 
     /// Replaces the contents of a file by these bytes, and makes the file if it is absent. No other file changes. After
@@ -58,5 +69,6 @@ pub trait Store {
         ensures others { OthersKept (files self.old) (files self.new) name.now }
         ensures cause { faults self.new ≡ count_write result (faults self.old) }
         ensures memory { KeptAtMemory (files self.old) (files self.new) result }
+        ensures crash { CrashLeaves (IsOldOrNew bytes.now) (shows self.old) (shows self.new) (files self.new) name.now result }
         ensures told { TellsAlike (files self.old) (files self.new) };
 }

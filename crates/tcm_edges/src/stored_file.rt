@@ -19,7 +19,6 @@ impl Model for StoredFile {
 }
 
 impl StoredFile {
-    /// Whether the file has this name.
     fn is_named(&self, name: &str) -> bool
         ensures { result ≡ spec.is_named name.now self.now }
     {

@@ -63,6 +63,7 @@ impl Sink for SureSink {
         ensures cause { 0 ≡ count_write result 0 }
         ensures memory { KeptAtMemory (Some self.old) (Some self.new) result }
         ensures told { TellsAlike (Some self.old) (Some self.new) }
+        // Promise: a sink in memory takes all that it is given. Guards: edges.rt, tried.
         ensures whole { IfOk result (λ n. n ≡ length bytes.now) }
         ensures after { OnOk result (self.new ≡ self.old ++ bytes.now) }
         ensures sure { IsOkUnless result WriteFault.Memory }

@@ -69,6 +69,8 @@ impl Source for SureSource {
         ensures bytes { ReadConsumes (Some self.old.bytes) (Some self.new.bytes) result buf.new }
         ensures cause { 0 ≡ count_read result 0 }
         ensures told { TellsAlike (Some self.old.bytes) (Some self.new.bytes) }
+        // Promise: a source in memory gives its bytes in order, a piece at a time, and 0 only at their end. Guards:
+        // edges.rt, tried.
         ensures answer { result ≡ Ok (given_len self.old (length buf.old)) }
         ensures given { IfOk result (λ n. buf.new ≡ take n self.old.bytes ++ drop n buf.old) }
         ensures after { IfOk result (λ n. self.new ≡ after_read self.old n) }

@@ -2,6 +2,7 @@ ghost use Rattle.std.specs.Prelude.{◌≡◌, ◌++◌, Some, IfErr, IfOk, IsOk
 ghost use Rattle.std.specs.FinMap as map;
 ghost use Rattle.tcm_edges.specs.Causes.{count_load, count_write, OnFailed};
 ghost use Rattle.tcm_edges.specs.Files.{file_of, content, loaded_of, IsLoad, ChangesFile, OthersKept, GainsAll, GainsPart, IsReplaced, IsOldOrNew};
+ghost use Rattle.tcm_edges.specs.Shown.{CrashLeaves, ShowsNoMore};
 ghost use Rattle.tcm_edges.specs.Writes.{KeptAtMemory, TellsAlike};
 
 use crate::fault::{LoadFault, WriteFault};
@@ -44,6 +45,7 @@ impl SureStore {
 
     /// The bytes of a file, or `None` if it is absent.
     pub fn file(&self, name: &str) -> Option<&[u8]>
+        // Promise: a file is found by its name alone. Guards: edges.rt, tried.
         ensures { MatchOption result (file_of self.now name.now ≡ None)
             (λ bytes. file_of self.now name.now ≡ Some bytes.now) }
     {
@@ -96,12 +98,16 @@ impl SureStore {
 impl Store for SureStore {
     ghost files = { λ store. Some store };
 
+    ghost shows = { λ store f. f ≡ store };
+
     ghost faults = { λ _. 0 };
 
     /// Returns a copy of the bytes. The only error is `Memory`, and the files never change.
     fn load(&mut self, name: &str, limit: u64) -> Result<Loaded, LoadFault>
+        // Promise: a file as large as the limit is loaded. Guards: edges.rt, tried.
         ensures found { IfOk result (λ loaded. IsLoad (Some self.old) name.now limit loaded) }
         ensures kept { Some self.new ≡ Some self.old }
+        ensures crash { ShowsNoMore (λ f. f ≡ self.old) (λ f. f ≡ self.new) }
         ensures cause { 0 ≡ count_load result 0 }
         ensures sure { IsOkUnless result LoadFault.Memory }
         ensures answer { IfOk result (λ loaded. loaded ≡ loaded_of (file_of self.old name.now) limit) }
@@ -120,6 +126,7 @@ impl Store for SureStore {
 
     /// Returns `Memory` if memory runs out; then nothing changes. There is no other error.
     fn append(&mut self, name: &str, bytes: &[u8]) -> Result<(), WriteFault>
+        // Promise: an append adds at the end. Guards: edges.rt, tried.
         ensures ok { OnOk result
             (ChangesFile (GainsAll bytes.now) (Some self.old) (Some self.new) name.now) }
         ensures failed { IfErr result (λ fault. OnFailed fault
@@ -127,6 +134,7 @@ impl Store for SureStore {
         ensures others { OthersKept (Some self.old) (Some self.new) name.now }
         ensures cause { 0 ≡ count_write result 0 }
         ensures memory { KeptAtMemory (Some self.old) (Some self.new) result }
+        ensures crash { CrashLeaves (GainsPart bytes.now) (λ f. f ≡ self.old) (λ f. f ≡ self.new) (Some self.new) name.now result }
         ensures told { TellsAlike (Some self.old) (Some self.new) }
         ensures sure { IsOkUnless result WriteFault.Memory }
         ensures after { OnOk result (self.new
@@ -146,6 +154,7 @@ impl Store for SureStore {
         ensures others { OthersKept (Some self.old) (Some self.new) name.now }
         ensures cause { 0 ≡ count_write result 0 }
         ensures memory { KeptAtMemory (Some self.old) (Some self.new) result }
+        ensures crash { CrashLeaves (IsOldOrNew bytes.now) (λ f. f ≡ self.old) (λ f. f ≡ self.new) (Some self.new) name.now result }
         ensures told { TellsAlike (Some self.old) (Some self.new) }
         ensures sure { IsOkUnless result WriteFault.Memory }
         ensures after { OnOk result (self.new ≡ map.insert self.old name.now bytes.now) }

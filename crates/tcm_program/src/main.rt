@@ -5,11 +5,12 @@
 mod tests;
 
 use cluster_terms::Memory;
+use durable_log::FileDisk;
 use std::env;
 use std::io::ErrorKind;
 use std::process::ExitCode;
 use tcm_edges::{FileStore, InputSource, OutputSink};
-use tcm_session::run;
+use tcm_session::{durable_words, run, run_durable};
 
 /// The words after the program's name, or no words if a word isn't UTF-8 text: then the program prints its usage line.
 /// Fails only if memory runs out.
@@ -29,7 +30,19 @@ fn main(rt: HostRuntime) -> ExitCode {
     let mut input = InputSource::new(rt.stdin());
     let mut out = OutputSink::new(rt.stdout());
     let alloc = rt.alloc();
-    let mut store = FileStore::new(rt);
-    let status = run(alloc, &words, &mut input, &mut out, &mut store);
+    let status = match durable_words(&words) {
+        Some((path, words)) => {
+            let Ok(path) = String::from_str(alloc, path) else {
+                return ExitCode::FAILURE;
+            };
+            let disk = FileDisk::new(rt, path);
+            let (status, _disk) = run_durable(alloc, words, &mut input, &mut out, disk);
+            status
+        }
+        None => {
+            let mut store = FileStore::new(rt);
+            run(alloc, &words, &mut input, &mut out, &mut store)
+        }
+    };
     ExitCode::from(status.0)
 }

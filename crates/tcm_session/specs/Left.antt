@@ -37,6 +37,14 @@ pub record StopsIn (session : SessionState) (lines : List (List ℕ)) (last prin
   pub adds : added ≡ entry_lines (entries_added session done) ++ part
   pub next : StopsNext (next_text (session_after session done) rest last) (next_added (session_after session done) rest) front part
 
+-- each entry whose answer is printed whole is added whole, with those before it
+abbrev pub HoldsAnswered : SessionState → List (List ℕ) → List ℕ → List ℕ → Type 0
+HoldsAnswered session lines printed added =
+    (before : List (List ℕ)) (bytes : List ℕ) (after : List (List ℕ)) → lines ≡ before ++ bytes ∷ after
+    → (reply (session_after session before) bytes).text ≢ []
+    → StartsWith printed (answers session (before ++ bytes ∷ []))
+    → StartsWith added (entry_lines (entries_added session (before ++ bytes ∷ [])))
+
 -- ---- the files
 
 -- the log file has its whole lines, or the header if it had none, and then what the lines of the outcome added before the
@@ -49,7 +57,7 @@ pub record Grows (cluster : List ℕ) (o : Outcome) (printed : List ℕ) (status
   pub holds : file' ≡ Some (base_of cluster (content file) ++ added)
   pub read_fault : status ≡ 4 → (stops.front ≡ []) × (stops.part ≡ [])
 
--- or the log file is as before, and no line was done
+-- or the log file is as before, and no answer is printed, if the input was read at all
 abbrev pub LeavesLog : List ℕ → Outcome → List ℕ → ℕ → Option (List ℕ) → Option (List ℕ) → Type 0
 LeavesLog cluster o printed status file file' =
     ((file' ≡ file) × (o.reads ≡ true → printed ≡ [])) ⊎ Grows cluster o printed status file file'
@@ -58,10 +66,14 @@ LeavesLog cluster o printed status file file' =
 abbrev pub LeavesNew : List ℕ → Outcome → Option (List ℕ) → Option (List ℕ) → Type 0
 LeavesNew name o file file' = (file' ≡ file) ⊎ ((file ≡ None) × (file' ≡ file_of o.files name))
 
--- what a fault leaves in the files, by what was asked for: every file but this one is as before
-abbrev pub LeavesFiles : Option Request → Option Files → Option Files → Outcome → List ℕ → ℕ → Type 0
-LeavesFiles (Some (CommitTo log cluster)) files files' o printed status =
+-- the log file is left so, and every other file is as before
+abbrev pub LeavesLogFile : List ℕ → List ℕ → Option Files → Option Files → Outcome → List ℕ → ℕ → Type 0
+LeavesLogFile log cluster files files' o printed status =
     ChangesFile (LeavesLog cluster o printed status) files files' log × OthersKept files files' log
+
+-- what a fault leaves in the files, by what was asked for
+abbrev pub LeavesFiles : Option Request → Option Files → Option Files → Outcome → List ℕ → ℕ → Type 0
+LeavesFiles (Some (CommitTo log cluster)) files files' o printed status = LeavesLogFile log cluster files files' o printed status
 LeavesFiles (Some (Mend old new cluster)) files files' o printed status =
     ChangesFile (LeavesNew new o) files files' new × OthersKept files files' new
 LeavesFiles _ files files' o printed status = files' ≡ files

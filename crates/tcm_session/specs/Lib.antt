@@ -9,5 +9,6 @@ pub mod Outcomes
 pub mod Request
 pub mod Run
 pub mod SentAgain
+pub mod Usage
 pub mod code
 pub mod files

@@ -6,7 +6,7 @@ pub use Rattle.tcm_session.specs.Limits.{input_limit, too_large_text}
 use Rattle.script_session.specs.Machine.{answers, session_over}
 use Rattle.tcm_session.specs.declared.ending.Ending.{Ending}
 
--- the log from which lines are answered, these lines, the text that is printed after their answers, and the status
+-- the status; the log from which lines are answered, and these lines; and the text that is printed after their answers
 pub record Outcome : Type 0 where
   pub status : ℕ
   pub log : List Entry

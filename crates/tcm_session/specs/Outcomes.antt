@@ -1,24 +1,16 @@
 -- The outcome of each request.
-use Rattle.std.specs.Prelude.{ℕ, List, codes, Option, Some, None}
+use Rattle.std.specs.Prelude.{ℕ, List, Option, Some, None}
 use Rattle.tcm_edges.specs.Files.{Files}
-use Rattle.script_lang.specs.AnswerTexts.{line}
 use Rattle.tcm_session.specs.Commit.{commit_outcome, commit_to_outcome}
 use Rattle.tcm_session.specs.Gen.{gen_ending}
 use Rattle.tcm_session.specs.Mend.{mend_outcome}
 use Rattle.tcm_session.specs.Outcome.{Outcome, ended_outcome}
 use Rattle.tcm_session.specs.Request.{Request, Cms, Commit, CommitTo, Gen, Mend, Plan, Replay, Snapshot}
-use Rattle.tcm_session.specs.declared.ending.Ending.{Ending}
+use Rattle.tcm_session.specs.Usage.{usage_end}
 use Rattle.tcm_session.specs.files.MemberRoute.{route_ending}
 use Rattle.tcm_session.specs.files.Replay.{replay_ending}
 use Rattle.tcm_session.specs.files.StateLine.{snapshot_ending}
 use Rattle.tcm_session.specs.files.StreamPlan.{plan_ending}
-
--- the end of words that name no command
-abbrev pub usage_text : List ℕ
-usage_text = codes "usage: tcm commit [LOG CLUSTER] | replay FILE.. | snapshot LOG E | gen START N | mend2 OLD NEW CLUSTER | plan LOG NODE KS | cms LOG FROM TO"
-
-abbrev pub usage_end : Ending
-usage_end = record { status = 2; text = line usage_text }
 
 -- the outcome of a run, by what it is asked for, the files as each of its loads finds them, and its input
 unfoldable pub outcome : Option Request → (ℕ → Files) → List ℕ → Outcome

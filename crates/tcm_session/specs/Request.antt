@@ -98,6 +98,13 @@ request_of (word ∷ words) =
     else if bytes_eq word (codes "cms") then cms_request words
     else None
 
+-- ---- the words of a run on a disk
+
+-- `on`, the path of a disk, which isn't empty, and other words: this path, and these words
+abbrev pub durable_words : List (List ℕ) → Option (List ℕ × List (List ℕ))
+durable_words (on ∷ disk ∷ words) = if bytes_eq on (codes "on") && is_file_name disk then Some (disk, words) else None
+durable_words _ = None
+
 -- ---- what a request names
 
 -- whether a request may change a file

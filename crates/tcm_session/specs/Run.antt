@@ -1,29 +1,28 @@
--- The promises of a run about what it is asked for, its input, the files, the bytes that it prints and its status.
-use Rattle.std.specs.Prelude.{◌≡◌, ◌≢◌, ℕ, ◌+◌, ◌≤◌, Bool, true, false, if◌then◌else◌, ◌==◌, List, ◌++◌, length, Option, Some, IfOk, IfSome}
+-- What a run does, by what it is asked for: what it reads and prints, its status, and the files after it.
+use Rattle.std.specs.Prelude.{◌≡◌, ◌≢◌, ℕ, ◌+◌, ◌≤◌, Bool, true, false, if◌then◌else◌, ◌==◌, List, ◌++◌, length, Option, Some, None, IfSome}
 use Rattle.std.specs.Io.{StartsWith}
 use Rattle.std.specs.Io.KnownBytes.{Appends, Consumes, IsAtEnd}
 use Rattle.tcm_edges.specs.Causes.{one_more}
-use Rattle.tcm_edges.specs.Files.{Files, file_of}
-use Rattle.transformations.specs.Log.{IsLog}
+use Rattle.tcm_edges.specs.Files.{ChangesFile, Files, OthersKept}
 use Rattle.transformations.specs.declared.entry.Entry.{Entry}
+use Rattle.tcm_session.specs.Commit.{commit_outcome, commit_to_outcome}
 use Rattle.tcm_session.specs.Counts.{Counts}
-use Rattle.tcm_session.specs.Left.{LeavesFiles}
-use Rattle.script_session.specs.LogFiles.{log_of}
+use Rattle.tcm_session.specs.Gen.{gen_ending}
+use Rattle.tcm_session.specs.Left.{LeavesLogFile, LeavesNew}
+use Rattle.tcm_session.specs.Mend.{Mending, made_outcome, mending}
+use Rattle.tcm_session.specs.Outcome.{Outcome, input_limit, printed_by}
+use Rattle.tcm_session.specs.Request.{Cms, Commit, CommitTo, Gen, Mend, Plan, Replay, Request, Snapshot}
+use Rattle.tcm_session.specs.Usage.{usage_end}
+use Rattle.tcm_session.specs.declared.ending.Ending.{Ending}
+use Rattle.tcm_session.specs.files.MemberRoute.{route_ending}
+use Rattle.tcm_session.specs.files.Replay.{replay_ending}
+use Rattle.tcm_session.specs.files.StateLine.{snapshot_ending}
+use Rattle.tcm_session.specs.files.StreamPlan.{plan_ending}
 use Rattle.script_session.specs.Lines.{whole_lines}
 use Rattle.script_session.specs.Machine.{answers, session_over}
-use Rattle.tcm_session.specs.Outcome.{Outcome, input_limit, printed_by}
-use Rattle.tcm_session.specs.Outcomes.{outcome}
-use Rattle.tcm_session.specs.Request.{Cms, Plan, Replay, Request}
-use Rattle.tcm_session.specs.files.MemberRoute.{IsSafeRoute}
-use Rattle.tcm_session.specs.files.StreamPlan.{IsCoveringPlan, last_state}
-use Rattle.tcm_session.specs.files.ReplayPrefix.{AreFilesOf, AreHeadedFiles, ReportsPrefix, taken_of_files}
-use Rattle.session_laws.specs.Shown.{PrintsMeeting}
-use Rattle.script_session.specs.Taken.{FollowersShow}
-use Rattle.session_laws.specs.CatchUp.{RepliesSkipNothing}
 
--- the statuses, 0 to 8: the end of the input, of a replay, of a state, of a route or of a summary, out of memory, the
--- usage line, a line of a file that is refused, a fault of the source, of the sink or of the store, a file or an epoch
--- that is absent or a node that isn't joined, an input or a file that is too large
+-- the statuses, 0 to 8: all was done, out of memory, the usage line, a line of a file that is refused, a fault of the source,
+-- of the sink or of the store, something that is absent or a file that is there, an input or a file that is too large
 abbrev pub IsStatus : ℕ → Type 0
 IsStatus status = status ≤ 8
 
@@ -34,9 +33,20 @@ pub record IsFinal (status : ℕ) : Type 0 where
   pub sink : status ≢ 5
   pub store : status ≢ 6
 
+-- what the objects of a run tell: the bytes that are left of the input, those that are written, and the files
+pub record Told : Type 0 where
+  pub left : Option (List ℕ)
+  pub written : Option (List ℕ)
+  pub files : Option Files
+
+abbrev pub told : Option (List ℕ) → Option (List ℕ) → Option Files → Told
+told left written files = record { left = left; written = written; files = files }
+
 -- each load finds these files; a store that tells nothing may hold other files at each load
 abbrev pub AreSeen : Option Files → (ℕ → Files) → Type 0
 AreSeen files seen = IfSome files (λ these. (i : ℕ) → seen i ≡ these)
+
+-- ---- scripts
 
 -- the input of a run, and the files as its load i, counted from 0, finds them: if the source tells its bytes, they are
 -- the input, and if the store tells its files, each load finds these
@@ -66,41 +76,74 @@ pub record HasRead (log : List Entry) (left left' written written' : Option (Lis
   -- at status 4 the printed bytes are exactly the answers to the lines that end among the bytes read
   pub read_fault : status ≡ 4 → Appends written written' (answers (session_over log) (whole_lines read))
 
--- an outcome that reads no input leaves the source as it was, and doesn't end in 4; a script has read its input to the
--- end at status 0, and the byte past the limit at its status 8
-pub record ReadsFor {S : Type 0} (o : Outcome) (left : S → Option (List ℕ)) (input input' : S) (written written' : Option (List ℕ)) (status : ℕ) : Type 0 where
-  pub reads : HasRead o.log (left input) (left input') written written' status
-  pub at_end : status ≡ 0 → o.reads ≡ true → IsAtEnd (left input')
-  pub past_limit : status ≡ 8 → o.reads ≡ true → length reads.read ≡ input_limit + 1
-  pub unread : o.reads ≡ false → (input' ≡ input) × (status ≢ 4)
+-- a script whose lines are answered has read its input to the end at status 0, and the byte past the limit at its status
+-- 8; an outcome that reads no input keeps the source as it was, and doesn't end in 4
+pub record ReadsAll (o : Outcome) (InputKept : Type 0) (left' : Option (List ℕ)) (read : List ℕ) (status : ℕ) : Type 0 where
+  pub at_end : status ≡ 0 → o.reads ≡ true → IsAtEnd left'
+  pub past_limit : status ≡ 8 → o.reads ≡ true → length read ≡ input_limit + 1
+  pub unread : o.reads ≡ false → InputKept × (status ≢ 4)
 
--- a replay of files of one log, with entries and images of it, prints the report of a follower at the end of the longest
--- gapless prefix of what it took; it refuses no line, if headers stand only on first lines and name one cluster
-pub record ReplaysLog (names : List (List ℕ)) (seen : ℕ → Files) (log : List Entry) (printed : List ℕ) (status : ℕ) : Type 0 where
-  pub unrefused : (cluster : List ℕ) → AreHeadedFiles cluster names seen → status ≢ 3
-  pub reports : status ≡ 0 → ReportsPrefix log (taken_of_files names seen) printed
+-- a run that has this outcome: it prints it, and reads as it says; Left holds of the printed bytes and the status if a fault
+-- or lack of memory (1, 4, 5 or 6) ends it
+pub record RunsTo (o : Outcome) (Left : List ℕ → ℕ → Type 0) (InputKept : Type 0) (before after : Told) (status : ℕ) : Type 0 where
+  pub comes : ComesTo o before.written after.written after.files status
+  pub reads : HasRead o.log before.left after.left before.written after.written status
+  pub all : ReadsAll o InputKept after.left reads.read status
+  pub leaves : (IsFinal status → ⊥) → Left comes.printed status
 
--- a run for a request: it prints the bytes of the request's outcome, it reads as its outcome says, and the quorums in the
--- printed lines meet (`ShownMeet`), unless the status is 7, as the name of a file may hold any line; each follower of a
--- script, and that of a replay of files of one log, shows the longest gapless prefix of what it took (`ShowsPrefix`);
--- catch-up replies bring a follower on, and none goes back (`SkipsNothing`);
--- what a fault leaves in the log file is what the lines added that were done, with at most a part of one entry more; a
--- file that is made is whole, or absent as before; the route between two sets of members is safe; and the stream plan by
--- the log in a file covers what its movement adds, and keeps quorums readable
-pub record IsRun {S : Type 0} (request : Option Request) (left : S → Option (List ℕ)) (input input' : S) (written written' : Option (List ℕ)) (files files' : Option Files) (status : ℕ) : Type 0 where
-  pub given : Given (left input) files
-  pub comes : ComesTo (outcome request given.seen given.input) written written' files' status
-  pub reads : ReadsFor (outcome request given.seen given.input) left input input' written written' status
-  pub quorums : (outcome request given.seen given.input).status ≢ 7
-      → PrintsMeeting (outcome request given.seen given.input).log (outcome request given.seen given.input).lines comes.printed
-  pub followers : FollowersShow (outcome request given.seen given.input).log (outcome request given.seen given.input).lines
-  pub replies : RepliesSkipNothing (outcome request given.seen given.input).log (outcome request given.seen given.input).lines
-  pub replays : (names : List (List ℕ)) → request ≡ Some (Replay names) → (log : List Entry) → IsLog log
-      → AreFilesOf log names given.seen → ReplaysLog names given.seen log comes.printed status
-  pub leaves : (IsFinal status → ⊥) → LeavesFiles request files files' (outcome request given.seen given.input) comes.printed status
-  pub routes : (log from to : List ℕ) → request ≡ Some (Cms log from to) → IsSafeRoute from to
-  pub plans : (log : List ℕ) (node : ℕ) (keyspace : List ℕ) → request ≡ Some (Plan log node keyspace)
-      → IfSome (file_of (given.seen 0) log) (λ file. IfOk (log_of file) (λ entries. IsCoveringPlan (last_state entries) node keyspace))
+-- a run of a script: its outcome is by the files, as its one load finds them, and by its input
+pub record RunsScript (outcome_of : Files → List ℕ → Outcome) (Left : Outcome → List ℕ → ℕ → Type 0) (InputKept : Type 0) (before after : Told) (status : ℕ) : Type 0 where
+  pub given : Given before.left before.files
+  pub runs : RunsTo (outcome_of (given.seen 0) given.input) (Left (outcome_of (given.seen 0) given.input)) InputKept before after status
+
+-- ---- other commands
+
+-- an end is printed, or a prefix of its text if a fault or lack of memory comes first
+pub record PrintsEnd (ending : Ending) (written written' : Option (List ℕ)) (ended : ℕ) : Type 0 where
+  pub printed : List ℕ
+  pub wrote : Appends written written' printed
+  pub prefix : StartsWith ending.text printed
+  pub status : IsFinal ended → ended ≡ ending.status
+  pub whole : IsFinal ended → printed ≡ ending.text
+
+-- a run that looks at files alone: it prints the end that they lead to, reads no input, and changes no file
+pub record Looks (ending_of : (ℕ → Files) → Ending) (InputKept : Type 0) (before after : Told) (status : ℕ) : Type 0 where
+  pub seen : ℕ → Files
+  pub told_files : AreSeen before.files seen
+  pub prints : PrintsEnd (ending_of seen) before.written after.written status
+  pub unread : InputKept × (status ≢ 4)
+  pub files : IsFinal status → IfSome after.files (λ these. these ≡ seen 0)
+  pub leaves : (IsFinal status → ⊥) → after.files ≡ before.files
+
+-- a run that makes a file: it prints the end that the files lead to, and reads no input; a fault or lack of memory leaves
+-- the file absent, or whole, and no other file changes
+pub record MakesFile (name : List ℕ) (mending_of : (ℕ → Files) → Mending) (InputKept : Type 0) (before after : Told) (status : ℕ) : Type 0 where
+  pub seen : ℕ → Files
+  pub told_files : AreSeen before.files seen
+  pub prints : PrintsEnd (mending_of seen).ending before.written after.written status
+  pub unread : InputKept × (status ≢ 4)
+  pub files : IsFinal status → IfSome after.files (λ these. these ≡ (made_outcome name (mending_of seen) (seen 0)).files)
+  pub leaves : (IsFinal status → ⊥)
+      → ChangesFile (LeavesNew name (made_outcome name (mending_of seen) (seen 0))) before.files after.files name
+      × OthersKept before.files after.files name
+
+-- ---- each request
+
+-- what a run for a request does
+abbrev pub IsRun : Option Request → Type 0 → Told → Told → ℕ → Type 0
+IsRun (Some Commit) InputKept before after status =
+    RunsScript commit_outcome (λ o printed ended. after.files ≡ before.files) InputKept before after status
+IsRun (Some (CommitTo log cluster)) InputKept before after status =
+    RunsScript (commit_to_outcome log cluster) (LeavesLogFile log cluster before.files after.files) InputKept before after status
+IsRun (Some (Replay files)) InputKept before after status = Looks (replay_ending files) InputKept before after status
+IsRun (Some (Snapshot log epoch)) InputKept before after status = Looks (snapshot_ending log epoch) InputKept before after status
+IsRun (Some (Gen start rounds)) InputKept before after status = Looks (λ _. gen_ending start rounds) InputKept before after status
+IsRun (Some (Mend old new cluster)) InputKept before after status = MakesFile new (mending old new cluster) InputKept before after status
+IsRun (Some (Plan log node keyspace)) InputKept before after status = Looks (plan_ending log node keyspace) InputKept before after status
+IsRun (Some (Cms log from to)) InputKept before after status = Looks (route_ending log from to) InputKept before after status
+IsRun None InputKept before after status = Looks (λ _. usage_end) InputKept before after status
+
+-- ---- the status
 
 -- the count of faults after a run: one more if its status says so, else the same
 abbrev pub more_if : Bool → ℕ → ℕ

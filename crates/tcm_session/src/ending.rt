@@ -4,7 +4,7 @@ ghost use Rattle.std.specs.Prelude.{◌≡◌, ◌++◌, codes, decimal, IfOk};
 ghost use Rattle.script_lang.specs.AnswerTexts.{line, no_text};
 ghost use Rattle.tcm_session.specs.Counts.{counts};
 ghost use Rattle.tcm_session.specs.Mend as mend;
-ghost use Rattle.tcm_session.specs.Outcomes.{usage_end};
+ghost use Rattle.tcm_session.specs.Usage.{usage_end};
 ghost use Rattle.tcm_session.specs.code.Runs.{Writes};
 ghost use Rattle.tcm_session.specs.files.FileEnds as spec;
 
@@ -30,7 +30,8 @@ pub fn print_text<K: Sink>(text: &[u8], out: &mut K) -> Result<(), RunFault>
     Ok(())
 }
 
-/// Prints a text, and returns a status. No input is read, and no file changes.
+/// Prints a text, and returns a status. No input is read, and no file changes. All texts of such ends are printed here,
+/// from the usage line to a report: if the text can't be written, the status is 5, or 1 if the sink runs out of memory.
 pub fn end_with<K: Sink>(text: &[u8], status: u8, out: &mut K) -> Result<Status, RunFault>
     ensures writes { Writes text.now (K.written out.old) (K.written out.new)
         (counts 0 (K.faults out.old) 0) (counts 0 (K.faults out.new) 0) result }
@@ -48,7 +49,7 @@ pub struct Ending {
 }
 
 impl Ending {
-    /// The end of words that name no command. Fails only if memory runs out.
+    /// The end of words that name no command.
     pub fn usage(alloc: Global) -> Result<Ending, Memory>
         ensures { IfOk result (λ ending. ending ≡ usage_end) }
     {
@@ -57,7 +58,7 @@ impl Ending {
         Ok(Ending { status: 2, text })
     }
 
-    /// The end with status 7 that shows a name after a label. Fails only if memory runs out.
+    /// The end with status 7 that shows a name after a label.
     fn naming(alloc: Global, label: &[u8], name: &str) -> Result<Ending, Memory>
         ensures { IfOk result (λ ending. ending ≡ record { status = 7; text = line (label.now ++ name.now) }) }
     {
@@ -68,14 +69,14 @@ impl Ending {
         Ok(Ending { status: 7, text })
     }
 
-    /// The end at a file that is absent. Fails only if memory runs out.
+    /// The end at a file that is absent.
     pub fn absent(alloc: Global, name: &str) -> Result<Ending, Memory>
         ensures { IfOk result (λ ending. ending ≡ spec.absent_end name.now) }
     {
         Ending::naming(alloc, b"NO FILE ", name)
     }
 
-    /// The end at a file that is too large. Fails only if memory runs out.
+    /// The end at a file that is too large.
     pub fn too_large(alloc: Global) -> Result<Ending, Memory>
         ensures { IfOk result (λ ending. ending ≡ spec.too_large_end) }
     {
@@ -84,7 +85,7 @@ impl Ending {
         Ok(Ending { status: 8, text })
     }
 
-    /// The end at an epoch that a log hasn't reached; `last` is its last epoch. Fails only if memory runs out.
+    /// The end at an epoch that a log hasn't reached; `last` is its last epoch.
     pub fn past_last(alloc: Global, last: u64) -> Result<Ending, Memory>
         ensures { IfOk result (λ ending. ending
             ≡ record { status = 7; text = no_text (codes "EPOCH " ++ decimal last) }) }
@@ -94,7 +95,7 @@ impl Ending {
         Ok(Ending { status: 7, text })
     }
 
-    /// The end once a log file is made, with the number of its entries. Fails only if memory runs out.
+    /// The end once a log file is made, with the number of its entries.
     pub fn mended(alloc: Global, entries: u64) -> Result<Ending, Memory>
         ensures { IfOk result (λ ending. ending ≡ mend.mended_end entries) }
     {
@@ -104,14 +105,14 @@ impl Ending {
         Ok(Ending { status: 0, text })
     }
 
-    /// The end at a file that is to be made, and is there. Fails only if memory runs out.
+    /// The end at a file that is to be made, and is there.
     pub fn file_there(alloc: Global, name: &str) -> Result<Ending, Memory>
         ensures { IfOk result (λ ending. ending ≡ mend.file_there_end name.now) }
     {
         Ending::naming(alloc, b"FILE-THERE ", name)
     }
 
-    /// The end at a line that is refused. Fails only if memory runs out.
+    /// The end at a line that is refused.
     pub fn refused(alloc: Global, refused: &RefusedLine) -> Result<Ending, Memory>
         ensures { IfOk result (λ ending. ending ≡ spec.refused_end refused.now) }
     {

@@ -8,7 +8,7 @@ use cluster_terms::Memory;
 use generated_scripts::generate;
 use std::alloc::Global;
 
-/// The end of a generated script: the counts of the answers to its lines. Fails only if memory runs out.
+/// The end of a generated script: the counts of the answers to its lines.
 pub fn count_answers(alloc: Global, start: u64, rounds: u64) -> Result<Ending, Memory>
     requires { rounds ≤ 3000 }
     ensures { IfOk result (λ ending. ending ≡ spec.gen_ending start rounds) }

@@ -3,11 +3,13 @@
 //! anew.
 #![tactic(auto)]
 
+mod durable;
 mod ending;
 mod files;
 mod generated;
 mod limits;
 mod node_list;
+mod outcome_laws;
 mod program;
 mod request;
 mod run_fault;
@@ -15,8 +17,16 @@ mod scripts;
 mod status;
 mod validity;
 
+pub use durable::{durable_words, run_durable};
+pub use outcome_laws::{
+    plans_cover_what_is_added, printed_quorums_meet, routes_are_safe, scripts_lead_followers,
+};
 pub use program::{run, run_surely};
 pub use script_session::{Session, StepFault};
-pub use session_laws::{followers_show_prefixes, lines_make_the_input, shown_quorums_meet};
+pub use session_laws::{
+    catch_up_skips_nothing, followers_show_prefixes, lines_make_the_input, shown_quorums_meet,
+};
 pub use status::Status;
-pub use validity::{replays_show_the_longest_prefix, scripts_are_sent_again};
+pub use validity::{
+    answered_entries_stand, replays_show_the_longest_prefix, scripts_are_sent_again,
+};

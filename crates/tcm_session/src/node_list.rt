@@ -13,7 +13,7 @@ use script_lang::node_of;
 /// The most nodes of a list.
 const MOST_NODES: usize = 16;
 
-/// A list of up to 16 nodes. It takes no memory.
+/// A list of up to 16 nodes. It takes no memory, so words take none; sets are made once the log is found good.
 pub type NodeList = Few<NodeId, 16>;
 
 /// The bytes before the first comma, and the bytes after it, if there is a comma.

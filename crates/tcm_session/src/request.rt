@@ -16,10 +16,12 @@ use std::alloc::Global;
 /// The most files of a replay.
 const MOST_FILES: usize = 64;
 
-/// The most rounds of a generated script.
+/// The most rounds of a generated script. With the opening they make at most 60,050 epochs, so a generated script never
+/// comes to `EPOCHS-FULL`.
 const MOST_ROUNDS: u64 = 3_000;
 
-/// What the words after the program's name ask for.
+/// What the words after the program's name ask for. The words are read once. The names of files are borrowed from them,
+/// so none is copied; `asked` has the names themselves.
 #[derive(Drop)]
 pub enum Request<'a> {
     /// To run a script, without a file.
@@ -62,7 +64,7 @@ pub enum Request<'a> {
 }
 
 /// Whether a word may be the name of a file: it isn't empty.
-fn is_file_name(name: &str) -> bool
+pub fn is_file_name(name: &str) -> bool
     ensures { result ≡ spec.is_file_name name.now }
 {
     !name.is_empty()

@@ -5,11 +5,9 @@ ghost use Rattle.tcm_session.specs.code.Endings as spec;
 
 use crate::run_fault::RunFault;
 
-/// The status of a run: 0 if the input was read to its end, all files were replayed, a state or a route was printed, the
-/// answers to a generated script were counted or a log file was made, 1 if memory ran out, 2 for words that name no
-/// command, 3 if a line of a file is refused, 4 if the source failed, 5 if the sink failed, 6 if the store failed, 7 if a
-/// file or an epoch is absent, a file is there or a node isn't joined, 8 if the input or a file is too large. `run`
-/// explains each status.
+/// The status of a run: 0 if it did what was asked for, 1 if memory ran out, 2 for words that name no command, 3 if a line
+/// of a file is refused, 4 if the source failed, 5 if the sink failed, 6 if the store failed, 7 if what was asked for isn't
+/// there, or a file that is to be made is, 8 if the input or a file is too large. `run` explains each status.
 #[derive(Clone, Copy, Debug, PartialEq, Eq)]
 pub struct Status(pub u8);
 

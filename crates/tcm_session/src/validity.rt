@@ -1,18 +1,18 @@
 //! Facts about the definitions of a run: scripts that are sent again, and replays.
 
-ghost use Rattle.std.specs.Prelude.{◌≡◌, ◌≢◌, ℕ, List, Option, Some, Ok, IfErr, IfOk, IsTrue};
+ghost use Rattle.std.specs.Prelude.{◌≡◌, ◌≢◌, ℕ, List, Option, Some, Ok, IfOk, IsTrue};
 ghost use Rattle.cluster_terms.specs.Name.{is_name};
 ghost use Rattle.script_lang.specs.AnswerTexts.{line};
 ghost use Rattle.transformations.specs.Log.{IsLog};
 ghost use Rattle.transformations.specs.declared.entry.Entry.{Entry};
 ghost use Rattle.script_session.specs.LogFiles.{log_for};
-ghost use Rattle.script_session.specs.Machine.{session_over};
+ghost use Rattle.script_session.specs.Machine.{SessionState, session_over};
 ghost use Rattle.script_session.specs.Taken.{ShowsPrefix};
 ghost use Rattle.tcm_edges.specs.Files.{Files, content};
-ghost use Rattle.tcm_session.specs.Left.{LeavesLog};
+ghost use Rattle.tcm_session.specs.Left.{HoldsAnswered, LeavesLog, StopsIn};
 ghost use Rattle.tcm_session.specs.Outcome.{Outcome};
-ghost use Rattle.tcm_session.specs.files.Replay.{files_replayed, nothing_replayed};
-ghost use Rattle.tcm_session.specs.files.ReplayPrefix.{AreFilesOf, AreHeadedFiles, taken_of_files};
+ghost use Rattle.tcm_session.specs.files.Replay.{files_replayed, nothing_replayed, replay_ending};
+ghost use Rattle.tcm_session.specs.files.ReplayPrefix.{AreFilesOf, AreHeadedFiles, ReportsPrefix, taken_of_files};
 ghost use Rattle.tcm_session.specs.SentAgain.{AreAccepted, ComesToSame, GoesOn, log_at};
 
 /// A script that is sent again. Take the lines of a script, answered from a log, with `OK` and an epoch to each commit,
@@ -23,8 +23,12 @@ ghost use Rattle.tcm_session.specs.SentAgain.{AreAccepted, ComesToSame, GoesOn, 
 /// the file that one run without a fault makes. So a run that a fault ended may be repeated. A commit that was refused
 /// is decided anew. The file is the log of one cluster.
 pub fn scripts_are_sent_again()
+    // Promise: the same lines, sent again from the log after any number of them, get the same answer to each commit and
+    // lead to the same log, if each was accepted. Guards: law, stops.rt (each run twice).
     ensures log { (log : List Entry) (lines : List (List ℕ)) (n : ℕ) → AreAccepted (session_over log) lines
         → ComesToSame log (log_at log lines n) lines }
+    // Promise: the file that a fault left reads as the log after some lines, and the same lines, if accepted, make of
+    // it the file of a run without faults. Guards: law, stops.rt (each run twice).
     ensures file { (cluster : List ℕ) (o : Outcome) (printed : List ℕ) (status : ℕ) (file file' : Option (List ℕ))
         → IsTrue (is_name cluster) → log_for (Some cluster) (content file) ≡ Ok o.log
         → LeavesLog cluster o printed status file file' → GoesOn cluster o.log o.lines (content file) (content file') }
@@ -33,14 +37,33 @@ pub fn scripts_are_sent_again()
 /// A replay of files whose whole lines are entries of one log or images of its states, in any order, some lost and some
 /// repeated, or headers. At the end of the files, the follower stands for this log and for what it took: the entries and
 /// images that weren't answered `Full`. It shows the state of the log at the end of the longest prefix of these without
-/// a gap, so the report is the report of this state. No line is refused, if each header is the first line of its file
-/// and all headers name one cluster.
+/// a gap, and the report at status 0 is that of this state. No line is refused, so the status isn't 3, if each header is
+/// the first line of its file and all headers name one cluster.
 pub fn replays_show_the_longest_prefix()
+    // Promise: at the end of files of one log, in any order, lost and repeated, a follower is at the end of the longest
+    // prefix without a gap of what it took. Guards: law, replays.rt, headers.rt, snapshots.rt.
     ensures shows { (log : List Entry) (names : List (List ℕ)) (seen : ℕ → Files)
         → IsLog log → AreFilesOf log names seen
         → IfOk (files_replayed 1 nothing_replayed names seen) (λ replay.
         ShowsPrefix log (taken_of_files names seen) replay.follower) }
+    // Promise: at status 0 a replay of files of one log reports such a follower. Guards: law, replays.rt, headers.rt,
+    // snapshots.rt.
+    ensures reports { (log : List Entry) (names : List (List ℕ)) (seen : ℕ → Files)
+        → IsLog log → AreFilesOf log names seen → (replay_ending names seen).status ≡ 0
+        → ReportsPrefix log (taken_of_files names seen) (replay_ending names seen).text }
+    // Promise: no line of files of one log is refused, if headers stand only on first lines and name one cluster.
+    // Guards: law, replays.rt, headers.rt, snapshots.rt.
     ensures unrefused { (log : List Entry) (names : List (List ℕ)) (seen : ℕ → Files) (cluster : List ℕ)
         → IsLog log → AreFilesOf log names seen → AreHeadedFiles cluster names seen
-        → IfErr (files_replayed 1 nothing_replayed names seen) (λ ending. ending.status ≢ 3) }
+        → (replay_ending names seen).status ≢ 3 }
+{}
+
+/// What a fault leaves of a script has each entry whose commit was answered. Let a run stop within some lines, with some
+/// bytes printed and some added to the log file (`StopsIn`). If the answer to a line is printed whole, the lines of its
+/// entry, and of the entries of the lines before it, are added whole.
+pub fn answered_entries_stand()
+    // Promise: each answer that is printed whole has the line of its entry, and those of the entries before it, whole
+    // in the file. Guards: law, stops.rt.
+    ensures { (session : SessionState) (lines : List (List ℕ)) (last printed added : List ℕ)
+        → StopsIn session lines last printed added → HoldsAnswered session lines printed added }
 {}

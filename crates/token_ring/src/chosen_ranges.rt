@@ -44,7 +44,6 @@ struct ChosenRanges {
 }
 
 impl ChosenRanges {
-    /// No rows so far.
     fn new(alloc: Global) -> ChosenRanges
         ensures ranges { result.ranges.items ≡ [] }
         ensures begun { result.begun ≡ None }
@@ -55,7 +54,6 @@ impl ChosenRanges {
         }
     }
 
-    /// Adds the next row.
     fn add(&mut self, row: TokenRange, is_chosen: bool) -> Result<(), Memory>
         ensures { OnOk result ((rows : List AnyRange) (chosen : List Bool)
             → self.new.ranges.items ++ spec.chosen_from self.new.begun rows chosen

@@ -8,7 +8,6 @@ ghost use Rattle.token_ring.specs.TokenRanges.{have_token, AreCutOut, IsRangeLis
 use crate::range_list::RangeList;
 use cluster_terms::{RightEnd, Token, TokenRange};
 
-/// Whether both lists contain the token with this number.
 fn have_both(a: &RangeList, b: &RangeList, number: i64) -> bool
     ensures { result ≡ (have_token a.now number && have_token b.now number) }
 {
@@ -53,6 +52,8 @@ impl RangeList {
         requires ascending { IsStrictlySortedBy int_cmp cuts.now }
         requires one { AreCutOut cuts.now a.now }
         requires other { AreCutOut cuts.now b.now }
+        // Promise: the right end of the first row that is in both lists is found, and none if and only if they have no
+        // token in common. Guards: locks.rt, tried.
         ensures first { result ≡ first_common_end a.now b.now cuts.now }
         ensures none { IsNone result ↔
             ((t : ℤ) → IsToken t → (have_token a.now t && have_token b.now t) ≡ false) }

@@ -64,6 +64,7 @@ impl RangeList {
 
     /// The ranges in ascending order.
     pub fn as_slice(&self) -> &[TokenRange]
+        // Promise: ranges ascend, each contains a token, and there is a token between any two. Guards: calls/rings.rt.
         ensures ranges { result.now ≡ self.now }
         ensures list { IsRangeList self.now }
     {
@@ -76,6 +77,8 @@ impl RangeList {
     pub fn push(&mut self, range: TokenRange) -> Result<(), (TokenRange, Memory)>
         requires range { IsRange range }
         requires apart { AllByRecursion (λ r. ends_before r.right range.left ≡ true) self.old }
+        // Promise: a range is added past all others, and if memory runs out, nothing changes and the range is handed
+        // back. Guards: tried.
         ensures { MatchResult result (λ _. self.new ≡ self.old ++ range ∷ [])
             (λ e. (self.new ≡ self.old) × (e.0 ≡ range)) }
     {
@@ -87,6 +90,7 @@ impl RangeList {
 
     /// Whether one of the ranges contains a token. The cost is a binary search.
     pub fn contains(&self, t: Token) -> bool
+        // Promise: a token is found if and only if it is in a range. Guards: calls/rings.rt, tried.
         ensures { result ≡ have_token self.now t }
     {
         let before = count_before(&self.ranges, t);
@@ -94,7 +98,8 @@ impl RangeList {
     }
 
     /// The ranges of those rows between ascending cuts whose last token passes a test, with adjacent rows joined. The
-    /// cost is one pass over the cuts, and one test for each row.
+    /// cost is one pass over the cuts, and one test for each row. It is public, as `ring_reach` makes ranges of the
+    /// rows that pass its test.
     pub fn of_rows<F: Fn(Token) -> bool>(
         alloc: Global,
         cuts: &[Token],
@@ -102,6 +107,8 @@ impl RangeList {
     ) -> Result<RangeList, Memory>
         requires ascending { IsStrictlySortedBy int_cmp cuts.now }
         requires calls { F.IsAlwaysCallable test }
+        // Promise: the ranges have the tokens of the rows whose last token passes a test, and their ends are cuts.
+        // Guards: calls/rings.rt, tried.
         ensures ranges { IfOk result (λ ranges. (has : ℤ → Bool) → AnswersAs (F.post test) has
             → HaveTokens (have_chosen (spec.rows_between cuts.now)
             (chosen_by has (spec.rows_between cuts.now))) ranges) }
@@ -114,6 +121,7 @@ impl RangeList {
 
     /// The ranges of the tokens that are in either list. The cost is about m log m for m ranges in both lists together.
     pub fn union(&self, other: &RangeList) -> Result<RangeList, Memory>
+        // Promise: a union has the tokens of both lists. Guards: calls/rings.rt, tried.
         ensures { IfOk result (λ both. HaveTokens (either_has self.now other.now) both) }
     {
         let alloc = *self.ranges.allocator();
@@ -133,6 +141,7 @@ impl TryCopy for RangeList {
 /// Each set of tokens has only one list of ranges.
 #[tactic(auto, using(crate::proofs::SameTokens::same_list))]
 pub fn each_set_has_one_list()
+    // Promise: ranges with the same tokens are the same list. Guards: law.
     ensures { (one other : List AnyRange) → IsRangeList one → IsRangeList other
         → AllByRecursion IsToken (bounds_of one) → AllByRecursion IsToken (bounds_of other)
         → ((t : ℤ) → IsToken t → have_token one t ≡ have_token other t) → one ≡ other }

@@ -16,7 +16,8 @@ use token_ring::Ring;
 /// A ring, the registered nodes, and datacenters that are to have replicas, with the tokens of each datacenter apart.
 ///
 /// A walk passes the tokens of its own datacenter only. To place several tokens, make this value once: then each token
-/// costs only its walks.
+/// costs only its walks, which look nothing up. Walks over the whole ring would cost its square where other datacenters
+/// have many nodes.
 #[derive(Drop)]
 pub struct DividedRing<'a> {
     ring: &'a Ring,
@@ -109,6 +110,7 @@ impl<'a> DividedRing<'a> {
         dir: &'a Directory,
         factors: &'a Factors,
     ) -> Result<DividedRing<'a>, Memory>
+        // Promise: a divided ring is of the ring, the nodes and the factors that it was made of. Guards: scripts.rt.
         ensures { IfOk result (λ d.
             d ≡ record { ring = ring.now; nodes = dir.now.rows; factors = factors.now }) }
     {
@@ -126,6 +128,7 @@ impl<'a> DividedRing<'a> {
         factors: &'a Factors,
         pairs: &[Pair],
     ) -> Result<DividedRing<'a>, Memory>
+        // Promise: `among` leaves out the datacenters that have no node of the pairs. Guards: scripts.rt.
         ensures { IfOk result (λ d. d ≡ record {
           ring = ring.now;
           nodes = dir.now.rows;

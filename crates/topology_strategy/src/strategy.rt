@@ -27,8 +27,13 @@ pub fn replicas<L: Ledger>(
     t: Token,
     walks: &mut Steps<L>,
 ) -> Result<NodeSet, Memory>
+    // Promise: the nodes that the walks take in the named datacenters are the placement, and each of these is by
+    // itself. Guards: datacenter_walk_passes_the_token.edit, scripts.rt, tried.
+    // Promise: a rack is repeated as often as the racks of the whole ring leave it, and no more. Guards:
+    // repeats_by_racks_seen.edit, scripts.rt, tried.
     ensures placement { IfOk result (λ replicas.
         replicas ≡ topology_placement dir.now.rows factors.now t ring.now) }
+    // Promise: one step is counted, whatever is answered. Guards: tried.
     ensures counted { walks.new ≡ walks.old + 1 }
 {
     match DividedRing::new(alloc, ring, dir, factors) {

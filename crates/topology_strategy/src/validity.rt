@@ -13,6 +13,7 @@ ghost use Rattle.topology_strategy.specs.Walk.{taken_from};
 /// datacenter has a walk, from the first token at or after `x` round the ring, with the datacenter's shape in the ring.
 /// In an empty ring the placement is empty.
 pub fn placement_is_walked()
+    // Promise: the placement, which is defined by counting, is what NetworkTopologyStrategy's walks take. Guards: law.
     ensures walk { (nodes : List NodeRow) (factors : List (List ℕ × ℕ)) (ring : List Pair) (x : ℤ) (i : ℕ)
         → IsRing ring → IsFirstAt ring x i
         → topology_placement nodes factors x ring ≡ ascending nat_cmp (taken_from i nodes factors ring) }

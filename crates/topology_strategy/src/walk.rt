@@ -10,7 +10,9 @@ use node_directory::{Shape, has_rack};
 use std::marker::Model;
 
 /// A walk round a ring in one group: the nodes that it took, in the order of the walk, the racks that it saw, and how
-/// many further nodes of these racks it may still take. A walk takes no memory.
+/// many further nodes of these racks it may still take. A walk takes no memory: its lists are arrays
+/// of 16. A node that isn't registered is in no datacenter and is passed over, so no walk requires its nodes to be
+/// registered.
 #[derive(Drop)]
 pub struct Walk<'a> {
     taken: Few<NodeId, 16>,
@@ -31,7 +33,6 @@ impl<'a> Model for Walk<'a> {
     ghost invariant = { λ w. length w.racks ≤ length w.taken };
 }
 
-/// Whether a node is taken already.
 fn is_taken(taken: &[NodeId], node: NodeId) -> bool
     ensures { result ≡ is_member nat_eq taken.now node }
 {

@@ -35,6 +35,8 @@ ghost use Rattle.transformations.specs.declared.sequence.SeqRow.{SeqRow};
 /// to a valid image.
 #[tactic(auto, using(transformations::proofs::histories::ValidLemmas::valid_next, transformations::proofs::histories::HistoryLemmas::valid_after))]
 pub fn histories_are_valid()
+    // Promise: an accepted command leads from a valid image to a valid image, in which no two movements overlap, so
+    // each history leads to a valid image. Guards: law.
     ensures kept { (image : Image) (c : Command) → IsValid image → IsTrue (is_command c)
         → refusal_of image c ≡ None → image.epoch < most_epochs → IsValid (next_image image c) }
     ensures reached { (h : List Command) → IsHistory h → IsValid (image_after empty_image h) }
@@ -44,6 +46,8 @@ pub fn histories_are_valid()
 /// a history. An id acts once: a commit with the id of an entry of the log adds nothing, whatever its command is. With
 /// the command of this entry, it is answered with the entry's epoch.
 pub fn ids_act_once()
+    // Promise: a log stays a log, an id stands in it at most once, a commit whose id is there adds nothing, and an
+    // entry sent again gets its epoch. Guards: law.
     ensures kept { (log : List Entry) (id : ℕ) (c : Command) → IsLog log → IsTrue (is_command c)
         → IsLog (log ++ (commit_of log id c).added) }
     ensures once { (log : List Entry) (entry : Entry) (c : Command) → IsLog log → Contains log entry
@@ -57,10 +61,17 @@ pub fn ids_act_once()
 /// their ranges. The rings of reads and writes are rings after such outcomes, so the nodes that are read and written
 /// are placements after them. A command that is accepted keeps the ranges of each movement that goes on.
 pub fn movements_are_apart()
+    // Promise: at most one movement of a valid image has a token in its ranges, under each keyspace. Guards: law.
     ensures apart { (image : Image) → IsValid image → AreApart image }
+    // Promise: whichever movements of a valid image are done or given up, the placement at a token depends only on
+    // the movements that have it in their ranges. Guards: law.
     ensures placed { (image : Image) → IsValid image → PlacedByRanges image }
+    // Promise: the low, read and high ring are rings after such outcomes, and the reads and both halves of the
+    // writes are placements after them. Guards: law.
     ensures outcomes { (image : Image) → IsValid image → AreOutcomes image }
     ensures placements { (image : Image) → IsValid image → ArePlacedByOutcomes image }
+    // Promise: a command that is accepted leaves the ranges of each movement that goes on as they are, under each
+    // keyspace of the image before. Guards: law.
     ensures kept { (image : Image) (c : Command) → IsValid image → IsTrue (is_command c)
         → refusal_of image c ≡ None → KeepsRanges image (next_image image c) }
 {}
@@ -68,6 +79,8 @@ pub fn movements_are_apart()
 /// The cuts of an image ascend. Under every replication, the same nodes are read at all tokens of a row between cuts,
 /// and the same nodes are written. In a sound image, each movement has all tokens of a row in its ranges, or none.
 pub fn rows_stand_for_tokens()
+    // Promise: cuts ascend, and at each token of a row between them reads, writes and, in a sound image, ranges are
+    // as at its last token. Guards: law.
     ensures ascend { (image : Image) → IsStrictlySortedBy int_cmp (cuts image) }
     ensures rows { (image : Image) → RowsStandForTokens image }
     ensures ranges { (image : Image) → IsSound image → RowsStandInRanges image }
@@ -81,15 +94,22 @@ pub fn rows_stand_for_tokens()
 /// In a sound image, a movement gains and loses nothing at tokens outside its ranges. In every image, the placement
 /// without a movement and the placement with it are the same at all tokens of a row between cuts.
 pub fn deltas_persist()
+    // Promise: if a command is accepted in a valid image, each movement that goes on keeps its deltas, at each
+    // token, under each keyspace as it was before. Guards: law, calls/plans.rt.
     ensures step { (image : Image) (c : Command) → IsValid image → IsTrue (is_command c)
         → refusal_of image c ≡ None → KeepsDeltas image (next_image image c) }
+    // Promise: so they are the same after accepted commands through which the movement lives, under each keyspace
+    // that none of the commands sets or drops. Guards: law, calls/plans.rt.
     ensures kept { (image : Image) (s : SeqRow) (commands : List Command) → IsValid image
         → Contains image.sequences s → IsTrue (are_accepted image commands)
         → image.epoch + length commands ≤ most_epochs → IsTrue (lives_through image s.node commands)
         → LivesOn image (image_after image commands) commands s }
+    // Promise: in a sound image a movement gains and loses nothing outside its ranges. Guards: law.
     ensures outside { (image : Image) (r : Replication) (s : SeqRow) (x : ℤ) → IsSound image
         → Contains image.sequences s → in_ranges image r s x ≡ false
         → (gained_at image r s x ≡ []) × (lost_at image r s x ≡ []) }
+    // Promise: at each token of a row between cuts the placement before a movement and the placement with it are as
+    // at its last token. Guards: law.
     ensures rows { (image : Image) → RowsStandForDeltas image }
 {}
 
@@ -100,6 +120,8 @@ pub fn deltas_persist()
 /// taken. No other such command changes what is read or written; one that sets or drops a keyspace changes it under no
 /// other keyspace.
 pub fn deltas_act()
+    // Promise: in a valid image, accepted commands change reads and writes by their movement's deltas, under each
+    // keyspace for which they make a movement epoch, and no other such command does. Guards: law, StepRows.antt.
     ensures acts { (image : Image) (c : Command) → IsValid image → IsTrue (is_command c)
         → refusal_of image c ≡ None → ChangesByDeltas image c }
 {}
@@ -110,8 +132,11 @@ pub fn deltas_act()
 ///
 /// In every image, the reads and the writes at a token that is no cut are those at the token after it.
 pub fn cuts_follow_movements()
+    // Promise: in a sound image a prepare adds the tokens put in, a finish and an ending cancel remove only cuts of
+    // their movement, any other but `unsafe-join` keeps the cuts. Guards: law, StepRows.antt.
     ensures follow { (image : Image) (c : Command) → IsSound image → IsTrue (is_command c)
         → refusal_of image c ≡ None → is_unsafe_join c ≡ false → CutsFollow image c }
+    // Promise: the reads and the writes at a token that is no cut are those at the token after it. Guards: law.
     ensures across { (image : Image) (r : Replication) (t : ℤ) → is_member int_eq (cuts image) t ≡ false
         → SameAcross image r t }
 {}
@@ -125,15 +150,22 @@ pub fn cuts_follow_movements()
 /// which it makes a movement epoch. For both, the keyspaces must have replications. In each image that `Metadata` holds,
 /// they do.
 pub fn adjacent_epochs_meet()
+    // Promise: at each token of a valid image, under each keyspace, each node that is read is written, and no more
+    // are read than replicas are asked for. Guards: law.
     ensures within { (image : Image) → IsValid image → ReadsAreWritten image }
     ensures few { (image : Image) → IsValid image → (x : ℤ) → IsToken x
         → AllByRecursion
         (λ k. length (reads_at image k.replication x) ≤ total_of k.replication) image.keyspaces }
+    // Promise: a write quorum exists if and only if a read quorum does, for QUORUM and for LOCAL_QUORUM in each
+    // datacenter. Guards: law.
     ensures needs { (image : Image) → IsValid image → QuorumsExistTogether image }
+    // Promise: the quorums of a valid image meet, and those before and after an accepted command, under keyspaces
+    // with a movement epoch, if the keyspaces have replications. Guards: law.
     ensures itself { (image : Image) → IsValid image → HaveReplications image → QuorumsMeet image image }
     ensures adjacent { (image : Image) (c : Command) → IsValid image → HaveReplications image
         → IsTrue (is_command c) → refusal_of image c ≡ None
         → image.epoch < most_epochs → QuorumsMeetAcross image c }
+    // Promise: a write quorum and a read quorum of sets that meet have a node in common. Guards: law.
     ensures common { (one other : Sets) (written read : List ℕ) → Meet one other
         → AreSome (write_need one) one.writes written → AreSome (read_need other) other.reads read
         → IsTrue (list_any (is_member nat_eq written) read) }
@@ -147,6 +179,8 @@ pub fn adjacent_epochs_meet()
 /// no earlier row between cuts is in the ranges of both. If a command is refused as LOCKED, this holds for the movement
 /// that it prepares.
 pub fn locked_ranges_overlap()
+    // Promise: two movements for which no shared row is found share no token, those with one share its last token,
+    // and one that isn't locked overlaps no other. Guards: law.
     ensures none_shared { (image : Image) (s q : SeqRow) → IsSound image → Contains image.sequences s
         → Contains image.sequences q → first_shared image s q ≡ None → (x : ℤ) → IsToken x
         → in_both image s q x ≡ false }
@@ -155,6 +189,8 @@ pub fn locked_ranges_overlap()
     ensures free { (image : Image) (s : SeqRow) → IsSound image → Contains image.sequences s
         → locked image s ≡ None → (x : ℤ) → IsToken x
         → All (λ q. in_both image s q x ≡ false) (others image.sequences s.node) }
+    // Promise: a locked movement overlaps that of the node shown, at the last token of the row shown, no lesser
+    // node's movement overlaps it, and no earlier row is shared. Guards: law.
     ensures taken { (image : Image) (s : SeqRow) (n : ℕ) (right : RightEnd)
         → locked image s ≡ Some (Locked n right)
         → Any (λ q. (q.node ≡ n) × (in_both image s q (last_token right) ≡ true))
@@ -162,6 +198,8 @@ pub fn locked_ranges_overlap()
     ensures least { (image : Image) (s : SeqRow) (n : ℕ) (right : RightEnd) → IsSound image
         → Contains image.sequences s
         → locked image s ≡ Some (Locked n right) → IsLockedBy image s n right }
+    // Promise: a command that is refused as locked prepares such a movement, and the refusal shows this node and
+    // row. Guards: law.
     ensures refused { (image : Image) (c : Command) (n : ℕ) (right : RightEnd) → IsSound image
         → IsTrue (is_command c)
         → refusal_of image c ≡ Some (Locked n right) → IsLockedOf image c n right }
@@ -172,6 +210,8 @@ pub fn locked_ranges_overlap()
 /// nodes, and the row that ends at the right end that is shown is the first in the ranges of both under the replication
 /// of the command. The cuts must be tokens. In each image that `Metadata` holds, they are.
 pub fn keyspaces_lock()
+    // Promise: a keyspace that isn't locked leaves the movements apart, and a refusal as locked shows the least
+    // nodes whose movements would overlap, and the first such row. Guards: law.
     ensures free { (image : Image) (k : KeyspaceRow) → IsSound image → keyspace_locked image k ≡ None
         → AreApart (with_keyspace image k) }
     ensures taken { (image : Image) (k : KeyspaceRow) (n o : ℕ) (right : RightEnd) → IsValid image
@@ -186,6 +226,8 @@ pub fn keyspaces_lock()
 /// An image is sound if and only if it breaks none of the rules but the last one, and valid if and only if it breaks
 /// none of the rules.
 pub fn valid_images_break_no_rule()
+    // Promise: an image is sound if and only if it breaks none of the first 17 rules, and valid if and only if it
+    // breaks none of the 18. Guards: law, ImageRows.antt.
     ensures sound { (image : Image) → IsSound image ↔ broken_rule image ≡ None }
     ensures valid { (image : Image) → IsValid image ↔ bad_of image ≡ None }
 {}

@@ -29,7 +29,7 @@ pub record PlacementDelta : Type 0 where
   pub reads : SetDelta
   pub writes : SetDelta
 
--- a set without the nodes that it loses, and with those that it gains
+-- a set without the nodes that it loses, and with those that it gains; a `SetDelta` stands in the place of two lists
 abbrev pub with_delta : List ℕ → SetDelta → List ℕ
 with_delta nodes delta = with_change nodes delta.gained delta.lost
 
@@ -65,7 +65,8 @@ abbrev pub delta_of_movement : (SeqRow → List ℕ → List ℕ → PlacementDe
 delta_of_movement delta image r x None = no_changes
 delta_of_movement delta image r x (Some s) = delta s (gained_at image r s x) (lost_at image r s x)
 
--- the delta of a command at a token; only steps and cancels change what is read and written
+-- the delta of a command at a token; only steps and cancels change what is read and written. It speaks of one token, so
+-- the law that deltas act knows no plan. That the kept plan has these deltas is the invariant of `Metadata`
 abbrev pub delta_of_command : Image → Command → Replication → ℤ → PlacementDelta
 delta_of_command image (Step goal kind node) r x = delta_of_movement (λ s. step_delta goal) image r x (movement_of image node)
 delta_of_command image (Cancel node) r x = delta_of_movement (λ s. cancel_delta s.phase) image r x (movement_of image node)

@@ -1,4 +1,5 @@
--- The rules of valid images, in order (by rules of this project). A rule that is broken shows a value.
+-- The rules of valid images, in order (by rules of this project). A rule that is broken shows a value: that of the
+-- first place, in the order of the lists, that breaks it. `bad_image` has the rules on lists alone.
 use Rattle.std.specs.Prelude.{ℕ, ◌+◌, Bool, false, not, ◌&&◌, ◌||◌, if◌then◌else◌, ℤ, pos, negsuc, int_le, List, [], ◌∷◌, ◌++◌, length, filter, find, is_none, Option, Some, None, option_map, nat_le, nat_lt, ◌==◌}
 use Rattle.std.specs.Cmp.Lexicographic.{pointwise}
 use Rattle.std.specs.List.{list_all, list_any}

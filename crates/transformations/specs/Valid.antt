@@ -1,4 +1,6 @@
--- Valid images: what holds of every image that a history leads to.
+-- Valid images: what holds of every image that a history leads to. `IsSound` and `IsValid` are records with one law to
+-- the rules, `valid_images_break_no_rule`: proofs need named facts, and a refused image needs the first rule of a list.
+-- `IsSound` is apart, as the ranges of a new movement are looked for before the image is known to be valid.
 use Rattle.std.specs.Prelude.{◌≡◌, ℕ, ◌+◌, ◌<◌, ◌≤◌, Bool, true, false, not, ◌&&◌, List, [], ◌++◌, map, flat_map, length, Option, Some, None}
 use Rattle.std.specs.List.{AllByRecursion, AllPairs, IsDistinct}
 use Rattle.std.specs.List.Sorted.{IsStrictlyIncreasing, IsStrictlySortedBy}

@@ -49,7 +49,8 @@ pub enum Command {
         node: NodeId,
         gone: NodeId,
     },
-    /// Takes the movement of a node to this goal. The movement is of this kind.
+    /// Takes the movement of a node to this goal. The movement is of this kind. A step is one command with a goal and a
+    /// kind, so there is one refusal, `WrongStep`.
     Step {
         goal: Goal,
         kind: Kind,

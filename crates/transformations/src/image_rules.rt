@@ -22,7 +22,6 @@ pub struct BadImage {
     pub value: i128,
 }
 
-/// A rule that is broken, with its value.
 fn broken(rule: u8, found: Option<i128>) -> Option<BadImage>
     ensures { result ≡ broken rule found }
 {
@@ -123,10 +122,12 @@ fn bad_repeats(alloc: Global, image: &Image) -> Result<Option<BadImage>, Memory>
 /// | 16 | a movement brings a token of `tokens`, or one that an earlier movement puts in | the token |
 /// | 17 | there are more than 16,384 tokens, with those that movements put in | their number |
 ///
-/// Returns `Memory` if memory runs out. The cost is about n log n for n pairs, nodes and movements together, a table by
-/// id up to `next`, at most two passes over `tokens` for each movement, and a comparison of every two movements. A rule
-/// is tried only in an image that keeps the rules before it, so there are then at most 1,024 nodes and 1,024 movements.
+/// The cost is about n log n for n pairs, nodes and movements together, a table by id up to `next`, at most two passes
+/// over `tokens` for each movement, and a comparison of every two movements. A rule is tried only in an image that
+/// keeps the rules before it, so there are then at most 1,024 nodes and 1,024 movements.
 pub fn bad_image(alloc: Global, image: &Image) -> Result<Option<BadImage>, Memory>
+    // Promise: of the first 17 rules of valid images, which need no ranges, the first that an image breaks, with its
+    // value, and no rule if and only if it breaks none. Guards: rules_out_of_order.edit, ImageRows.antt, tried.
     ensures { IfOk result (λ found. found ≡ broken_rule image.now) }
 {
     let early = bad_nodes(alloc, image)?;

@@ -20,7 +20,6 @@ use std::alloc::Global;
 /// The greatest number of tokens of a node.
 const MOST_OF_NODE: usize = 256;
 
-/// Whether all pairs in a list are the node's.
 fn are_pairs_of(pairs: &[Pair], n: NodeId) -> bool
     ensures { result ≡ list_all (λ p. p.node == n) pairs.now }
 {
@@ -78,7 +77,6 @@ fn are_near(image: &Image, n: NodeId, gone: NodeId) -> bool
     row.dc.as_str() == left.dc.as_str() && row.rack.as_str() == left.rack.as_str()
 }
 
-/// Whether the pairs fit a join.
 fn fits_join(image: &Image, row: &SeqRow) -> bool
     ensures { result ≡ fits_join image.now row.now }
 {
@@ -90,7 +88,6 @@ fn fits_join(image: &Image, row: &SeqRow) -> bool
         && !has_pair(image.tokens.as_slice(), row.node)
 }
 
-/// Whether the pairs fit a move.
 fn fits_move(alloc: Global, image: &Image, row: &SeqRow) -> Result<bool, Memory>
     ensures { IfOk result (λ answer. answer ≡ fits_move image.now row.now) }
 {
@@ -100,7 +97,6 @@ fn fits_move(alloc: Global, image: &Image, row: &SeqRow) -> Result<bool, Memory>
     Ok(owned && out_pairs.len() == 1 && in_pairs.len() == 1 && are_pairs_of(in_pairs, row.node))
 }
 
-/// Whether the pairs fit a leave.
 fn fits_leave(alloc: Global, image: &Image, row: &SeqRow) -> Result<bool, Memory>
     ensures { IfOk result (λ answer. answer ≡ fits_leave image.now row.now) }
 {
@@ -109,7 +105,6 @@ fn fits_leave(alloc: Global, image: &Image, row: &SeqRow) -> Result<bool, Memory
     Ok(owned && 1 <= out_pairs.len() && row.in_pairs.as_slice().len() == 0)
 }
 
-/// Whether the pairs fit a replace.
 fn fits_replace(alloc: Global, image: &Image, row: &SeqRow) -> Result<bool, Memory>
     requires { IsStrictlyIncreasing (map (λ row. row.id) image.now.nodes) }
     ensures { IfOk result (λ answer. answer ≡ fits_replace image.now row.now (first_node row.now.out_pairs)) }
@@ -124,7 +119,6 @@ fn fits_replace(alloc: Global, image: &Image, row: &SeqRow) -> Result<bool, Memo
     Ok(owned && handed_over && !has_pair(tokens, row.node) && are_near(image, row.node, gone))
 }
 
-/// Whether the pairs of a movement fit its kind.
 fn fits_kind(alloc: Global, image: &Image, row: &SeqRow) -> Result<bool, Memory>
     requires { IsStrictlyIncreasing (map (λ row. row.id) image.now.nodes) }
     ensures { IfOk result (λ answer. answer ≡ fits_kind row.now.kind image.now row.now) }

@@ -139,7 +139,6 @@ fn first_known(ring: &[Pair], seen: &BTreeSet<i64>, pairs: &[Pair]) -> Option<To
         .map(|pair| pair.token)
 }
 
-/// Adds the tokens of pairs to a set.
 fn add_tokens(seen: &mut BTreeSet<i64>, pairs: &[Pair]) -> Result<(), Memory>
     ensures { OnOk result ((t : ℤ) → contains int_cmp seen.new t
         ≡ (contains int_cmp seen.old t || list_any (λ q. int_eq q.token t) pairs.now)) }

@@ -10,6 +10,7 @@ use cluster_terms::NodeId;
 /// The movement of a node. Returns `None` if and only if the node has no movement. The cost is a pass over the
 /// movements.
 pub fn movement_of(image: &Image, n: NodeId) -> Option<&SeqRow>
+    // Promise: it gives a node's movement, if the node has one. Guards: a_movement_of_the_replaced_node.edit.
     ensures { option_copied result ≡ movement_of image.now n }
 {
     image.sequences.as_slice().iter().find(|row| row.node == n)

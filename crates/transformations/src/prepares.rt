@@ -38,7 +38,8 @@ fn count_tokens(image: &Image, n: NodeId) -> usize
         .count()
 }
 
-/// `NotOneToken` with the number of the node's tokens, if it isn't 1. Returns `Err` if and only if it is 2^32 or more.
+/// `NotOneToken` with the number of the node's tokens, if it isn't 1. Returns `Err` if and only if it is 2^32 or more,
+/// as the refusal holds a `u32`. No sound image has such a node.
 #[tactic(auto, using(crate::proofs::commands::DatacenterGroupLemmas::not_one_counted))]
 pub(crate) fn not_one_token(image: &Image, n: NodeId) -> Result<Option<Refusal>, Memory>
     ensures { IfOk result (λ found. found ≡ not_one_token image.now n) }
@@ -86,7 +87,6 @@ fn is_in(nodes: &[NodeRow], dc: Option<&Name>, n: NodeId) -> bool
     }
 }
 
-/// Whether a node is in a list.
 fn has_node(found: &[NodeId], n: NodeId) -> bool
     ensures { result ≡ is_member nat_eq found.now n }
 {
@@ -94,7 +94,8 @@ fn has_node(found: &[NodeId], n: NodeId) -> bool
 }
 
 /// Whether more than `most` nodes of a group have tokens; `most` is at most 16. Ends at the pair that shows it, and
-/// takes no memory. The cost is a binary search for each pair before, unless its node is found already.
+/// takes no memory: the different nodes stand in an array of 16. The cost is a binary search for each pair before,
+/// unless its node is found already.
 fn has_more_in(nodes: &[NodeRow], dc: Option<&Name>, pairs: &[Pair], most: usize) -> bool
     requires nodes { IsStrictlyIncreasing (map (λ row. row.id) nodes.now) }
     requires most { most ≤ 16 }

@@ -57,7 +57,6 @@ fn nodes_full(image: &Image) -> Option<Refusal>
     )
 }
 
-/// Whether a node is registered.
 fn is_registered(image: &Image, n: NodeId) -> bool
     requires { IsSound image.now }
     ensures { result ≡ is_registered image.now n }
@@ -148,14 +147,12 @@ fn not_idle(sequences: &[SeqRow]) -> Option<Refusal>
     Some(Refusal::NotIdle(first.node))
 }
 
-/// Whether a pair in a list has this token.
 fn has_token(pairs: &[Pair], token: Token) -> bool
     ensures { result ≡ list_any (λ p. int_eq p.token token) pairs.now }
 {
     pairs.iter().any(|pair| pair.token == token)
 }
 
-/// Whether a movement brings a token.
 fn is_brought(sequences: &[SeqRow], token: Token) -> bool
     ensures { result ≡ list_any (λ s. list_any (λ p. int_eq p.token token) s.in_pairs) sequences.now }
 {
@@ -184,7 +181,6 @@ fn token_taken(image: &Image, tokens: &[Token]) -> Option<Refusal>
         .map(|token| Refusal::TokenTaken(*token))
 }
 
-/// Whether a keyspace has the name.
 fn has_keyspace(image: &Image, name: &Name) -> bool
     ensures { result ≡ has_keyspace image.now name.now }
 {
@@ -431,9 +427,9 @@ fn prepare_replace(image: &Image, node: NodeId, gone: NodeId) -> Result<Option<R
     other_rack(image, node, gone)
 }
 
-/// The first refusal of a command in an image, apart from `Locked` and `KeyspaceLocked`, which come last. Returns `None`
-/// if there is no such refusal. The refusals of a command have an order, and those after the first are not looked for.
-/// The image is sound, so its nodes and its tokens ascend.
+/// The first refusal of a command in an image, apart from `Locked` and `KeyspaceLocked`, which come last and need the
+/// ranges of crates above this one. Returns `None` if there is no such refusal. The refusals of a command have an
+/// order, and those after the first are not looked for. The image is sound, so its nodes and its tokens ascend.
 ///
 /// `Err` means that memory ran out while tokens were counted, or while the names of a refusal were copied. It
 /// also stands for the move of a node with 2^32 tokens or more, but a sound image has no such node.
@@ -452,6 +448,21 @@ pub fn early_refusal(
     command: &Command,
 ) -> Result<Option<Refusal>, Memory>
     requires { IsSound image.now }
+    // Promise: in a sound image, a command's refusals, apart from locked ranges, come in their order, and the first
+    // is returned. Guards: refusals.rt, tried.
+    // Promise: a node moves only if it has one token. Guards: refusals.rt, tried.
+    // Promise: a node doesn't leave a group that has no more nodes with tokens than replicas, and the least keyspace
+    // with such a group is shown. Guards: refusals.rt, tried.
+    // Promise: a node replaces only a node that has tokens, in its own datacenter and rack. Guards: refusals.rt,
+    // tried.
+    // Promise: a node that is being replaced takes part in that movement. Guards: refusals.rt, tried.
+    // Promise: a node that has tokens isn't removed, `unsafe-join` is refused while a movement is in flight, and a
+    // keyspace is found by its name alone. Guards: refusals.rt.
+    // Promise: a token is taken if it is in the ring, or if a movement brings it. Guards: refusals.rt, tried.
+    // Promise: a step that isn't the next one of the node's movement, or of another kind, is refused. Guards:
+    // refusals.rt, tried.
+    // Promise: there are at most 1,024 nodes, 64 keyspaces and 16,384 tokens, equal tokens count once, and at 64
+    // keyspaces each can still be changed. Guards: limits.rt, tried.
     ensures { IfOk result (λ found. found ≡ early_refusal_of image.now command.now) }
 {
     match command {

@@ -9,7 +9,6 @@ ghost use Rattle.transformations.specs.Same.{same_command, same_movement};
 use crate::command::Command;
 use cluster_terms::{Name, TokenList};
 
-/// Whether two names are equal.
 fn same_name(name: &Name, other: &Name) -> bool
     ensures { result ≡ bytes_eq name.now other.now }
 {

@@ -40,7 +40,6 @@ fn state_in(kind: Kind) -> NodeState
     }
 }
 
-/// Whether a movement at a phase has started.
 fn has_started(phase: Phase) -> bool
     ensures { result ≡ has_started phase }
 {
@@ -85,6 +84,8 @@ pub(crate) fn row_of(nodes: &[NodeRow], n: NodeId) -> Option<&NodeRow>
 /// movements, and one over the ring.
 #[tactic(auto, unfolding(crate::specs::States::state_of_row))]
 pub fn state_of(image: &Image, row: &NodeRow) -> NodeState
+    // Promise: a node's state follows from its row, else from its movement, if it has started, else from whether it
+    // has a token. Guards: refusals.rt, tried.
     ensures { result ≡ state_of_row image.now row.now }
 {
     if row.left {

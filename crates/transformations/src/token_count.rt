@@ -19,7 +19,8 @@ pub(crate) fn count_all(image: &Image, tokens: &[Token]) -> usize
     count
 }
 
-/// The number of different tokens that there would be with those of a command. The cost is that of `cuts_among`.
+/// The number of different tokens that there would be with those of a command. A token that is handed over counts once.
+/// If `count_all` is at most 16,384, callers need no such count. The cost is that of `cuts_among`.
 pub(crate) fn tokens_with(alloc: Global, image: &Image, tokens: &[Token]) -> Result<usize, Memory>
     ensures { IfOk result (λ count. count ≡ tokens_with image.now tokens.now) }
 {

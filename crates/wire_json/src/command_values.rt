@@ -12,7 +12,7 @@ use serde_json::{Value, json};
 use std::alloc::Global;
 use transformations::{Command, Goal, Kind};
 
-/// The JSON object of a command. Fails only if memory runs out.
+/// The JSON object of a command.
 pub fn command_value(alloc: Global, command: &Command) -> Result<Value, Memory>
     ensures { IfOk result (λ value. view value ≡ spec.command_data command.now) }
 {
@@ -40,7 +40,6 @@ pub fn command_value(alloc: Global, command: &Command) -> Result<Value, Memory>
     }
 }
 
-/// The object of `keyspace`.
 fn keyspace_value(alloc: Global, name: &Name, replication: &Replication) -> Result<Value, Memory>
     ensures { IfOk result (λ value. view value ≡ spec.keyspace_data name.now replication.now) }
 {
@@ -49,7 +48,7 @@ fn keyspace_value(alloc: Global, name: &Name, replication: &Replication) -> Resu
     Ok(value)
 }
 
-/// The text of a replication as a JSON value. Fails only if memory runs out.
+/// The text of a replication as a JSON value.
 pub fn replication_value(alloc: Global, replication: &Replication) -> Result<Value, Memory>
     ensures { IfOk result (λ value. view value ≡ string (text_of replication.now)) }
 {

@@ -14,7 +14,7 @@ use serde_json::Value;
 use std::alloc::Global;
 use transformations::{Command, Goal, Kind};
 
-/// The command in a JSON value, or `None` if the value breaks rule 5 of `read_line`. Fails only if memory runs out.
+/// The command in a JSON value, or `None` if the value breaks rule 5 of `read_line`.
 #[tactic(auto, unfolding(crate::specs::Kinds::command_of))]
 pub fn command_of(alloc: Global, value: &Value) -> Result<Option<Command>, Memory>
     ensures { IfOk result (λ found. found ≡ spec.command_of (view value.now)) }
@@ -144,7 +144,6 @@ fn prepare_replace_of(value: &Value) -> Option<Command>
     Some(Command::PrepareReplace { node, gone })
 }
 
-/// A step of the movement of a node.
 fn step(goal: Goal, kind: Kind, node: NodeId) -> Option<Command>
     ensures { result ≡ Some (Step goal kind node) }
 {

@@ -15,7 +15,7 @@ use std::alloc::Global;
 pub trait Form {
     ghost form: { Data → Option Self };
 
-    /// The item in a value, or `None` if the value isn't of its form. Fails only if memory runs out.
+    /// The item in a value, or `None` if the value isn't of its form.
     fn read(alloc: Global, value: &Value) -> Result<Option<Self>, Memory>
         ensures { IfOk result (λ found. found ≡ form (view value.now)) };
 }
@@ -32,7 +32,7 @@ impl Form for Token {
 pub trait Written {
     ghost data_of: { Self → Data };
 
-    /// The item as a JSON value. Fails only if memory runs out.
+    /// The item as a JSON value.
     fn value(&self, alloc: Global) -> Result<Value, Memory>
         ensures { IfOk result (λ value. view value ≡ data_of self.now) };
 }
@@ -46,8 +46,7 @@ impl Written for Token {
     }
 }
 
-/// The items in a list of values, or `None` if a value isn't of their form. Fails only if memory runs out. The cost is
-/// that of reading each value.
+/// The items in a list of values, or `None` if a value isn't of their form. The cost is that of reading each value.
 pub fn each_of<T: Form + Drop>(
     alloc: Global,
     values: &Vec<Value>,
@@ -64,7 +63,7 @@ pub fn each_of<T: Form + Drop>(
     Ok(Some(SmallList::from_vec(items)))
 }
 
-/// The items in the list at a key, or `None` if no list of such items is there. Fails only if memory runs out.
+/// The items in the list at a key, or `None` if no list of such items is there.
 pub fn each_at<T: Form + Drop>(
     alloc: Global,
     value: &Value,
@@ -78,7 +77,6 @@ pub fn each_at<T: Form + Drop>(
     }
 }
 
-/// The items as JSON values.
 fn values_of<T: Written>(alloc: Global, list: &SmallList<T>) -> Result<Vec<Value>, Memory>
     ensures { IfOk result (λ values. items_view values.items ≡ list_items T.data_of list.now) }
 {
@@ -90,7 +88,7 @@ fn values_of<T: Written>(alloc: Global, list: &SmallList<T>) -> Result<Vec<Value
     Ok(values)
 }
 
-/// The items as a JSON list. Fails only if memory runs out. The cost is that of writing each item.
+/// The items as a JSON list. The cost is that of writing each item.
 pub fn list_value<T: Written>(alloc: Global, list: &SmallList<T>) -> Result<Value, Memory>
     ensures { IfOk result (λ value. view value ≡ array (list_items T.data_of list.now)) }
 {

@@ -47,9 +47,20 @@ const MOST_EPOCHS: u64 = 65_536;
 ///
 /// Fails with `Memory` if memory runs out. The cost is a pass over the bytes and over the value.
 pub fn read_line(alloc: Global, bytes: &[u8]) -> Result<Line, ReadLineFault>
+    // Promise: a line is read as the definitions say: as a header, as an entry, as an image, or as the first rule that
+    // it breaks. Guards: calls/wire.rt, tried.
+    // Promise: a token is a whole number, without a point or an exponent. Guards: calls/wire.rt, tried.
+    // Promise: a line whose only key is `snapshot` is read as an image, valid or not, if each part has its form, and
+    // breaks rule 6 otherwise. Guards: bad_lines.rt, snapshots.rt, tried.
+    // Promise: a line with just the keys `cluster` and `format` is read as a header, if they are a name and the number
+    // 2, and breaks rule 7 otherwise. Guards: calls/wire.rt, bad_lines.rt.
+    // Promise: a command has 1 to 256 tokens, and they ascend. Guards: calls/wire.rt.
+    // Promise: the epoch of an entry is at most 65,536. Guards: calls/wire.rt.
     ensures meaning { result ≢ Err fault.Memory → result ≡ spec.reading bytes.now }
     ensures tokens { IfOk result spec.HasTokens }
     ensures epoch { IfOk result spec.HasEpoch }
+    // Promise: a line of more than 4,194,304 bytes breaks rule 1, and reading it never runs out of memory. Guards:
+    // calls/wire.rt.
     ensures long { 4194304 < length bytes.now → result ≡ Err (fault.Bad 1) }
 {
     if bytes.len() > MOST_BYTES {
@@ -71,7 +82,8 @@ fn line_in(alloc: Global, value: &Value) -> Result<Line, ReadLineFault>
     }
 }
 
-/// The snapshot line with the image in a value: rule 6.
+/// The snapshot line with the image in a value. A line whose only key is `snapshot` is a snapshot line, so each of its
+/// faults breaks rule 6. The form of the image is looked at, not whether its parts belong together.
 fn image_of_line(alloc: Global, value: &Value) -> Result<Line, ReadLineFault>
     ensures { code.Gives (λ line. line) result (spec.found 6 (option_map Snapshot (image_in (view value.now)))) }
 {

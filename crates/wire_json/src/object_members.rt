@@ -1,4 +1,6 @@
-//! Takes the values of JSON objects with given keys. One walk over the members compares the keys and takes the values.
+//! Takes the values of JSON objects with given keys. Members ascend by their keys, so one walk compares the keys and
+//! takes the values. Each count of keys has its own function, `one_at` to `four_at`, since the checker refuses an array
+//! of references of any length.
 
 ghost use Rattle.std.specs.Prelude.{◌≡◌, ℕ, false, List, [], ◌∷◌, Some, IfSome, IfNone, is_some, length, drop, option_map};
 ghost use Rattle.serde_json.specs.Find.{get};

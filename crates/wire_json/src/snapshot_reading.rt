@@ -13,8 +13,7 @@ use serde_json::Value;
 use std::alloc::Global;
 use transformations::{Image, KeyspaceRow, Kind, Phase, SeqRow};
 
-/// The image in a value, or `None` if the value isn't an image. Fails only if memory runs out. The cost is a pass over
-/// the value.
+/// The image in a value, or `None` if the value isn't an image. The cost is a pass over the value.
 #[tactic(auto, unfolding(crate::specs::Snapshots::image_in))]
 pub fn image_in(alloc: Global, value: &Value) -> Result<Option<Image>, Memory>
     ensures { IfOk result (λ found. found ≡ spec.image_in (view value.now)) }
@@ -70,7 +69,6 @@ fn pair_by(values: &Vec<Value>) -> Option<Pair>
     pair_of(&values[0], &values[1])
 }
 
-/// The pair of two values, a token and a node.
 fn pair_of(token: &Value, node: &Value) -> Option<Pair>
     ensures { result ≡ spec.pair_of (view token.now) (view node.now) }
 {
@@ -155,7 +153,6 @@ impl Form for SeqRow {
     }
 }
 
-/// The kind of a movement with this word.
 fn kind_named(word: &str) -> Option<Kind>
     ensures { result ≡ spec.kind_named word.now }
 {
@@ -168,14 +165,12 @@ fn kind_named(word: &str) -> Option<Kind>
     }
 }
 
-/// The kind of a movement at a key.
 fn kind_at(value: &Value, key: &str) -> Option<Kind>
     ensures { result ≡ spec.kind_at key.now (view value.now) }
 {
     kind_named(text_at(value, key)?)
 }
 
-/// The phase with this word.
 fn phase_named(word: &str) -> Option<Phase>
     ensures { result ≡ spec.phase_named word.now }
 {
@@ -187,7 +182,6 @@ fn phase_named(word: &str) -> Option<Phase>
     }
 }
 
-/// The phase at a key.
 fn phase_at(value: &Value, key: &str) -> Option<Phase>
     ensures { result ≡ spec.phase_at key.now (view value.now) }
 {

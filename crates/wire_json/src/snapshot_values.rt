@@ -12,7 +12,7 @@ use serde_json::{Value, json};
 use std::alloc::Global;
 use transformations::{Image, KeyspaceRow, Kind, Phase, SeqRow};
 
-/// The JSON object of a snapshot line. Fails only if memory runs out.
+/// The JSON object of a snapshot line.
 pub fn snapshot_value(alloc: Global, image: &Image) -> Result<Value, Memory>
     ensures { IfOk result (λ value. view value ≡ spec.snapshot_data image.now) }
 {
@@ -21,7 +21,6 @@ pub fn snapshot_value(alloc: Global, image: &Image) -> Result<Value, Memory>
     Ok(value)
 }
 
-/// The JSON object of an image.
 fn image_value(alloc: Global, image: &Image) -> Result<Value, Memory>
     ensures { IfOk result (λ value. view value ≡ spec.image_data image.now) }
 {
@@ -87,7 +86,6 @@ impl Written for SeqRow {
     }
 }
 
-/// The word of the kind of a movement.
 fn kind_word(kind: Kind) -> &'static str
     ensures { result.now ≡ movement_word kind }
 {
@@ -99,7 +97,6 @@ fn kind_word(kind: Kind) -> &'static str
     }
 }
 
-/// The word of a phase.
 fn phase_word(phase: Phase) -> &'static str
     ensures { result.now ≡ phase_word phase }
 {

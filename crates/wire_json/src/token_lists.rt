@@ -41,7 +41,7 @@ fn list_of(alloc: Global, values: &Vec<Value>) -> Result<Option<TokenList>, Memo
     }
 }
 
-/// The tokens in a value, or `None` unless it is a list of 1 to 256 tokens that ascend. Fails only if memory runs out.
+/// The tokens in a value, or `None` unless it is a list of 1 to 256 tokens that ascend.
 pub fn tokens_in(alloc: Global, value: &Value) -> Result<Option<TokenList>, Memory>
     ensures { IfOk result (λ found. found ≡ tokens_in (view value.now)) }
 {

@@ -17,12 +17,14 @@ ghost use Rattle.wire_json.specs.declared.line.Line.TheVariants as line;
 /// 65,536, and the tokens of its command, if it lists any, are 1 to 256 and ascend.
 #[tactic(auto, using(crate::proofs::entries::EntriesReadBack::entry_reads_back))]
 pub fn entries_read_back()
+    // Promise: the text of each entry that a log may hold is read as this entry. Guards: law.
     ensures { (entry : Entry) → IsEntry entry → reading (entry_text entry) ≡ Ok (line.Entry entry) }
 {}
 
 /// Reading the text of a header gives the header back, for each name that a cluster may have.
 #[tactic(auto, using(crate::proofs::headers::HeadersReadBack::header_reads_back))]
 pub fn headers_read_back()
+    // Promise: the text of the header of each cluster is read as this header. Guards: law.
     ensures { (cluster : List ℕ) → IsTrue (is_name cluster) → reading (header_text cluster) ≡ Ok (line.Header cluster) }
 {}
 
@@ -30,6 +32,8 @@ pub fn headers_read_back()
 /// may be. The image needn't be valid.
 #[tactic(auto, using(crate::proofs::images::ImagesReadBack::image_reads_back))]
 pub fn images_read_back()
+    // Promise: an image's text is read as this image, valid or not, if its values fit a line and its text isn't longer
+    // than a line may be. Guards: law.
     ensures { (image : Image) → FitsLine image → length (image_text image) ≤ most_bytes
         → reading (image_text image) ≡ Ok (line.Snapshot image) }
 {}
@@ -38,5 +42,6 @@ pub fn images_read_back()
 /// back.
 #[tactic(auto, using(crate::proofs::images::ImageSizes::sound_fits))]
 pub fn sound_images_fit()
+    // Promise: the text of a sound image whose values fit a line isn't longer than a line may be. Guards: law.
     ensures { (image : Image) → FitsLine image → IsSound image → length (image_text image) ≤ most_bytes }
 {}

@@ -76,7 +76,7 @@ pub fn node_at(value: &Value, key: &str) -> Option<NodeId>
     node_by(number_at(value, key)?)
 }
 
-/// The name in a value, or `None` if the value isn't the text of a name. Fails only if memory runs out.
+/// The name in a value, or `None` if the value isn't the text of a name.
 pub fn name_in(alloc: Global, value: &Value) -> Result<Option<Name>, Memory>
     ensures { IfOk result (λ found. found ≡ name_in (view value.now)) }
 {
@@ -86,7 +86,7 @@ pub fn name_in(alloc: Global, value: &Value) -> Result<Option<Name>, Memory>
     }
 }
 
-/// The name at a key, or `None` if no valid name is there. Fails only if memory runs out.
+/// The name at a key, or `None` if no valid name is there.
 pub fn name_at(alloc: Global, value: &Value, key: &str) -> Result<Option<Name>, Memory>
     ensures { IfOk result (λ found. found ≡ spec.name_at key.now (view value.now)) }
 {
@@ -96,7 +96,7 @@ pub fn name_at(alloc: Global, value: &Value, key: &str) -> Result<Option<Name>, 
     }
 }
 
-/// The replication in a value, or `None` if the value isn't the text of a replication. Fails only if memory runs out.
+/// The replication in a value, or `None` if the value isn't the text of a replication.
 pub fn replication_in(alloc: Global, value: &Value) -> Result<Option<Replication>, Memory>
     ensures { IfOk result (λ found. found ≡ replication_in (view value.now)) }
 {
@@ -106,7 +106,7 @@ pub fn replication_in(alloc: Global, value: &Value) -> Result<Option<Replication
     }
 }
 
-/// The replication at a key, or `None` if no text of a replication is there. Fails only if memory runs out.
+/// The replication at a key, or `None` if no text of a replication is there.
 pub fn replication_at(
     alloc: Global,
     value: &Value,

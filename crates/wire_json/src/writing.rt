@@ -15,12 +15,13 @@ use serde_json::{Value, json};
 use std::alloc::Global;
 use transformations::{Entry, Image};
 
-/// The header line of a cluster's log: its JSON object, with the keys in byte order and without spaces, and a line feed.
-/// Each name has exactly one such line. `headers_read_back` tells that `read_line` reads the name back from it.
+/// The header line of a cluster's log: its JSON object, with the keys in byte order and without spaces, and a line
+/// feed. Each name has exactly one such line. `headers_read_back` tells that `read_line` reads the name back from it.
 ///
-/// Fails only if memory runs out. The cost is a pass over the name.
+/// The cost is a pass over the name.
 #[tactic(auto, using(crate::proofs::headers::HeaderFloats::no_float), unfolding(crate::specs::Header::header_text))]
 pub fn header_line(alloc: Global, cluster: &Name) -> Result<ByteText, Memory>
+    // Promise: a header has one line, with one line feed at its end. Guards: calls/wire.rt, headers.rt.
     ensures { IfOk result (λ line. line ≡ header.header_line cluster.now) }
 {
     let value = header_value(alloc, cluster)?;
@@ -30,9 +31,10 @@ pub fn header_line(alloc: Global, cluster: &Name) -> Result<ByteText, Memory>
 /// The line of an entry: its JSON object, with the keys in byte order and without spaces, and a line feed. Each entry
 /// has exactly one such line. `entries_read_back` tells which entries `read_line` reads back from it.
 ///
-/// Fails only if memory runs out. The cost is a pass over the entry.
+/// The cost is a pass over the entry.
 #[tactic(auto, using(crate::proofs::entries::EntryFloats::no_float), unfolding(crate::specs::EntryTexts::entry_text))]
 pub fn entry_line(alloc: Global, entry: &Entry) -> Result<ByteText, Memory>
+    // Promise: an entry has one line, with one line feed at its end. Guards: calls/wire.rt, tried.
     ensures { IfOk result (λ line. line ≡ spec.entry_line entry.now) }
 {
     let value = entry_value(alloc, entry)?;
@@ -43,9 +45,11 @@ pub fn entry_line(alloc: Global, entry: &Entry) -> Result<ByteText, Memory>
 /// a line feed. Each image has exactly one such line. `images_read_back` tells which images `read_line` reads back from
 /// it.
 ///
-/// Fails only if memory runs out. The cost is a pass over the image.
+/// The cost is a pass over the image.
 #[tactic(auto, using(crate::proofs::images::ImageFloats::no_float), unfolding(crate::specs::SnapshotTexts::image_text))]
 pub fn snapshot_line(alloc: Global, image: &Image) -> Result<ByteText, Memory>
+    // Promise: an image has one line, with one line feed at its end. Guards: snapshots.rt, the computed row
+    // `text_of_joining`.
     ensures { IfOk result (λ line. line ≡ snapshot.snapshot_line image.now) }
 {
     let value = snapshot_value(alloc, image)?;
@@ -61,7 +65,6 @@ fn line_of(alloc: Global, value: &Value) -> Result<ByteText, Memory>
     Ok(ByteText::from_vec(line))
 }
 
-/// The JSON object of a header.
 fn header_value(alloc: Global, cluster: &Name) -> Result<Value, Memory>
     ensures { IfOk result (λ value. view value ≡ header.header_data cluster.now) }
 {
@@ -69,7 +72,6 @@ fn header_value(alloc: Global, cluster: &Name) -> Result<Value, Memory>
     Ok(value)
 }
 
-/// The JSON object of an entry.
 fn entry_value(alloc: Global, entry: &Entry) -> Result<Value, Memory>
     ensures { IfOk result (λ value. view value ≡ spec.entry_data entry.now) }
 {

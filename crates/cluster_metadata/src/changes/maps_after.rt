@@ -102,13 +102,12 @@ fn recut_among(
     Ok(MapChange::Rows(edits))
 }
 
-/// How a change changes the placement maps. The directory must hold the nodes of the image. Fails only if memory runs
-/// out.
+/// How a change changes the placement maps. The directory must hold the nodes of the image.
 ///
 /// A change of nodes keeps the maps. New tokens place them anew, and new keyspaces those under new replications; the
-/// other maps move. If a movement begins or ends, the maps get the rows between the cuts of the next image, at a pass
-/// over its tokens: a row moves if neither its ends nor its sets change, and is made anew otherwise. All other changes
-/// give new sets to the rows that the deltas change.
+/// other maps move. Neither has deltas, so what is placed is placed by walks. If a movement begins or ends, the maps
+/// get the rows between the cuts of the next image, at a pass over its tokens: a row moves if neither its ends nor its
+/// sets change, and is made anew otherwise. All other changes give new sets to the rows that the deltas change.
 pub fn maps_for(
     alloc: Global,
     image: &Image,

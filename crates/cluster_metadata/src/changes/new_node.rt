@@ -34,7 +34,7 @@ pub fn new_row(id: u32, name: &Name, dc: &Name, rack: &Name) -> Result<NodeRow, 
 }
 
 /// How many nodes a permit has room for, with this many in the image: the next multiple of 64, and 64 more. So lists
-/// seldom move, and permits in a row ask for the same memory.
+/// seldom move, and permits in a row ask for the same memory: how much changes at every 64th node alone.
 fn room_beside(count: usize) -> usize
     requires { count < 2 ^ 63 }
     ensures { count < result }
@@ -44,8 +44,7 @@ fn room_beside(count: usize) -> usize
 
 impl NewNode {
     /// The new node of a row, with memory for all nodes of the image and 65 to 128 more, and with a room for the
-    /// directory. The memory is used only if the image or the directory has none to spare. Fails only if memory runs
-    /// out.
+    /// directory. The memory is used only if the image or the directory has none to spare.
     pub fn of_row(alloc: Global, image: &Image, row: NodeRow) -> Result<NewNode, Memory>
         requires next { image.now.next < 2 ^ 32 - 1 }
         requires row { row ≡ spec.new_row image.now.next row.name row.dc row.rack }

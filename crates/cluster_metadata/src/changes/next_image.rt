@@ -34,7 +34,6 @@ pub fn empty_image(alloc: Global) -> Image
     }
 }
 
-/// Adds a new node.
 fn add_node(image: &mut Image, node: NewNode)
     requires { IsNew image.old.nodes image.old.next node }
     ensures { image.new ≡ with_node image.old node }
@@ -60,7 +59,9 @@ fn leave(image: &mut Image, left: Option<OnHeap<LeftRow>>)
     }
 }
 
-/// Makes a change in an image. Takes no memory.
+/// Makes a change in an image. Takes no memory. A past image is changed by this alone, without placements and plans.
+/// `make` also makes the change in the directory, the movements and the locks, and both make the image that `changed`
+/// says.
 pub fn change_image(alloc: Global, image: &mut Image, change: Change)
     requires epochs { image.old.epoch < 2 ^ 64 - 1 }
     requires nodes { FitsNodes image.old change }
@@ -97,8 +98,7 @@ fn begin(image: &mut Image, row: SeqRow) -> Result<(), Memory>
     Ok(())
 }
 
-/// Takes an image to the next one by a command that it accepts. Fails only if memory runs out; then the image may have
-/// changed.
+/// Takes an image to the next one by a command that it accepts. If memory runs out, the image may have changed.
 ///
 /// Cost: that of the lists that the command changes. Nothing is placed, and no ranges are found: a prepare costs as
 /// much as its row.
@@ -107,6 +107,7 @@ pub fn advance(alloc: Global, image: &mut Image, cmd: &Command) -> Result<(), Me
     requires valid { IsValid image.old }
     requires formed { IsTrue (is_command cmd.now) }
     requires accepted { refusal_of image.old cmd.now ≡ None }
+    // Promise: an image that accepts a command is taken to the next one without metadata. Guards: scripts, limits.rt.
     ensures { OnOk result (image.new ≡ next_image image.old cmd.now) }
 {
     if let Some(row) = row_prepared(alloc, image, cmd)? {

@@ -40,7 +40,7 @@ pub fn parted(alloc: Global, plan: Plan) -> (RangeBook, Plan)
     (ranges, plan)
 }
 
-/// The image of the next epoch, with these keyspaces. Fails only if memory runs out. Cost: a copy of the image.
+/// The image of the next epoch, with these keyspaces. Cost: a copy of the image.
 pub fn with_keyspaces(image: &Image, keyspaces: &KeyspaceRows) -> Result<Image, Memory>
     requires { image.now.epoch < 2 ^ 64 - 1 }
     ensures { IfOk result (λ next. next ≡ rekeyed image.now keyspaces.now) }
@@ -51,7 +51,7 @@ pub fn with_keyspaces(image: &Image, keyspaces: &KeyspaceRows) -> Result<Image, 
     Ok(next)
 }
 
-/// The plans and the locks of the movements of an image. Fails only if memory runs out.
+/// The plans and the locks of the movements of an image.
 fn plan_all<L: Ledger>(
     alloc: Global,
     image: &Image,
@@ -84,8 +84,8 @@ fn plan_all<L: Ledger>(
     })
 }
 
-/// The plans and the locks of the movements of an image, in their order. The directory must hold the nodes of the image.
-/// Fails only if memory runs out.
+/// The plans and the locks of the movements of an image, in their order. The directory must hold the nodes of the
+/// image. All plans are made anew, also if only the order of the replications changes, as plans keep this order.
 ///
 /// Cost: a plan for each movement, as `sequence_plans::plan_in` makes it. The walks are counted on a counter of their
 /// own.
@@ -97,8 +97,7 @@ pub fn replan(alloc: Global, image: &Image, directory: &Directory) -> Result<Ren
     plan_all::<Brand>(alloc, image, directory, Blank::new(1))
 }
 
-/// `KeyspaceLocked` with the first two movements of an image that overlap, by their locks. Fails only if memory runs
-/// out.
+/// `KeyspaceLocked` with the first two movements of an image that overlap, by their locks.
 ///
 /// Cost: makes the cuts of the image, and compares the locks of each two movements, up to the two that are found.
 pub fn overlap_refusal(

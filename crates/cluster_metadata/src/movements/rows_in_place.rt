@@ -29,7 +29,7 @@ pub fn remove_at(alloc: Global, rows: &mut SeqRows, at: usize)
     *rows = SeqRows::from_vec(items);
 }
 
-/// A copy of the movements without the one at a position. Fails only if memory runs out.
+/// A copy of the movements without the one at a position.
 pub fn others(alloc: Global, rows: &SeqRows, at: usize) -> Result<SeqRows, Memory>
     requires { at < length rows.now }
     ensures { IfOk result (λ others. others ≡ remove rows.now at) }

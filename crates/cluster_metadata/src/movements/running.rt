@@ -135,7 +135,7 @@ pub fn find_running(running: &[Running], node: NodeId) -> Option<&Running>
         .find(|movement| movement.plan().row.node == node)
 }
 
-/// The plan of a movement. Fails only if memory runs out.
+/// The plan of a movement.
 pub fn planned<L: Ledger>(
     alloc: Global,
     image: &Image,
@@ -188,6 +188,8 @@ fn resumed<L: Ledger>(
     ensures overlap { (earlier : List MovementRow) → AreLocks image.now earlier locks.old
         → FindsOverlap image.now row.now earlier result }
 {
+    // The plan is made anew, with its row at `Prepared`. Deltas persist, so they are those of the prepare. All plans of
+    // an image share one directory.
     let plan = planned(
         alloc,
         image,
@@ -195,6 +197,8 @@ fn resumed<L: Ledger>(
         at_phase(row, Phase::Prepared)?,
         walks,
     )?;
+    // Rule 18 is checked by the lock that each movement takes anyway: a movement overlaps that of a lesser node if and
+    // only if its ranges aren't free.
     if !locks.is_free(&plan.ranges, plan.cuts.as_slice()) {
         return Err(overlapping(row.node));
     }

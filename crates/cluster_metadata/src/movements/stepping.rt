@@ -55,7 +55,7 @@ pub fn position_of(sequences: &[SeqRow], node: NodeId) -> usize
     }
 }
 
-/// The change by which the movement of a node takes a step. Fails only if memory runs out.
+/// The change by which the movement of a node takes a step.
 #[tactic(auto, using(crate::proofs::in_flight::AcceptedSteps::some_movement))]
 pub fn step(
     alloc: Global,

@@ -26,12 +26,15 @@ impl Session {
         if self.followers.len() >= MOST_FOLLOWERS {
             return refuse_line(b"FOLLOWERS-FULL", out);
         }
+        // The answer is made first, so without memory for it no follower is made.
         epoch_text(b"AT", 0, out)?;
         add_follower(self.alloc, &mut self.followers, name)?;
         Ok(())
     }
 
-    /// Hands the log's entry of an epoch to the follower with this name, and answers what became of it.
+    /// Hands the log's entry of an epoch to the follower with this name, and answers what became of it. The answer is
+    /// made after the follower acted. Without memory the follower is where the line led it, or on the way, and the run
+    /// ends; `LeavesSession` has both.
     pub fn deliver(&mut self, name: &Name, epoch: u64, out: &mut ByteText) -> Result<(), StepFault>
         ensures steps { Alone (follower_named self.old.followers name.now)
             (on_follower self.old name.now
@@ -51,7 +54,8 @@ impl Session {
         )
     }
 
-    /// Hands the image of an epoch to the follower with this name, and answers what became of it.
+    /// Hands the image of an epoch to the follower with this name, and answers what became of it. The follower acts
+    /// before the answer is made, as in `deliver`.
     pub fn snapshot(&mut self, name: &Name, epoch: u64, out: &mut ByteText) -> Result<(), StepFault>
         ensures steps { Alone (follower_named self.old.followers name.now)
             (on_follower self.old name.now
@@ -70,7 +74,7 @@ impl Session {
         answer_handed(named.follower.snapshot(image), out)
     }
 
-    /// The image of an epoch of the log. Fails only if memory runs out.
+    /// The image of an epoch of the log.
     pub fn image_at(&self, epoch: u64) -> Result<Image, Memory>
         requires { epoch ≤ length self.now.log }
         ensures { IfOk result (λ image. image ≡ state_after (commands_of self.now.log) epoch) }

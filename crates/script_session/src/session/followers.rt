@@ -14,7 +14,7 @@ use follower_log::{Follower, FollowerFault, Took};
 use script_lang::epoch_text;
 use std::alloc::Global;
 
-/// The most followers of a session.
+/// The most followers of a session. They are so few that one is found by a look at one after another.
 pub const MOST_FOLLOWERS: usize = 16;
 
 /// A follower and its name.
@@ -79,8 +79,7 @@ pub fn add_follower(
     }
 }
 
-/// Adds the answer to what a follower took. Fails only if memory runs out; then `out` still begins with its old
-/// content.
+/// Adds the answer to what a follower took. If memory runs out, `out` still begins with its old content.
 fn took_text(took: Took, out: &mut ByteText) -> Result<(), Memory>
     ensures text { OnOk result (out.new ≡ out.old ++ handed_text (Ok took)) }
     ensures kept { take (length out.old) out.new ≡ out.old }
@@ -94,7 +93,7 @@ fn took_text(took: Took, out: &mut ByteText) -> Result<(), Memory>
 }
 
 /// What became of what a follower was handed, if memory didn't run out. A session hands over what its log says, so a
-/// fork, a refusal and a bad image don't come.
+/// fork, a refusal and a bad image don't come: they come in replays alone.
 pub fn taken(handed: Result<Took, FollowerFault>) -> Result<Took, Memory>
     requires { IsOfOneLog handed }
     ensures { IfOk result (λ took. handed ≡ Ok took) }

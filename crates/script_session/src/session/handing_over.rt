@@ -44,7 +44,8 @@ fn may_end(log: &Log, metadata: &Metadata, follower: &Follower, entry: &Entry) -
 
 /// Hands an entry of a log to a follower of this log; `metadata` is the metadata after all entries. A follower that
 /// lacks this entry alone comes to the last epoch: it takes over a copy of the metadata, if that is less work than to
-/// apply the entries, no movement is in flight, and there is memory for the copy.
+/// apply the entries, no movement is in flight, and there is memory for the copy. A movement in flight has a key, which
+/// can't be copied. Without these copies `gen` takes 1.9 times the instructions.
 pub fn hand_over(
     log: &Log,
     metadata: &Metadata,

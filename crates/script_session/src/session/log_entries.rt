@@ -6,7 +6,7 @@ ghost use Rattle.transformations.specs.Log.{entry_with_id};
 ghost use Rattle.wire_json.specs.EntryTexts as wire;
 ghost use Rattle.script_session.specs.Faults.{count_by};
 ghost use Rattle.script_session.specs.LogFiles.{Gains};
-ghost use Rattle.script_session.specs.StepEnds.{Leaves};
+ghost use Rattle.script_session.specs.StepEnds.{Leaves, StepCrashes};
 ghost use Rattle.script_session.specs.code.StepParts.{Notes};
 
 use crate::fault::StepFault;
@@ -30,7 +30,9 @@ fn keep(log: &mut Log, entry: Entry) -> Result<(), Memory>
     }
 }
 
-/// Adds the next entry to the log, and its line to the file with this name. After a fault, the log is unchanged.
+/// Adds the next entry to the log, and its line to the file with this name. After a fault, the log is unchanged. What
+/// takes memory, the line and the place in the log, is made before the append, and enacting takes none. If the store
+/// fails, `Log::pop` takes the entry out again, without memory.
 fn keep_in_file<D: Store>(
     alloc: Global,
     log: &mut Log,
@@ -44,6 +46,7 @@ fn keep_in_file<D: Store>(
     ensures file { OnOk result
         (Gains (Some name.now) (wire.entry_line entry) (D.files store.old) (D.files store.new)) }
     ensures fault { IfErr result (λ e. Leaves e (Some name.now) (entry ∷ []) (D.files store.old) (D.files store.new)) }
+    ensures crash { StepCrashes D.files D.shows (Some name.now) (entry ∷ []) store.old store.new result }
     ensures count { D.faults store.new ≡ count_by result (D.faults store.old) }
 {
     let line = entry_line(alloc, &entry)?;
@@ -71,9 +74,12 @@ pub fn note<D: Store>(
     requires id { entry_with_id log.old entry.id ≡ None }
     ensures notes { Notes entry (option_copied file.entry) log.old log.new out.old out.new
         (D.files store.old) (D.files store.new) (D.faults store.old) (D.faults store.new) result }
+    ensures crash { StepCrashes D.files D.shows (option_copied file.entry) (entry ∷ []) store.old store.new result }
     ensures unnamed { option_copied file.entry ≡ None → store.new ≡ store.old }
 {
+    // The answer is made whole before it is written, so without memory nothing of it is printed.
     ok_text(entry.epoch, out)?;
+    // The text of the entry's line is made only if a file is named.
     match file {
         None => {
             keep(log, entry)?;

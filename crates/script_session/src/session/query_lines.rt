@@ -66,7 +66,7 @@ impl Session {
         answered
     }
 
-    /// The metadata at an epoch of the log. Fails only if memory runs out.
+    /// The metadata at an epoch of the log.
     pub fn metadata_at(&self, epoch: u64) -> Result<Metadata, Memory>
         requires { epoch ≤ length self.now.log }
         ensures { IfOk result (λ metadata. metadata ≡ state_after (commands_of self.now.log) epoch) }

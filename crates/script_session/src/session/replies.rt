@@ -27,8 +27,8 @@ fn reply_numbered(replies: &[Reply], number: u64) -> Option<&Reply>
     replies.get(place)
 }
 
-/// Adds the answer to a follower that asked for this reply. Fails only if memory runs out; then `out` still begins with
-/// its old content.
+/// Adds the answer to a follower that asked for this reply. If memory runs out, `out` still begins with its old
+/// content.
 fn add_asked(number: u64, made: &Reply, out: &mut ByteText) -> Result<(), Memory>
     ensures text { OnOk result (out.new ≡ out.old ++ asked_text number made.now) }
     ensures kept { take (length out.old) out.new ≡ out.old }
@@ -78,8 +78,7 @@ impl Session {
         Ok(())
     }
 
-    /// The reply to a follower at epoch `since` that asks for at most `max` entries, 1 to 1,024. Fails only if memory
-    /// runs out.
+    /// The reply to a follower at epoch `since` that asks for at most `max` entries, 1 to 1,024.
     fn reply_since(&self, since: u64, max: u64) -> Result<Reply, Memory>
         requires since { since ≤ length self.now.log }
         requires bounded { (1 ≤ max) × (max ≤ 1024) }
@@ -96,7 +95,8 @@ impl Session {
     }
 
     /// Gives the reply with a number to the follower with this name, and answers with the epoch that the follower
-    /// reaches.
+    /// reaches. The reply is handed over as `snapshot` and `deliver` do it. The answer is the epoch alone, as the
+    /// follower asks again from it.
     pub fn give(&mut self, name: &Name, number: u64, out: &mut ByteText) -> Result<(), StepFault>
         ensures steps { Alone (machine.follower_named self.old.followers name.now)
             (on_follower self.old name.now

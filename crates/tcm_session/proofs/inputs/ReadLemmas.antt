@@ -121,6 +121,10 @@ StopsAt-none file e most l l' at kept begun =
       stopped = Stopped-none (StopsThere (e ≡ fault.Source) at.session (lines_ended at [])) file at.written at.files at.files refl (record { stops = StopsIn-none at.session (lines_ended at []) []; all = λ is. none });
     }
 
+-- the files are given otherwise
+pub StopsAt-told : (file : Option (List ℕ)) (e : RunFault) (most : ℕ) (l l' : Option (List ℕ)) (at : Standing) (w' : Option (List ℕ)) (f left : Option Files) → left ≡ f → StopsAt file e most l l' at w' f → StopsAt file e most l l' at w' left
+StopsAt-told file e most l l' at w' f left same s = subst (StopsAt file e most l l' at w') (sym same) s
+
 -- a piece of which not all lines are done, for no fault of the source
 pub StopsAt-piece : (file : Option (List ℕ)) (e : RunFault) (most : ℕ) (l l' : Option (List ℕ)) (at : Standing) (w' : Option (List ℕ)) (f' : Option Files) (bytes : List ℕ) (before after : Counts)
     → before.source ≡ 0 → after.source ≡ 0

@@ -1,28 +1,28 @@
 -- The lines that a run prints, and the quorums in them.
-use Rattle.std.proofs.Common.{◌≡◌, ◌≢◌, ℕ, Bool, true, false, List, [], ◌++◌, Option, Some, None, Result, Ok, Err, length, nat_le, codes, decimal, refl, sym, ap, ◌∙◌, subst, drop, arith, cond}
+use Rattle.std.proofs.Common.{◌≡◌, ◌≢◌, ℕ, Bool, true, false, List, [], ◌++◌, Option, Some, None, Result, Ok, Err, length, nat_le, codes, decimal, refl, subst, drop, arith, cond}
 use Rattle.std.proofs.KnownBytes.{starts_with_rest}
 use Rattle.tcm_edges.specs.Files.{Files, file_of, loaded_of}
 use Rattle.tcm_edges.specs.declared.store.Loaded.{Loaded}
 use Rattle.tcm_edges.specs.declared.store.Loaded.TheVariants as loaded
 use Rattle.transformations.specs.declared.entry.Entry.{Entry}
 use Rattle.tcm_session.specs.declared.ending.Ending.{Ending}
-use Rattle.tcm_session.specs.Left.{LeavesFiles}
 use Rattle.script_session.specs.LogFiles.{base_of, log_for, old_log_of, refused_line_text}
 use Rattle.script_session.specs.Machine.{answers, session_over}
 use Rattle.tcm_session.specs.Commit.{Start, large_outcome, outcome_from, outcome_loaded, script_outcome, whole_outcome}
 use Rattle.tcm_session.specs.Gen.{gen_ending}
 use Rattle.tcm_session.specs.Mend.{mended_end, mending, mending_from, mending_loaded, mending_to, with_made}
 use Rattle.tcm_session.specs.Outcome.{Outcome, ended_outcome, input_limit, printed_by, too_large_text, unread_outcome}
-use Rattle.tcm_session.specs.Outcomes.{outcome, usage_end, usage_text}
+use Rattle.tcm_session.specs.Outcomes.{outcome}
+use Rattle.tcm_session.specs.Usage.{usage_end, usage_text}
 use Rattle.tcm_session.specs.Request.{Cms, Commit, CommitTo, Gen, Mend, Plan, Replay, Request, Snapshot}
-use Rattle.tcm_session.specs.Run.{IsFinal, IsRun}
-use Rattle.tcm_session.specs.code.Runs.{IsEnd, RunsSeen}
-use Rattle.session_laws.specs.Shown.{IsOfNoQuorum, shown}
+use Rattle.std.specs.Io.{StartsWith}
+use Rattle.script_session.specs.Taken.{FollowersShow}
+use Rattle.session_laws.specs.CatchUp.{RepliesSkipNothing}
+use Rattle.session_laws.specs.Shown.{IsOfNoQuorum, PrintsMeeting, shown}
 use Rattle.script_session.specs.declared.refused_line.RefusedLine.{RefusedLine}
 use Rattle.session_laws.proofs.quorums.AnswerLines.{other_line}
 use Rattle.session_laws.proofs.FileLogs.{old_refused_lines, refused_lines, session_for}
 use Rattle.script_session.proofs.SessionLemmas.{IsSession, session_empty}
-use Rattle.tcm_session.specs.files.ReplayPrefix.{ReportsPrefix, taken_of_files}
 use Rattle.tcm_session.specs.files.MemberRoute.{IsSafeRoute, route_ending}
 use Rattle.tcm_session.specs.files.Replay.{replay_ending}
 use Rattle.tcm_session.specs.files.StateLine.{snapshot_ending}
@@ -34,12 +34,9 @@ use Rattle.std.specs.FinMap as map
 use Rattle.tcm_session.proofs.members.ListedNodes.{listed_route}
 use Rattle.tcm_session.proofs.log_files.LookedRuns.{snapshot_lines}
 use Rattle.tcm_session.proofs.members.RouteTexts.{route_lines}
-use Rattle.tcm_session.proofs.printed.PlanCovers.{plans_cover}
 use Rattle.tcm_session.proofs.printed.PlanTexts.{plan_lines}
 use Rattle.tcm_session.proofs.printed.RequestForms.{HasForms}
 use Rattle.tcm_session.proofs.printed.PlainReplays.{replay_lines, too_large_lines}
-use Rattle.tcm_session.proofs.log_files.ReplayReports.{refuses_no_line, reports_prefix}
-use Rattle.tcm_session.proofs.runs.RunLemmas.{final_end}
 use Rattle.session_laws.proofs.quorums.ShownLemmas.{shown_meet}
 use Rattle.session_laws.proofs.AskedReplies.{replies_skip_nothing}
 use Rattle.session_laws.proofs.TakenLines.{followers_show}
@@ -122,46 +119,29 @@ printed_lines o other plain =
     AreLines-append (IsTold (shown session o.lines)) (answers session o.lines) o.last (lines_of session plain.is o.lines)
     (AreLines-weaker IsOfNoQuorum (IsTold (shown session o.lines)) (λ l none begins. absurd (none begins)) o.last (plain.last other))
 
--- ---- a run
+-- ---- the outcome of a request
 
--- an end of a run is final
-final_at : (n status : ℕ) → status ≡ n → IsEnd n → IsFinal status
-final_at n status e is = (final_end status (subst IsEnd (sym e) is)).1
+module _ (request : Option Request) (named : HasForms request) (seen : ℕ → Files) (input : List ℕ) where
+  abbrev o : Outcome
+  o = outcome request seen input
 
-of_replay : (request : Option Request) (names : List (List ℕ)) → request ≡ Some (Replay names) → (seen : ℕ → Files) (input : List ℕ) → outcome request seen input ≡ ended_outcome (replay_ending names seen) (seen 0)
-unfolding outcome
-of_replay request names is seen input = ap (λ r. outcome r seen input) is
+  -- the quorums in what is printed of it meet, unless the name of a file may be printed
+  pub printed_meet : (printed : List ℕ) → o.status ≢ 7 → StartsWith (printed_by o) printed → PrintsMeeting o.log o.lines printed
+  printed_meet printed other front =
+      let plain = plain_outcome request named seen input in
+      record {
+        texts = AreLines-front (IsTold (shown (session_over o.log) o.lines)) (printed_by o) printed (drop (length printed) (printed_by o))
+            (starts_with_rest (printed_by o) printed front) (printed_lines o other plain);
+        meet = shown_meet (session_over o.log) plain.is o.lines;
+      }
+
+  pub outcome_followers : FollowersShow o.log o.lines
+  outcome_followers = followers_show o.log o.lines (plain_outcome request named seen input).is
+
+  pub outcome_replies : RepliesSkipNothing o.log o.lines
+  outcome_replies = replies_skip_nothing o.log o.lines (plain_outcome request named seen input).is
 
 -- the route of a request for one
-safe_route : (request : Option Request) → HasForms request → (log from to : List ℕ) → request ≡ Some (Cms log from to) → IsSafeRoute from to
+pub safe_route : (request : Option Request) → HasForms request → (log from to : List ℕ) → request ≡ Some (Cms log from to) → IsSafeRoute from to
 safe_route request named log from to is =
     let are : HasForms (Some (Cms log from to)) = subst HasForms is named in listed_route from to are.0 are.1
-
-pub is_run : {S : Type 0} (request : Option Request) (left : S → Option (List ℕ)) (input input' : S) (w w' : Option (List ℕ)) (f f' : Option Files) (status : ℕ)
-    → HasForms request → RunsSeen (outcome request) (LeavesFiles request f f') left input input' w w' f f' status → IsRun request left input input' w w' f f' status
-is_run request left input input' w w' f f' status named on =
-    let o = outcome request on.seen on.runs.given in
-    let plain = plain_outcome request named on.seen on.runs.given in
-    record {
-      given = record { input = on.runs.given; seen = on.seen; told_input = on.runs.told; told_files = on.held };
-      comes = on.runs.comes;
-      reads = on.runs.reads;
-      replays = λ names is log of all.
-          let same = of_replay request names is on.seen on.runs.given in
-          let ended : (n : ℕ) → status ≡ n → IsEnd n → (replay_ending names on.seen).status ≡ n =
-          λ n e end. sym (on.runs.comes.status (final_at n status e end) ∙ ap (λ (x : Outcome). x.status) same) ∙ e in
-          record {
-            unrefused = λ cluster headed three. refuses_no_line names on.seen log of all cluster headed (ended 3 three refl);
-            reports = λ zero. subst (ReportsPrefix log (taken_of_files names on.seen)) (sym (on.runs.comes.whole (final_at 0 status zero refl) ∙ ap printed_by same)) (reports_prefix names on.seen log of all (ended 0 zero refl));
-          };
-      quorums = λ other. record {
-        texts = AreLines-front (IsTold (shown (session_over o.log) o.lines)) (printed_by o) on.runs.comes.printed (drop (length on.runs.comes.printed) (printed_by o))
-            (starts_with_rest (printed_by o) on.runs.comes.printed on.runs.comes.prefix) (printed_lines o other plain);
-        meet = shown_meet (session_over o.log) plain.is o.lines;
-      };
-      followers = followers_show o.log o.lines plain.is;
-      replies = replies_skip_nothing o.log o.lines plain.is;
-      leaves = on.runs.leaves;
-      routes = safe_route request named;
-      plans = λ log node keyspace is. plans_cover (on.seen 0) log node keyspace;
-    }

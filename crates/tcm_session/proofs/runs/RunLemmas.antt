@@ -21,10 +21,8 @@ use Rattle.script_session.specs.LogFiles.{Gains, base_of, entry_lines, log_for, 
 use Rattle.script_session.specs.Machine.{answers, entries_added, session_over}
 use Rattle.tcm_session.specs.Commit.{Start, commit_to_outcome, outcome_from, outcome_in, outcome_loaded, script_outcome}
 use Rattle.tcm_session.specs.Outcome.{Outcome, input_limit, printed_by, unread_outcome}
-use Rattle.tcm_session.specs.Outcomes.{outcome}
-use Rattle.tcm_session.specs.Request.{Request}
-use Rattle.tcm_session.specs.Run.{ComesSurely, ComesTo, HasStatus, IsFinal, IsRun, IsStatus, ReadsFor, more_if}
-use Rattle.tcm_session.specs.code.Runs.{IsEnd, MayHold, ReadsTo, RunsFor, RunsOn, RunsSeen, Standing, StopsAt, Writes}
+use Rattle.tcm_session.specs.Run.{ComesTo, HasStatus, IsFinal, IsStatus, more_if}
+use Rattle.tcm_session.specs.code.Runs.{IsEnd, MayHold, ReadsFor, ReadsTo, RunsFor, RunsOn, RunsSeen, Standing, StopsAt, Writes}
 use Rattle.tcm_session.specs.code.Stops.{LeavesScript, Stopped}
 use Rattle.tcm_session.specs.declared.run_fault.RunFault.{RunFault}
 use Rattle.tcm_session.specs.declared.run_fault.RunFault.TheVariants as fault
@@ -424,15 +422,3 @@ ends_surely status has =
       | inl one ↦ inl one.1
       | inr other ↦ inr (record { memory = other.1; source = uncounted status 4 has.source; sink = uncounted status 5 has.sink; store = uncounted status 6 has.store })
     ]
-
-pub comes_surely : {S : Type 0} (request : Option Request) (left : S → Option (List ℕ)) (input input' : S) (bytes w w' : List ℕ) (all all' : Files) (status : ℕ) → left input ≡ Some bytes
-    → IsRun request left input input' (Some w) (Some w') (Some all) (Some all') status → (status ≡ 1) ⊎ IsFinal status → (status ≡ 1) ⊎ ComesSurely (outcome request (λ _. all) bytes) w w' all' status
-comes_surely request left input input' bytes w w' all all' status is run (inl one) = inl one
-comes_surely request left input input' bytes w w' all all' status is run (inr final) =
-    let given : bytes ≡ run.given.input = subst (λ l. IfSome l (λ b. b ≡ run.given.input)) is run.given.told_input in
-    let same : outcome request run.given.seen run.given.input ≡ outcome request (λ _. all) bytes = (λ i. outcome request (λ n. run.given.told_files n i) (sym given i)) in
-    inr (record {
-      status = run.comes.status final ∙ ap (λ (o : Outcome). o.status) same;
-      printed = subst (λ t. Appends (Some w) (Some w') t) (run.comes.whole final ∙ ap printed_by same) run.comes.wrote;
-      files = run.comes.files final ∙ ap (λ (o : Outcome). o.files) same;
-    })

@@ -1,5 +1,5 @@
 -- Lemmas on where a fault stops some lines.
-use Rattle.std.proofs.Common.{◌≡◌, ◌≢◌, inl, inr, ℕ, List, [], ◌∷◌, ◌++◌, drop, length, take, Option, None, Some, Result, Ok, Err, OnErr, refl, sym, ap, ◌∙◌, subst, append_assoc, append-nil, take-append-drop, arith}
+use Rattle.std.proofs.Common.{◌≡◌, ◌≢◌, inl, inr, ℕ, List, [], ◌∷◌, ◌++◌, drop, length, take, Option, None, Some, Result, Ok, Err, OnErr, OnOk, refl, sym, ap, ◌∙◌, subst, append_assoc, append-nil, take-append-drop, arith}
 use Rattle.std.specs.Io.{StartsWith}
 use Rattle.std.specs.Io.KnownBytes.{Appends}
 use Rattle.std.proofs.KnownBytes.{Appends-nil, Appends-trans, starts_with_rest}
@@ -38,7 +38,7 @@ starts-more text front more starts =
     starts_with_of_append (text ++ more) front (drop (length front) text ++ more)
     (ap (λ t. t ++ more) (starts_with_rest text front starts) ∙ append_assoc front (drop (length front) text) more)
 
-starts-after : (first text front : List ℕ) → StartsWith text front → StartsWith (first ++ text) (first ++ front)
+pub starts-after : (first text front : List ℕ) → StartsWith text front → StartsWith (first ++ text) (first ++ front)
 starts-after first text front starts =
     starts_with_of_append (first ++ text) (first ++ front) (drop (length front) text)
     (ap (λ t. first ++ t) (starts_with_rest text front starts) ∙ sym (append_assoc first front (drop (length front) text)))
@@ -356,3 +356,17 @@ Stopped-after Where Where' name w w₁ w₂ f f₁ f₂ text bytes step wrote ad
 -- nothing is printed or added
 pub Stopped-none : (Where : List ℕ → List ℕ → Type 0) (name : Option (List ℕ)) (w : Option (List ℕ)) (files files' : Option Files) → files' ≡ files → Where [] [] → Stopped Where name w w files files'
 Stopped-none Where name w files files' same stops = record { printed = []; added = []; stops = stops; wrote = Appends-nil w; adds = Adds-same name files files' same }
+
+-- the files are given otherwise
+pub Stopped-told : (Where : List ℕ → List ℕ → Type 0) (name : Option (List ℕ)) (w w' : Option (List ℕ)) (files f left : Option Files) → left ≡ f → Stopped Where name w w' files f → Stopped Where name w w' files left
+Stopped-told Where name w w' files f left same s = subst (Stopped Where name w w' files) (sym same) s
+
+-- ---- what holds by a result
+
+pub ok_map : {T E : Type 0} {P Q : Type 0} (r : Result T E) → (P → Q) → OnOk r P → OnOk r Q
+ok_map (Ok x) step p = step p
+ok_map (Err e) step p = tt
+
+pub err_map : {T E : Type 0} {P Q : Type 0} (r : Result T E) → (P → Q) → OnErr r P → OnErr r Q
+err_map (Ok x) step p = tt
+err_map (Err e) step p = step p

@@ -1,5 +1,5 @@
 -- The parts of a run: where it stands, and what it reads, answers and writes.
-use Rattle.std.specs.Prelude.{◌≡◌, ◌≢◌, ℕ, ◌≤◌, ◌==◌, ◌||◌, IsTrue, List, [], ◌++◌, length, take, Option, None, Result, OnOk, IfErr, IfSome}
+use Rattle.std.specs.Prelude.{◌≡◌, ◌≢◌, ℕ, ◌+◌, ◌≤◌, ◌==◌, ◌||◌, true, false, IsTrue, List, [], ◌++◌, length, take, Option, None, Result, OnOk, IfErr, IfSome}
 use Rattle.std.specs.Io.KnownBytes.{Appends, Consumes, IsAtEnd}
 use Rattle.tcm_edges.specs.Files.{Files}
 use Rattle.tcm_edges.specs.Owed.{WritesPrefix}
@@ -9,7 +9,7 @@ use Rattle.script_session.specs.Lines.{HasNoFeed, whole_lines, open_line}
 use Rattle.script_session.specs.LogFiles.{Gains, entry_lines}
 use Rattle.script_session.specs.Machine.{SessionState, answers, entries_added, session_after}
 use Rattle.tcm_session.specs.Outcome.{Outcome, input_limit}
-use Rattle.tcm_session.specs.Run.{AreSeen, ComesTo, IsFinal, ReadsFor}
+use Rattle.tcm_session.specs.Run.{AreSeen, ComesTo, HasRead, IsFinal}
 use Rattle.tcm_session.specs.code.Stops.{Stopped, StopsThere}
 use Rattle.tcm_session.specs.declared.run_fault.RunFault.{RunFault}
 use Rattle.tcm_session.specs.declared.run_fault.RunFault.TheVariants as fault
@@ -95,6 +95,14 @@ pub record Writes {T : Type 0} (text : List ℕ) (written written' : Option (Lis
   pub whole : OnOk result (Appends written written' text)
   pub part : WritesPrefix written written' text
   pub cause : after ≡ counts_by result before
+
+-- an outcome that reads no input leaves the source as it was, and doesn't end in 4; a script has read its input to the
+-- end at status 0, and the byte past the limit at its status 8
+pub record ReadsFor {S : Type 0} (o : Outcome) (left : S → Option (List ℕ)) (input input' : S) (written written' : Option (List ℕ)) (status : ℕ) : Type 0 where
+  pub reads : HasRead o.log (left input) (left input') written written' status
+  pub at_end : status ≡ 0 → o.reads ≡ true → IsAtEnd (left input')
+  pub past_limit : status ≡ 8 → o.reads ≡ true → length reads.read ≡ input_limit + 1
+  pub unread : o.reads ≡ false → (input' ≡ input) × (status ≢ 4)
 
 -- a run that was given some input: it comes to the outcome of this input, reads as the outcome says, and leaves this if
 -- a fault ends it

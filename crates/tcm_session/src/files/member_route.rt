@@ -46,7 +46,7 @@ fn route_text(from: NodeSet, changes: &[Change], out: &mut ByteText) -> Result<(
     }
 }
 
-/// The end with the route from one set to another. Fails only if memory runs out.
+/// The end with the route from one set to another.
 #[tactic(auto, unfolding(crate::specs::files::MemberRoute::route_text))]
 fn routed(alloc: Global, from: NodeSet, to: &NodeSet) -> Result<Ending, Memory>
     requires from { (1 ≤ length from) × (length from ≤ 16) }
@@ -98,7 +98,7 @@ fn unjoined_text(n: NodeId, state: Option<NodeState>, out: &mut ByteText) -> Res
     }
 }
 
-/// The end at a node that isn't JOINED. Fails only if memory runs out.
+/// The end at a node that isn't JOINED.
 fn unjoined(alloc: Global, image: &Image, n: NodeId) -> Result<Ending, Memory>
     ensures { IfOk result (λ ending. ending
         ≡ record { status = 7; text = spec.unjoined_text n (states.node_state image.now n) }) }
@@ -108,8 +108,7 @@ fn unjoined(alloc: Global, image: &Image, n: NodeId) -> Result<Ending, Memory>
     Ok(Ending { status: 7, text })
 }
 
-/// The end with the route from one set to another, or at the first node that joins and isn't JOINED. Fails only if
-/// memory runs out.
+/// The end with the route from one set to another, or at the first node that joins and isn't JOINED.
 fn in_image(alloc: Global, image: &Image, from: &NodeList, to: &NodeList) -> Result<Ending, Memory>
     requires from { IsTrue (are_nodes from.now) }
     requires to { IsTrue (are_nodes to.now) }
@@ -125,7 +124,7 @@ fn in_image(alloc: Global, image: &Image, from: &NodeList, to: &NodeList) -> Res
 }
 
 /// The end with the route from one set of members to another, or at the first node that joins and isn't JOINED in the
-/// last state of the session's log. Fails only if memory runs out.
+/// last state of the session's log.
 ///
 /// Cost: the image of the last epoch is copied.
 pub fn show_route(

@@ -42,7 +42,7 @@ impl Walk {
         }
     }
 
-    /// The walk after a change that is accepted. Fails only if memory runs out.
+    /// The walk after a change that is accepted.
     fn after(self, change: Change) -> Result<Walk, Memory>
         requires { IsSome (service_after (service_at self) change) }
         ensures { IfOk result (λ next. service_after (service_at self) change ≡ Some (service_at next)) }
@@ -77,7 +77,7 @@ fn start(members: Members, n: NodeId) -> Result<Walk, Memory>
     }
 }
 
-/// The walk once a member has left. Fails only if memory runs out.
+/// The walk once a member has left.
 fn remove(members: Members, n: NodeId) -> Result<Walk, Memory>
     requires { IsSome (service_after (service_of members) (change.Remove n)) }
     ensures { IfOk result (λ walk.
@@ -92,7 +92,7 @@ fn remove(members: Members, n: NodeId) -> Result<Walk, Memory>
     }
 }
 
-/// The walk once the node that has started is a member. Fails only if memory runs out.
+/// The walk once the node that has started is a member.
 #[tactic(auto, using(crate::proofs::members::WalkLemmas::finishes))]
 fn finish(growing: Growing, n: NodeId) -> Result<Walk, Memory>
     requires { IsSome (service_after (growing_service growing) (change.Finish n)) }
@@ -117,7 +117,6 @@ fn stop(growing: Growing, n: NodeId) -> Members
     growing.stop()
 }
 
-/// Adds a change and its node.
 fn change_text(change: &Change, out: &mut ByteText) -> Result<(), Memory>
     ensures { OnOk result (out.new ≡ out.old ++ spec.change_text change.now) }
 {
@@ -147,7 +146,7 @@ fn change_line(change: &Change, after: &Walk, out: &mut ByteText) -> Result<(), 
     out.extend(b"\n")
 }
 
-/// Makes a change that is accepted, and adds its line. Fails only if memory runs out.
+/// Makes a change that is accepted, and adds its line.
 fn step(walk: Walk, change: &Change, out: &mut ByteText) -> Result<Walk, Memory>
     requires { IsSome (service_after (service_at walk) change.now) }
     ensures next { IfOk result (λ next. service_after (service_at walk) change.now ≡ Some (service_at next)) }
@@ -163,7 +162,7 @@ fn step(walk: Walk, change: &Change, out: &mut ByteText) -> Result<Walk, Memory>
     }
 }
 
-/// Makes changes that are all accepted, and adds the line of each. Fails only if memory runs out.
+/// Makes changes that are all accepted, and adds the line of each.
 pub fn walk_along(members: Members, changes: &[Change], out: &mut ByteText) -> Result<(), Memory>
     requires { IsSome (service_after_all (service_of members) changes.now) }
     ensures { OnOk result (out.new ≡ out.old ++ spec.change_lines (service_of members) changes.now) }

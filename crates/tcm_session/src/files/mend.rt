@@ -1,6 +1,7 @@
 //! Writes a log file of the older format anew, as the log file of a cluster.
 
 ghost use Rattle.std.specs.Prelude.{◌≡◌, ◌++◌, IfOk, OnErr, OnOk};
+ghost use Rattle.tcm_edges.specs.Shown.{EachLeft, StaysOnly};
 ghost use Rattle.script_session.specs.LogFiles.{entry_lines, old_log_of};
 ghost use Rattle.wire_json.specs.EntryTexts.{entry_line as line_of};
 ghost use Rattle.tcm_session.specs.Counts.{counts};
@@ -20,7 +21,6 @@ use tcm_edges::{Loaded, Store};
 use transformations::Entry;
 use wire_json::{entry_line, header_line};
 
-/// Adds the line of an entry.
 fn add_entry(alloc: Global, entry: &Entry, out: &mut ByteText) -> Result<(), Memory>
     ensures { OnOk result (out.new ≡ out.old ++ line_of entry.now) }
 {
@@ -28,7 +28,6 @@ fn add_entry(alloc: Global, entry: &Entry, out: &mut ByteText) -> Result<(), Mem
     out.extend(line.as_slice())
 }
 
-/// Adds the line of each entry of a log.
 fn add_entries(alloc: Global, log: &Log, out: &mut ByteText) -> Result<(), Memory>
     ensures { OnOk result (out.new ≡ out.old ++ entry_lines log.now) }
 {
@@ -41,7 +40,8 @@ fn add_entries(alloc: Global, log: &Log, out: &mut ByteText) -> Result<(), Memor
     Ok(())
 }
 
-/// The bytes of the log file of a cluster with the entries of a log. Fails only if memory runs out.
+/// The bytes of the log file of a cluster with the entries of a log. The entries are written in their one spelling, so
+/// no bytes of the older file are kept.
 fn log_text(alloc: Global, cluster: &Name, log: &Log) -> Result<ByteText, Memory>
     ensures { IfOk result (λ text. text ≡ spec.log_text cluster.now log.now) }
 {
@@ -61,12 +61,14 @@ fn make_new<D: Store>(
     ensures makes { IfOk result (λ ending.
         Makes new.now.name.now (spec.mending_to new.now.name.now new.now.cluster log.now) ending
         (D.files store.old) (D.files store.new)) }
-    ensures stopped { OnErr result
-        (StopsMaking new.now.name.now (spec.mending_to new.now.name.now new.now.cluster log.now)
-        (D.files store.old) (D.files store.new)) }
+    ensures stays { OnOk result (StaysOnly D.files D.shows store.old store.new) }
+    ensures stopped { OnErr result (EachLeft D.files D.shows store.old store.new (λ left.
+        StopsMaking new.now.name.now (spec.mending_to new.now.name.now new.now.cluster log.now)
+        (D.files store.old) left)) }
     ensures cause { counts 0 0 (D.faults store.new)
         ≡ counts_by result (counts 0 0 (D.faults store.old)) }
 {
+    // With the limit 0 nothing of the file is read, and an empty file is there, too.
     let Loaded::Absent = store.load(new.name, 0)? else {
         return Ok(Ending::file_there(alloc, new.name)?);
     };
@@ -87,10 +89,11 @@ fn mend_from<D: Store>(
     ensures makes { IfOk result (λ ending.
         Makes new.now.name.now (spec.mending_from new.now.name.now new.now.cluster (old_log_of file.now)) ending
         (D.files store.old) (D.files store.new)) }
-    ensures stopped { OnErr result
-        (StopsMaking new.now.name.now
+    ensures stays { OnOk result (StaysOnly D.files D.shows store.old store.new) }
+    ensures stopped { OnErr result (EachLeft D.files D.shows store.old store.new (λ left.
+        StopsMaking new.now.name.now
         (spec.mending_from new.now.name.now new.now.cluster (old_log_of file.now))
-        (D.files store.old) (D.files store.new)) }
+        (D.files store.old) left)) }
     ensures cause { counts 0 0 (D.faults store.new)
         ≡ counts_by result (counts 0 0 (D.faults store.old)) }
 {
@@ -105,8 +108,9 @@ fn mend_from<D: Store>(
     }
 }
 
-/// Makes the log file of a cluster with the entries in the file `old` of the older format, and returns the end. No other
-/// file changes.
+/// Makes the log file of a cluster with the entries in the file `old` of the older format, and returns the end. No
+/// other file changes. The file `old` is looked at first. `MENDED` is printed once the new file is there; if that
+/// fails, the status is 5, and a second run ends with `FILE-THERE`.
 ///
 /// Cost: the log of `old` is kept in memory, with the bytes of both files.
 pub fn mend<D: Store>(
@@ -117,8 +121,9 @@ pub fn mend<D: Store>(
 ) -> Result<Ending, RunFault>
     ensures mends { IfOk result (λ ending.
         Mends old.now new.now.name.now new.now.cluster ending (D.files store.old) (D.files store.new)) }
-    ensures stopped { OnErr result
-        (StopsMending old.now new.now.name.now new.now.cluster (D.files store.old) (D.files store.new)) }
+    ensures stays { OnOk result (StaysOnly D.files D.shows store.old store.new) }
+    ensures stopped { OnErr result (EachLeft D.files D.shows store.old store.new
+        (λ left. StopsMending old.now new.now.name.now new.now.cluster (D.files store.old) left)) }
     ensures cause { counts 0 0 (D.faults store.new)
         ≡ counts_by result (counts 0 0 (D.faults store.old)) }
 {

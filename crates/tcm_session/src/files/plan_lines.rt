@@ -24,7 +24,6 @@ fn add_left(left: Option<Token>, out: &mut ByteText) -> Result<(), Memory>
     }
 }
 
-/// Adds a range.
 fn add_range(left: Option<Token>, right: RightEnd, out: &mut ByteText) -> Result<(), Memory>
     ensures { OnOk result (out.new ≡ out.old ++ spec.range_text left right) }
 {
@@ -47,7 +46,6 @@ fn add_sources(from: &StreamFrom, out: &mut ByteText) -> Result<(), Memory>
     }
 }
 
-/// Adds the line of a row.
 fn add_row(row: &StreamRow, out: &mut ByteText) -> Result<(), Memory>
     ensures { OnOk result (out.new ≡ out.old ++ spec.row_text row.now) }
 {
@@ -58,7 +56,6 @@ fn add_row(row: &StreamRow, out: &mut ByteText) -> Result<(), Memory>
     out.extend(b"\n")
 }
 
-/// Adds the lines of some rows.
 fn add_rows(rows: &[StreamRow], out: &mut ByteText) -> Result<(), Memory>
     ensures { OnOk result (out.new ≡ out.old ++ flat_map spec.row_text rows.now) }
 {
@@ -85,7 +82,7 @@ fn add_head(
     out.extend(b"\n")
 }
 
-/// The end with a plan. Fails only if memory runs out.
+/// The end with a plan.
 fn planned(
     alloc: Global,
     epoch: u64,
@@ -102,7 +99,7 @@ fn planned(
     Ok(Ending { status: 0, text })
 }
 
-/// The end without a plan: the node has no movement, or else no keyspace has the name. Fails only if memory runs out.
+/// The end without a plan: the node has no movement, or else no keyspace has the name.
 fn unplanned(alloc: Global, image: &Image, node: NodeId) -> Result<Ending, Memory>
     ensures { IfOk result (λ ending. ending
         ≡ record { status = 7; text = spec.missing_text (movement_of image.now node) }) }
@@ -115,7 +112,7 @@ fn unplanned(alloc: Global, image: &Image, node: NodeId) -> Result<Ending, Memor
     Ok(Ending { status: 7, text })
 }
 
-/// The end with the plan of the movement of a node under a keyspace, or without it. Fails only if memory runs out.
+/// The end with the plan of the movement of a node under a keyspace, or without it.
 fn in_metadata(
     alloc: Global,
     metadata: &Metadata,
@@ -131,7 +128,7 @@ fn in_metadata(
 }
 
 /// The end with the stream plan of the movement of a node under a keyspace in the last state of the session's log; or
-/// without it, if the node has no movement there or no keyspace has the name. Fails only if memory runs out.
+/// without it, if the node has no movement there or no keyspace has the name.
 ///
 /// Cost: `stream_plan::streams` is called once.
 pub fn show_plan(

@@ -2,6 +2,7 @@
 
 ghost use Rattle.std.specs.Prelude.{◌≡◌, IfOk};
 ghost use Rattle.script_session.specs.LogFiles.{log_of};
+ghost use Rattle.tcm_edges.specs.Shown.{ShowsNoMore};
 ghost use Rattle.tcm_session.specs.Counts.{counts};
 ghost use Rattle.tcm_session.specs.code.Questions.{IsAsked, said};
 ghost use Rattle.tcm_session.specs.code.Replays.{EndsSo};
@@ -21,7 +22,8 @@ use script_session::Session;
 use std::alloc::Global;
 use tcm_edges::{Loaded, Store};
 
-/// What is asked of a log.
+/// What is asked of a log. `snapshot`, `plan` and `cms` differ in their answers alone, so one place opens the file and
+/// ends at a bad one.
 #[derive(Drop)]
 pub enum Question {
     /// Its state at an epoch.
@@ -33,7 +35,7 @@ pub enum Question {
 }
 
 impl Question {
-    /// The end with the answer, by the session's log. Fails only if memory runs out.
+    /// The end with the answer, by the session's log.
     fn answer(&self, alloc: Global, session: &Session) -> Result<Ending, Memory>
         requires { IsAsked self.now }
         ensures { IfOk result (λ ending. ending ≡ said self.now session.now.log) }
@@ -45,8 +47,7 @@ impl Question {
         }
     }
 
-    /// The end with the answer, by the log in a file, or at the first line that is refused. Fails only if memory runs
-    /// out.
+    /// The end with the answer, by the log in a file, or at the first line that is refused.
     fn in_file(&self, alloc: Global, file: &[u8]) -> Result<Ending, Memory>
         requires { IsAsked self.now }
         ensures { IfOk result (λ ending. ending ≡ spec.log_end (said self.now) (log_of file.now)) }
@@ -62,7 +63,7 @@ impl Question {
         }
     }
 
-    /// The end at the file with this name, once it is loaded. Fails only if memory runs out.
+    /// The end at the file with this name, once it is loaded.
     fn once_loaded(&self, alloc: Global, name: &str, loaded: Loaded) -> Result<Ending, Memory>
         requires { IsAsked self.now }
         ensures { IfOk result (λ ending. ending ≡ spec.file_end name.now (said self.now) loaded) }
@@ -89,6 +90,7 @@ pub fn look<D: Store>(
     ensures ends { IfOk result (λ ending.
         EndsSo (spec.looked_end name.now (said question.now)) ending (D.files store.old)) }
     ensures files { D.files store.new ≡ D.files store.old }
+    ensures crash { ShowsNoMore (D.shows store.old) (D.shows store.new) }
     ensures cause { counts 0 0 (D.faults store.new)
         ≡ counts_by result (counts 0 0 (D.faults store.old)) }
 {

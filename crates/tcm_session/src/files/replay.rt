@@ -1,6 +1,7 @@
 //! Hands the lines of files to one follower, one after another.
 
 ghost use Rattle.std.specs.Prelude.{◌≡◌, ◌+◌, ◌≤◌, length, map, string_bytes, None, Some, Ok, IfOk, IsTrue, OnOk};
+ghost use Rattle.tcm_edges.specs.Shown.{ShowsNoMore};
 ghost use Rattle.transformations.specs.History.{is_command, most_epochs};
 ghost use Rattle.wire_json.specs.Reading as reading;
 ghost use Rattle.tcm_session.specs.Counts.{counts};
@@ -31,7 +32,7 @@ pub struct Replay {
 }
 
 impl Replay {
-    /// The replay before the first line. Fails only if memory runs out.
+    /// The replay before the first line.
     pub fn empty(alloc: Global) -> Result<Replay, Memory>
         ensures { IfOk result (λ replay. replay ≡ spec.nothing_replayed) }
     {
@@ -54,8 +55,8 @@ impl Replay {
         follower.close();
     }
 
-    /// Hands over the line with this number of its file, which comes without its line feed; or returns the first cause to
-    /// refuse it. Fails only if memory runs out; the entry or the image may have been taken by then.
+    /// Hands over the line with this number of its file, which comes without its line feed; or returns the first cause
+    /// to refuse it. If memory runs out, the entry or the image may have been taken by then.
     pub fn hand_line(
         &mut self,
         alloc: Global,
@@ -88,7 +89,7 @@ impl Replay {
         }
     }
 
-    /// Counts a header, or returns the cause to refuse it. Fails only if memory runs out.
+    /// Counts a header, or returns the cause to refuse it.
     fn hand_header(&mut self, number: u64, cluster: Name) -> Result<Option<Cause>, Memory>
         requires { CanCount 1 self.old }
         ensures leads { IfOk result (λ cause. LeadsTo cause (spec.header_replayed number self.old cluster) self.new) }
@@ -127,7 +128,7 @@ impl Replay {
         self.count(handed)
     }
 
-    /// Counts a line that the follower was handed, or returns the cause to refuse it. Fails only if memory ran out.
+    /// Counts a line that the follower was handed, or returns the cause to refuse it.
     fn count(&mut self, handed: Result<Took, FollowerFault>) -> Result<Option<Cause>, Memory>
         requires { CanCount 1 self.old }
         ensures leads { IfOk result (λ cause.
@@ -163,8 +164,8 @@ fn full_count(took: Took) -> u64
     }
 }
 
-/// Hands over the whole lines of the file with this number, up to the first line that is refused. Fails only if memory
-/// runs out; some of the lines may have been taken by then.
+/// Hands over the whole lines of the file with this number, up to the first line that is refused. If memory runs out,
+/// some of the lines may have been taken by then.
 fn hand_lines(
     alloc: Global,
     replay: &mut Replay,
@@ -244,6 +245,7 @@ fn hand_file<D: Store>(
         HandsFile ended file name.now (D.files store.old) replay.old replay.new) }
     ensures grows { GrowsBy 536870912 replay.old replay.new }
     ensures files { D.files store.new ≡ D.files store.old }
+    ensures crash { ShowsNoMore (D.shows store.old) (D.shows store.new) }
     ensures cause { counts 0 0 (D.faults store.new)
         ≡ counts_by result (counts 0 0 (D.faults store.old)) }
 {
@@ -264,6 +266,7 @@ pub fn hand_files<D: Store>(
     ensures hands { IfOk result (λ ended.
         HandsFiles ended (map string_bytes names.now) (D.files store.old) replay.new) }
     ensures files { D.files store.new ≡ D.files store.old }
+    ensures crash { ShowsNoMore (D.shows store.old) (D.shows store.new) }
     ensures cause { counts 0 0 (D.faults store.new)
         ≡ counts_by result (counts 0 0 (D.faults store.old)) }
 {

@@ -1,6 +1,7 @@
 //! The report of a replay, and the run of `replay`.
 
 ghost use Rattle.std.specs.Prelude.{◌≡◌, ◌≤◌, ◌∷◌, ◌++◌, [], codes, decimal, flat_map, length, map, string_bytes, take, IfOk, OnOk};
+ghost use Rattle.tcm_edges.specs.Shown.{ShowsNoMore};
 ghost use Rattle.script_lang.specs.AnswerTexts as texts;
 ghost use Rattle.tcm_session.specs.Counts.{counts};
 ghost use Rattle.tcm_session.specs.code.RunFaults.{counts_by};
@@ -68,7 +69,7 @@ fn report_text(alloc: Global, replay: &Replay, out: &mut ByteText) -> Result<(),
     places_text(metadata, out)
 }
 
-/// The end of a replay at the end of its files. Fails only if memory runs out.
+/// The end of a replay at the end of its files.
 fn reported(alloc: Global, replay: &Replay) -> Result<Ending, Memory>
     ensures { IfOk result (λ ending. ending ≡ record { status = 0; text = spec.report_text replay.now }) }
 {
@@ -89,6 +90,7 @@ fn end_of<D: Store>(
     ensures ends { IfOk result (λ ending.
         EndsSo (spec.replay_ending (map string_bytes names.now)) ending (D.files store.old)) }
     ensures files { D.files store.new ≡ D.files store.old }
+    ensures crash { ShowsNoMore (D.shows store.old) (D.shows store.new) }
     ensures cause { counts 0 0 (D.faults store.new)
         ≡ counts_by result (counts 0 0 (D.faults store.old)) }
 {
@@ -110,6 +112,7 @@ pub fn replay_files<D: Store>(
     ensures ends { IfOk result (λ ending.
         EndsSo (spec.replay_ending (map string_bytes names.now)) ending (D.files store.old)) }
     ensures files { D.files store.new ≡ D.files store.old }
+    ensures crash { ShowsNoMore (D.shows store.old) (D.shows store.new) }
     ensures cause { counts 0 0 (D.faults store.new)
         ≡ counts_by result (counts 0 0 (D.faults store.old)) }
 {

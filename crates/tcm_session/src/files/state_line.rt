@@ -9,8 +9,7 @@ use script_session::Session;
 use std::alloc::Global;
 use wire_json::snapshot_line;
 
-/// The end at the state of the session's log at an epoch: its line, or the last epoch, if the epoch is greater. Fails
-/// only if memory runs out.
+/// The end at the state of the session's log at an epoch: its line, or the last epoch, if the epoch is greater.
 ///
 /// Cost: the state at an epoch before the last costs as `Snapshots::state_at` says, with at most 255 commands.
 pub fn show_state(alloc: Global, session: &Session, epoch: u64) -> Result<Ending, Memory>

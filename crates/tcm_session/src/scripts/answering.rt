@@ -2,6 +2,7 @@
 
 ghost use Rattle.std.specs.Prelude.{◌≡◌, ◌++◌, [], OnErr, OnOk};
 ghost use Rattle.std.specs.Option.{option_copied};
+ghost use Rattle.tcm_edges.specs.Shown.{EachLeft, StaysOnly};
 ghost use Rattle.tcm_session.specs.Counts.{counts};
 ghost use Rattle.tcm_session.specs.code.RunFaults.{counts_by};
 ghost use Rattle.tcm_session.specs.Left.{StopsIn, StopsNext};
@@ -35,10 +36,11 @@ pub fn answer_line<K: Sink, D: Store>(
     ensures file { OnOk result (Gains
         (option_copied log.entry) (entry_lines (reply session.old line.now).added)
         (D.files store.old) (D.files store.new)) }
-    ensures stopped { OnErr result (Stopped
+    ensures stays { OnOk result (StaysOnly D.files D.shows store.old store.new) }
+    ensures stopped { OnErr result (EachLeft D.files D.shows store.old store.new (λ left. Stopped
         (StopsNext (reply session.old line.now).text (entry_lines (reply session.old line.now).added))
         (option_copied log.entry) (K.written out.old) (K.written out.new)
-        (D.files store.old) (D.files store.new)) }
+        (D.files store.old) left)) }
     ensures unnamed { LeavesStore (option_copied log.entry) store.old store.new result }
 {
     let mut text = ByteText::with_room(alloc, TEXT_ROOM)?;
@@ -62,10 +64,11 @@ pub fn feed<K: Sink, D: Store>(
     ensures ok { OnOk result (Takes (option_copied log.entry) piece.now
         (standing session.old begun.old.items (K.written out.old) (D.files store.old))
         (standing session.new begun.new.items (K.written out.new) (D.files store.new))) }
-    ensures stopped { OnErr result (Stopped
+    ensures stays { OnOk result (StaysOnly D.files D.shows store.old store.new) }
+    ensures stopped { OnErr result (EachLeft D.files D.shows store.old store.new (λ left. Stopped
         (StopsIn session.old (whole_lines (begun.old.items ++ piece.now)) [])
         (option_copied log.entry) (K.written out.old) (K.written out.new)
-        (D.files store.old) (D.files store.new)) }
+        (D.files store.old) left)) }
     ensures cause { counts 0 (K.faults out.new) (D.faults store.new)
         ≡ counts_by result (counts 0 (K.faults out.old) (D.faults store.old)) }
     ensures unnamed { LeavesStore (option_copied log.entry) store.old store.new result }

@@ -2,6 +2,7 @@
 
 ghost use Rattle.std.specs.Prelude.{◌≡◌, length, None, Some, IfOk, OnErr, OnOk};
 ghost use Rattle.std.specs.Option.{option_copied};
+ghost use Rattle.tcm_edges.specs.Shown.{EachLeft, StaysOnly};
 ghost use Rattle.tcm_session.specs.Counts.{counts};
 ghost use Rattle.tcm_session.specs.Commit.{commit_outcome, commit_to_outcome, outcome_in, script_outcome};
 ghost use Rattle.tcm_session.specs.Left.{LeavesFiles, StopsNext};
@@ -58,11 +59,12 @@ fn finish<K: Sink, D: Store>(
     ensures file { OnOk result (Gains (option_copied log.entry)
         (entry_lines (entries_added session.old (spec.ending_lines ending begun.now)))
         (D.files store.old) (D.files store.new)) }
-    ensures stopped { OnErr result (Stopped
+    ensures stays { OnOk result (StaysOnly D.files D.shows store.old store.new) }
+    ensures stopped { OnErr result (EachLeft D.files D.shows store.old store.new (λ left. Stopped
         (StopsNext (spec.ending_text ending session.old begun.now)
         (entry_lines (entries_added session.old (spec.ending_lines ending begun.now))))
         (option_copied log.entry) (K.written out.old) (K.written out.new)
-        (D.files store.old) (D.files store.new)) }
+        (D.files store.old) left)) }
     ensures unnamed { LeavesStore (option_copied log.entry) store.old store.new result }
 {
     match ending {
@@ -83,12 +85,12 @@ fn run_script<S: Source, K: Sink, D: Store>(
     store: &mut D,
 ) -> Result<Status, RunFault>
     requires { session.old ≡ session_over session.old.log }
-    ensures runs { RunsOnAny
+    ensures runs { EachLeft D.files D.shows store.old store.new (λ left. RunsOnAny
         (λ all. script_outcome
         (record { log = session.old.log; file = option_copied log.entry; files = all }))
-        (LeavesScript (option_copied log.entry) (D.files store.old) (D.files store.new))
+        (LeavesScript (option_copied log.entry) (D.files store.old) left)
         S.left input.old input.new (K.written out.old) (K.written out.new)
-        (D.files store.old) (D.files store.new) (spec.status_by result) }
+        (D.files store.old) left (spec.status_by result)) }
     ensures cause { counts (S.faults input.new) (K.faults out.new) (D.faults store.new)
         ≡ counts_by result (counts (S.faults input.old) (K.faults out.old) (D.faults store.old)) }
     ensures ended { IfOk result (λ status. IsEnd status.0) }
@@ -107,10 +109,10 @@ pub fn commit<S: Source, K: Sink, D: Store>(
     out: &mut K,
     store: &mut D,
 ) -> Result<Status, RunFault>
-    ensures runs { RunsOnAny commit_outcome
-        (LeavesScript None (D.files store.old) (D.files store.new))
+    ensures runs { EachLeft D.files D.shows store.old store.new (λ left. RunsOnAny commit_outcome
+        (LeavesScript None (D.files store.old) left)
         S.left input.old input.new (K.written out.old) (K.written out.new)
-        (D.files store.old) (D.files store.new) (spec.status_by result) }
+        (D.files store.old) left (spec.status_by result)) }
     ensures cause { counts (S.faults input.new) (K.faults out.new) (D.faults store.new)
         ≡ counts_by result (counts (S.faults input.old) (K.faults out.old) (D.faults store.old)) }
     ensures ended { IfOk result (λ status. IsEnd status.0) }
@@ -149,13 +151,16 @@ fn settle_file<D: Store>(
     requires holds { HoldsFile log.now.name.now file (D.files store.old) }
     ensures settled { OnOk result
         (IsWritten log.now.name.now (base_of log.now.cluster file) (D.files store.old) (D.files store.new)) }
-    ensures stopped { OnErr result
-        (IsKeptOrWritten log.now.name.now (base_of log.now.cluster file) (D.files store.old) (D.files store.new)) }
+    ensures stays { OnOk result (StaysOnly D.files D.shows store.old store.new) }
+    ensures stopped { OnErr result (EachLeft D.files D.shows store.old store.new
+        (λ left. IsKeptOrWritten log.now.name.now (base_of log.now.cluster file) (D.files store.old) left)) }
     ensures cause { counts 0 0 (D.faults store.new)
         ≡ counts_by result (counts 0 0 (D.faults store.old)) }
 {
     let bytes = file.as_slice();
     let size = bytes.len() - tail;
+    // A file that is absent, empty or without a whole line gets the header by one replace. An open line is cut off here
+    // as anywhere, even if it is a header.
     if size == 0 {
         let header = header_line(alloc, &log.cluster)?;
         return write_file(log.name, header.as_slice(), store);
@@ -177,10 +182,11 @@ fn commit_from<S: Source, K: Sink, D: Store>(
     store: &mut D,
 ) -> Result<Status, RunFault>
     requires { HoldsFile log.now.name.now file (D.files store.old) }
-    ensures runs { RunsOnAny (λ all. outcome_in log.now.name.now log.now.cluster all file)
-        (LeavesFiles (Some (CommitTo log.now.name.now log.now.cluster)) (D.files store.old) (D.files store.new))
+    ensures runs { EachLeft D.files D.shows store.old store.new (λ left. RunsOnAny
+        (λ all. outcome_in log.now.name.now log.now.cluster all file)
+        (LeavesFiles (Some (CommitTo log.now.name.now log.now.cluster)) (D.files store.old) left)
         S.left input.old input.new (K.written out.old) (K.written out.new)
-        (D.files store.old) (D.files store.new) (spec.status_by result) }
+        (D.files store.old) left (spec.status_by result)) }
     ensures cause { counts (S.faults input.new) (K.faults out.new) (D.faults store.new)
         ≡ counts_by result (counts (S.faults input.old) (K.faults out.old) (D.faults store.old)) }
     ensures ended { IfOk result (λ status. IsEnd status.0) }
@@ -208,10 +214,11 @@ pub fn commit_to<S: Source, K: Sink, D: Store>(
     out: &mut K,
     store: &mut D,
 ) -> Result<Status, RunFault>
-    ensures runs { RunsOn (commit_to_outcome log.now.name.now log.now.cluster)
-        (LeavesFiles (Some (CommitTo log.now.name.now log.now.cluster)) (D.files store.old) (D.files store.new))
+    ensures runs { EachLeft D.files D.shows store.old store.new (λ left. RunsOn
+        (commit_to_outcome log.now.name.now log.now.cluster)
+        (LeavesFiles (Some (CommitTo log.now.name.now log.now.cluster)) (D.files store.old) left)
         S.left input.old input.new (K.written out.old) (K.written out.new)
-        (D.files store.old) (D.files store.new) (spec.status_by result) }
+        (D.files store.old) left (spec.status_by result)) }
     ensures cause { counts (S.faults input.new) (K.faults out.new) (D.faults store.new)
         ≡ counts_by result (counts (S.faults input.old) (K.faults out.old) (D.faults store.old)) }
     ensures ended { IfOk result (λ status. IsEnd status.0) }

@@ -8,7 +8,7 @@ use cluster_terms::Memory;
 use memchr::memchr;
 
 /// The most bytes that are kept of a line that has begun: one more than a line may have, so a line that is too long
-/// stays too long.
+/// stays too long, and its answer is the same (`reply-kept`).
 const MOST_KEPT: usize = 16_385;
 
 /// The bytes before the first line feed, and the bytes after it. Returns `None` if and only if there is no line feed.
@@ -24,6 +24,7 @@ pub fn cut_line(bytes: &[u8]) -> Option<(&[u8], &[u8])>
 /// memory runs out, `begun` is unchanged.
 pub fn keep_begun(begun: &mut Vec<u8>, bytes: &[u8]) -> Result<(), Memory>
     requires { IsBegun begun.old.items }
+    // Promise: of a line that has begun at most 16,385 bytes are kept. Guards: lines.rt, by hand.
     ensures ok { OnOk result (begun.new.items ≡ kept_of (begun.old.items ++ bytes.now)) }
     ensures err { OnErr result (begun.new.items ≡ begun.old.items) }
 {

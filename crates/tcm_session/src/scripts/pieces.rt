@@ -1,8 +1,9 @@
 //! Reads a script piece by piece.
 
-ghost use Rattle.std.specs.Prelude.{◌≡◌, ◌<◌, length, vec_len, IfOk, IfErr, OnErr};
+ghost use Rattle.std.specs.Prelude.{◌≡◌, ◌<◌, length, vec_len, IfOk, IfErr, OnErr, OnOk};
 ghost use Rattle.std.specs.Io.KnownBytes.{Keeps};
 ghost use Rattle.std.specs.Option.{option_copied};
+ghost use Rattle.tcm_edges.specs.Shown.{EachLeft, StaysOnly};
 ghost use Rattle.tcm_session.specs.Counts.{counts};
 ghost use Rattle.tcm_session.specs.code.RunFaults.{counts_by};
 ghost use Rattle.tcm_session.specs.Outcome.{input_limit};
@@ -18,7 +19,8 @@ use tcm_edges::{Sink, Source, Store};
 /// The most bytes of an input. One more byte is read, to see whether the input is larger.
 const INPUT_LIMIT: usize = 536_870_912;
 
-/// The most bytes of one read.
+/// The most bytes of one read. This is as much as a pipe holds on Linux; the outcome is the same for pieces of any
+/// length.
 const PIECE: usize = 65_536;
 
 /// How the reading of a script ends.
@@ -47,10 +49,12 @@ fn read_piece<S: Source, K: Sink, D: Store>(
         (S.left input.old) (S.left input.new)
         (standing session.old begun.old.items (K.written out.old) (D.files store.old))
         (standing session.new begun.new.items (K.written out.new) (D.files store.new))) }
-    ensures err { IfErr result (λ e. StopsAt (option_copied log.entry) e (length buffer.old)
+    ensures stays { OnOk result (StaysOnly D.files D.shows store.old store.new) }
+    ensures err { IfErr result (λ e. EachLeft D.files D.shows store.old store.new
+        (λ left. StopsAt (option_copied log.entry) e (length buffer.old)
         (S.left input.old) (S.left input.new)
         (standing session.old begun.old.items (K.written out.old) (D.files store.old))
-        (K.written out.new) (D.files store.new)) }
+        (K.written out.new) left)) }
     ensures cause { counts (S.faults input.new) (K.faults out.new) (D.faults store.new)
         ≡ counts_by result (counts (S.faults input.old) (K.faults out.old) (D.faults store.old)) }
     ensures unnamed { LeavesStore (option_copied log.entry) store.old store.new result }
@@ -100,10 +104,12 @@ pub fn read_script<S: Source, K: Sink, D: Store>(
         (S.left input.old) (S.left input.new)
         (standing session.old begun.old.items (K.written out.old) (D.files store.old))
         (standing session.new begun.new.items (K.written out.new) (D.files store.new))) }
-    ensures err { IfErr result (λ e. StopsAt (option_copied log.entry) e input_limit
+    ensures stays { OnOk result (StaysOnly D.files D.shows store.old store.new) }
+    ensures err { IfErr result (λ e. EachLeft D.files D.shows store.old store.new
+        (λ left. StopsAt (option_copied log.entry) e input_limit
         (S.left input.old) (S.left input.new)
         (standing session.old begun.old.items (K.written out.old) (D.files store.old))
-        (K.written out.new) (D.files store.new)) }
+        (K.written out.new) left)) }
     ensures cause { counts (S.faults input.new) (K.faults out.new) (D.faults store.new)
         ≡ counts_by result (counts (S.faults input.old) (K.faults out.old) (D.faults store.old)) }
     ensures unnamed { LeavesStore (option_copied log.entry) store.old store.new result }

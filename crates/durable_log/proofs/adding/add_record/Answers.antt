@@ -3,7 +3,7 @@ use Rattle.std.specs.Int.{w64, to_be_bytes}
 use Rattle.durable_log.specs.Disk.{Changes, Written}
 use Rattle.durable_log.specs.Records.{body}
 use Rattle.durable_log.specs.code.Ends.{change_by}
-use Rattle.durable_log.proofs.AddSteps.{gate_err, gate_ok, gate_passes, may_from, put_err, put_passes, put_synced, same_passes, settles}
+use Rattle.durable_log.proofs.AddSteps.{gate_adds, gate_err, gate_ok, gate_passes, may_from, put_err, put_passes, put_synced, same_passes, settles}
 use Rattle.durable_log.proofs.Results.{at_err}
 use Rattle.durable_log.proofs.adding.add_record.Goals as goal
 
@@ -60,6 +60,10 @@ returns-clause-settled g c =
 pub returns-clause-ok : goal.returns-clause-ok
 returns-clause-ok g c =
     gate_ok c.args.gate (change_by c.args.kind c.args.name.now c.args.bytes.now) c.requires.kind (omega arith) (omega arith) (g.D.Disk.image c.args.disk.now (g.D.Disk.moment c.args.disk.now)) (g.D.Disk.content c.args.disk.now) (g.D.Disk.content c.put_down.new.disk) (g.D.Disk.content c.sync.new.self) (g.D.Disk.content c.write_at.new.self) (g.D.Disk.content c.sync-2.new.self) c.requires.settled (puts_record (c.args.gate + 1) c.args.kind c.header_of-header.result c.args.name.now c.args.bytes.now (g.D.Disk.content c.args.disk.now) (g.D.Disk.content c.put_down.new.disk) c.header_of-header.ensures c.in_ok-end.ensures.ok) c.sync.ensures.kept c.in_ok-write_at.ensures.ok c.sync-2.ensures.kept
+
+pub returns-clause-adds : goal.returns-clause-adds
+returns-clause-adds g c =
+    gate_adds c.args.gate (change_by c.args.kind c.args.name.now c.args.bytes.now) c.requires.kind (omega arith) (omega arith) (g.D.Disk.image c.args.disk.now (g.D.Disk.moment c.args.disk.now)) (g.D.Disk.content c.args.disk.now) (g.D.Disk.content c.put_down.new.disk) (g.D.Disk.content c.sync.new.self) (g.D.Disk.content c.write_at.new.self) (g.D.Disk.content c.sync-2.new.self) c.requires.settled (puts_record (c.args.gate + 1) c.args.kind c.header_of-header.result c.args.name.now c.args.bytes.now (g.D.Disk.content c.args.disk.now) (g.D.Disk.content c.put_down.new.disk) c.header_of-header.ensures c.in_ok-end.ensures.ok) c.sync.ensures.kept c.in_ok-write_at.ensures.ok c.sync-2.ensures.kept
 
 pub returns-clause-images : goal.returns-clause-images
 returns-clause-images g c =

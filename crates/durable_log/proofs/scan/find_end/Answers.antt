@@ -1,6 +1,6 @@
 use Rattle.std.proofs.Common.{◌≡◌, ℕ, ◌+◌, ◌≤◌, List, drop, Option, None, Some, IfSome, sym, ◌∙◌, ap, subst}
 use Rattle.durable_log.specs.declared.scan.RecordHeader.{RecordHeader}
-use Rattle.durable_log.specs.code.Ends.{IsFront}
+use Rattle.durable_log.specs.Ends.{IsFront}
 use Rattle.durable_log.specs.code.Headers.{header_len, whole_header}
 use Rattle.durable_log.proofs.Fronts.{front_more}
 use Rattle.durable_log.proofs.Headers.{whole_some}

@@ -1,6 +1,6 @@
 use Rattle.std.proofs.Common.{◌≡◌, ◌-◌, ◌≤◌, ◌^◌, length, IfSome}
 use Rattle.durable_log.specs.Disk.{Passes, Same}
-use Rattle.durable_log.specs.code.Ends.{IsFront}
+use Rattle.durable_log.specs.Ends.{IsFront}
 use Rattle.durable_log.proofs.scan.find_end.Given as goal
 
 abbrev pub invariant-loop-header : goal.invariant-loop-header

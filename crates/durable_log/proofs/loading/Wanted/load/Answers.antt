@@ -1,6 +1,6 @@
 use Rattle.std.proofs.Common.{◌≡◌, ◌+◌, ◌≤◌, List, ℕ, Option, IfSome, arith, drop, subst, sym, ◌∙◌}
 use Rattle.durable_log.specs.declared.scan.RecordHeader.{RecordHeader}
-use Rattle.durable_log.specs.code.Ends.{IsFront}
+use Rattle.durable_log.specs.Ends.{IsFront}
 use Rattle.durable_log.specs.code.Headers.{header_len, whole_header}
 use Rattle.durable_log.specs.code.Loads.{size_of}
 use Rattle.durable_log.proofs.LoadSteps.{LoadedSoFar, front_begins, load_begins, load_ends, load_goes_on}

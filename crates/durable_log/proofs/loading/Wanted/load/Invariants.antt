@@ -1,6 +1,6 @@
 use Rattle.std.proofs.Common.{◌≡◌, ◌-◌, ◌≤◌, ◌^◌, length, IfSome}
 use Rattle.durable_log.specs.Disk.{Passes, Same}
-use Rattle.durable_log.specs.code.Ends.{IsFront}
+use Rattle.durable_log.specs.Ends.{IsFront}
 use Rattle.durable_log.specs.code.Loads.{FitsLimit, size_of}
 use Rattle.durable_log.proofs.LoadSteps.{LoadedSoFar}
 use Rattle.durable_log.proofs.loading.Wanted.load.Given as goal

@@ -26,3 +26,6 @@ pub returns-in_err-said-clause-left : goal.returns-in_err-said-clause-left
 returns-in_err-said-clause-left g c =
     let all = subst (λ (s : SessionState). AllFollow s.log s.followers) c.self.view_is c.self.invariant.2 in
     at_fault _ c.from_residual.result fault.Memory c.from_residual.ensures.1 (stops_unread c.args.self.now c.args.line.now all)
+
+pub returns-clause-crash : goal.returns-clause-crash
+returns-clause-crash g c = rw (← reply-said c.args.self.now c.args.line.now c.in_ok-said.said c.in_ok-said.ensures.meaning) c.answer.ensures.crash

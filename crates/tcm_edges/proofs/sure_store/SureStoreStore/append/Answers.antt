@@ -1,6 +1,7 @@
-use Rattle.std.proofs.Common.{ap, ◌∙◌}
+use Rattle.std.proofs.Common.{ap, refl, ◌∙◌}
 use Rattle.tcm_edges.specs.Files.{file_of}
 use Rattle.tcm_edges.proofs.FileLemmas.{file_of-put, file_of-put_other}
+use Rattle.tcm_edges.proofs.ShownLemmas.{append_made, append_same}
 use Rattle.tcm_edges.proofs.sure_store.SureStoreStore.append.Goals as goal
 
 pub returns-clause-ok : goal.returns-clause-ok
@@ -11,3 +12,9 @@ returns-clause-ok c =
 pub returns-clause-others : goal.returns-clause-others
 returns-clause-others c = λ other apart.
     ap (λ all. file_of all other) c.in_ok-extend.ensures.ok ∙ file_of-put_other c.args.self.now c.args.name.now _ other apart
+
+pub returns-in_err-extend-clause-crash : goal.returns-in_err-extend-clause-crash
+returns-in_err-extend-clause-crash c = append_same c.args.self.now c.args.self.now c.extend.new.self c.args.name.now c.args.bytes.now refl c.in_err-extend.ensures.err c.from_residual.result
+
+pub returns-clause-crash : goal.returns-clause-crash
+returns-clause-crash c = append_made c.args.self.now c.args.self.now c.extend.new.self c.args.name.now c.args.bytes.now refl c.in_ok-extend.ensures.ok

@@ -1,21 +1,28 @@
 use Rattle.std.proofs.Common.{◌≡◌, ◌++◌, ◌∙◌, refl}
+use Rattle.tcm_edges.proofs.ShownLemmas.{left_after, left_only}
 use Rattle.tcm_session.specs.code.Runs.{kept_of}
 use Rattle.tcm_session.proofs.inputs.PieceLoop.{Feeds-begin, Feeds-end, Feeds-line, Feeds-part, Feeds-stop}
-use Rattle.tcm_session.proofs.runs.StopLemmas.{on_fault}
+use Rattle.tcm_session.proofs.runs.StopLemmas.{Stopped-told, on_fault}
 use Rattle.tcm_session.proofs.scripts.answering.feed.Goals as goal
 
 pub loop-line-init : goal.loop-line-init
-loop-line-init g c = record { feeds = Feeds-begin _ _ _ c.requires.begun; counted = refl; unnamed = λ _. refl }
+loop-line-init g c = record { feeds = Feeds-begin _ _ _ c.requires.begun; counted = refl; unnamed = λ _. refl; stays = λ only. only }
 
 pub returns-in_err-keep_begun-clause-stopped : goal.returns-in_err-keep_begun-clause-stopped
-returns-in_err-keep_begun-clause-stopped g c = on_fault _ c.from_residual.result (Feeds-stop _ _ _ _ _ c.loop-line.invariant.feeds)
+returns-in_err-keep_begun-clause-stopped g c =
+    on_fault _ c.from_residual.result
+    (λ left may.
+    Stopped-told _ _ _ _ _ _ left (left_only g.D.Store.files g.D.Store.shows c.args.store.now c.loop-line.store left c.loop-line.invariant.stays may)
+    (Feeds-stop _ _ _ _ _ c.loop-line.invariant.feeds))
 
 pub returns-in_err-answer_line-clause-stopped : goal.returns-in_err-answer_line-clause-stopped
 returns-in_err-answer_line-clause-stopped g c =
     let kept : c.as_slice.result.now ≡ kept_of (c.loop-line.begun.items ++ c.in-Some.line.now) = c.as_slice.ensures.value ∙ c.in_ok-keep_begun.ensures.ok in
-    let stopped = rw kept at c.in_err-answer_line.ensures.stopped in
     on_fault _ c.from_residual-in_err-answer_line.result
-    (Feeds-part _ _ _ _ _ _ c.in-Some.more.now c.loop-line.invariant.feeds c.in-Some.ensures.some.1 c.in-Some.ensures.some.0 _ _ stopped)
+    (λ left may.
+    let later = left_after g.D.Store.files g.D.Store.shows c.loop-line.store c.answer_line.new.store left c.args.store.now c.loop-line.invariant.stays may in
+    let stopped = rw kept at (c.in_err-answer_line.ensures.stopped left later) in
+    Feeds-part _ _ _ _ _ _ c.in-Some.more.now c.loop-line.invariant.feeds c.in-Some.ensures.some.1 c.in-Some.ensures.some.0 _ left stopped)
 
 pub loop-line-preserved : goal.loop-line-preserved
 loop-line-preserved g c =
@@ -27,10 +34,18 @@ loop-line-preserved g c =
       feeds = Feeds-line _ _ _ _ _ _ c.in-Some.more.now c.loop-line.invariant.feeds c.in-Some.ensures.some.1 c.in-Some.ensures.some.0 _ c.clear.ensures.items wrote next gained;
       counted = c.in_ok-answer_line.ensures.writes.cause ∙ c.loop-line.invariant.counted;
       unnamed = λ none. (c.answer_line.ensures.unnamed none).0 ∙ c.loop-line.invariant.unnamed none;
+      stays = λ only. c.in_ok-answer_line.ensures.stays (c.loop-line.invariant.stays only);
     }
 
 pub returns-in_err-keep_begun-2-clause-stopped : goal.returns-in_err-keep_begun-2-clause-stopped
-returns-in_err-keep_begun-2-clause-stopped g c = on_fault _ c.from_residual-in_err-keep_begun-2.result (Feeds-stop _ _ _ _ _ c.loop-line.invariant.feeds)
+returns-in_err-keep_begun-2-clause-stopped g c =
+    on_fault _ c.from_residual-in_err-keep_begun-2.result
+    (λ left may.
+    Stopped-told _ _ _ _ _ _ left (left_only g.D.Store.files g.D.Store.shows c.args.store.now c.loop-line.store left c.loop-line.invariant.stays may)
+    (Feeds-stop _ _ _ _ _ c.loop-line.invariant.feeds))
 
 pub returns-clause-ok : goal.returns-clause-ok
 returns-clause-ok g c = Feeds-end _ _ _ _ _ _ c.loop-line.invariant.feeds c.in_default.ensures.none c.in_ok-keep_begun-2.ensures.ok
+
+pub returns-clause-stays : goal.returns-clause-stays
+returns-clause-stays g c = c.loop-line.invariant.stays

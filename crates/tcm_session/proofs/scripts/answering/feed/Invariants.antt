@@ -1,5 +1,6 @@
 use Rattle.std.proofs.Common.{◌≡◌, length, None}
 use Rattle.std.specs.Option.{option_copied}
+use Rattle.tcm_edges.specs.Shown.{StaysOnly}
 use Rattle.tcm_session.specs.Counts.{counts}
 use Rattle.tcm_session.specs.code.Runs.{standing}
 use Rattle.tcm_session.proofs.inputs.PieceLoop.{Feeds}
@@ -14,6 +15,7 @@ invariant-loop-line g l =
           (standing l.session l.begun.items (written l.out) (files l.store)) l.rest;
       counted : counts 0 (g.K.Sink.faults l.out) (g.D.Store.faults l.store) ≡ counts 0 (g.K.Sink.faults l.initial.out) (g.D.Store.faults l.initial.store);
       unnamed : option_copied l.log ≡ None → l.store ≡ l.initial.store;
+      stays : StaysOnly g.D.Store.files g.D.Store.shows l.initial.store l.store;
     }
 
 abbrev pub decreases-loop-line : goal.decreases-loop-line

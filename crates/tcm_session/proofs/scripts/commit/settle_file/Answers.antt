@@ -1,4 +1,5 @@
 use Rattle.std.proofs.Common.{OnErr, OnOk, subst, sym, ◌∙◌}
+use Rattle.tcm_edges.specs.Shown.{EachLeft}
 use Rattle.tcm_session.specs.code.Loading.{IsKeptOrWritten, IsWritten}
 use Rattle.tcm_session.proofs.log_files.BaseLemmas.{base_all, base_cut, base_header, file_some, open_within}
 use Rattle.tcm_session.proofs.log_files.HeldFiles.{written_already}
@@ -15,7 +16,7 @@ returns-then-size-eq0-clause-settled g c =
 pub returns-then-size-eq0-clause-stopped : goal.returns-then-size-eq0-clause-stopped
 returns-then-size-eq0-clause-stopped g c =
     let none = rw (c.as_slice-bytes.ensures, c.requires.tail) at c.if-size-eq0.true in
-    subst (λ t. OnErr c.write_file.result (IsKeptOrWritten c.args.log.now.name.now t (g.D.Store.files c.args.store.now) (g.D.Store.files c.write_file.new.store))) (c.as_slice.ensures ∙ c.in_ok-header.ensures ∙ sym (base_header c.args.log.now.cluster c.args.file none)) c.write_file.ensures.stopped
+    subst (λ t. OnErr c.write_file.result (EachLeft g.D.Store.files g.D.Store.shows c.args.store.now c.write_file.new.store (λ left. IsKeptOrWritten c.args.log.now.name.now t (g.D.Store.files c.args.store.now) left))) (c.as_slice.ensures ∙ c.in_ok-header.ensures ∙ sym (base_header c.args.log.now.cluster c.args.file none)) c.write_file.ensures.stopped
 
 pub returns-then-tail-eq0-clause-settled : goal.returns-then-tail-eq0-clause-settled
 returns-then-tail-eq0-clause-settled g c =
@@ -31,4 +32,4 @@ returns-clause-settled g c =
 pub returns-clause-stopped : goal.returns-clause-stopped
 returns-clause-stopped g c =
     let some = rw (c.as_slice-bytes.ensures, c.requires.tail) at c.if-size-eq0.false in
-    subst (λ t. OnErr c.write_file-2.result (IsKeptOrWritten c.args.log.now.name.now t (g.D.Store.files c.args.store.now) (g.D.Store.files c.write_file-2.new.store))) (base_cut c.args.log.now.cluster c.args.file some) (rw (c.as_slice-bytes.ensures, c.requires.tail) at c.write_file-2.ensures.stopped)
+    subst (λ t. OnErr c.write_file-2.result (EachLeft g.D.Store.files g.D.Store.shows c.args.store.now c.write_file-2.new.store (λ left. IsKeptOrWritten c.args.log.now.name.now t (g.D.Store.files c.args.store.now) left))) (base_cut c.args.log.now.cluster c.args.file some) (rw (c.as_slice-bytes.ensures, c.requires.tail) at c.write_file-2.ensures.stopped)

@@ -1,9 +1,10 @@
 use Rattle.std.proofs.Common.{◌+◌, ◌≤◌, length-take, refl, arith, ◌∙◌}
 use Rattle.std.proofs.KnownBytes.{Keeps-refl}
+use Rattle.tcm_edges.proofs.ShownLemmas.{left_after, left_only, left_same}
 use Rattle.tcm_session.specs.Outcome.{input_limit}
 use Rattle.tcm_session.proofs.runs.RunCauses.{counts_passed}
 use Rattle.script_session.proofs.AnswersLemmas.{at_fault}
-use Rattle.tcm_session.proofs.inputs.ReadLemmas.{ReadsSoFar-begun, ReadsSoFar-more, ReadsSoFar-none, ReadsSoFar-none_more, ReadsSoFar-stop, ReadsTo-end, StopsAt-none}
+use Rattle.tcm_session.proofs.inputs.ReadLemmas.{ReadsSoFar-begun, ReadsSoFar-more, ReadsSoFar-none, ReadsSoFar-none_more, ReadsSoFar-stop, ReadsTo-end, StopsAt-none, StopsAt-told}
 use Rattle.tcm_session.proofs.scripts.pieces.read_script.Goals as goal
 
 pub loop-taken-init : goal.loop-taken-init
@@ -14,6 +15,7 @@ loop-taken-init g c =
       buffer = c.in_ok-buffer.ensures.len;
       counted = refl;
       unnamed = λ _. refl;
+      stays = λ only. only;
     }
 
 pub read_piece-requires-clause-begun : goal.read_piece-requires-clause-begun
@@ -21,13 +23,18 @@ read_piece-requires-clause-begun g c = ReadsSoFar-begun _ _ _ _ _ _ c.loop-taken
 
 pub returns-in_err-buffer-clause-err : goal.returns-in_err-buffer-clause-err
 returns-in_err-buffer-clause-err g c =
-    at_fault _ c.from_residual.result _ c.from_residual.ensures.1 (StopsAt-none _ _ _ _ _ _ (Keeps-refl (g.S.Source.left c.args.input.now)) c.requires.begun)
+    at_fault _ c.from_residual.result _ c.from_residual.ensures.1
+    (λ left may.
+    StopsAt-told _ _ _ _ _ _ _ _ left (left_same g.D.Store.files g.D.Store.shows c.args.store.now c.args.store.now left refl may)
+    (StopsAt-none _ _ _ _ _ _ (Keeps-refl (g.S.Source.left c.args.input.now)) c.requires.begun))
 
 pub returns-in_err-count-clause-err : goal.returns-in_err-count-clause-err
 returns-in_err-count-clause-err g c =
     at_fault _ c.from_residual-in_err-count.result _ c.from_residual-in_err-count.ensures.1
-    (ReadsSoFar-stop _ _ _ _ _ _ c.loop-taken.invariant.reads _ _ input_limit _ _ _
-    (omega (arith, length-take c.min-room.result c.deref_mut.result.now, c.min-room.ensures, c.loop-taken.invariant.limit)) c.in_err-count.ensures.err)
+    (λ left may.
+    let later = left_after g.D.Store.files g.D.Store.shows c.loop-taken.store c.read_piece.new.store left c.args.store.now c.loop-taken.invariant.stays may in
+    ReadsSoFar-stop _ _ _ _ _ _ c.loop-taken.invariant.reads _ _ input_limit _ _ left
+    (omega (arith, length-take c.min-room.result c.deref_mut.result.now, c.min-room.ensures, c.loop-taken.invariant.limit)) (c.in_err-count.ensures.err left later))
 
 pub returns-in_err-count-clause-cause : goal.returns-in_err-count-clause-cause
 returns-in_err-count-clause-cause g c =
@@ -48,9 +55,18 @@ loop-taken-preserved g c =
       buffer = c.loop-taken.invariant.buffer;
       counted = c.in_ok-count.ensures.cause ∙ c.loop-taken.invariant.counted;
       unnamed = λ none. (c.in_ok-count.ensures.unnamed none).0 ∙ c.loop-taken.invariant.unnamed none;
+      stays = λ only. c.in_ok-count.ensures.stays (c.loop-taken.invariant.stays only);
     }
 
 pub returns-in_err-ending-clause-err : goal.returns-in_err-ending-clause-err
 returns-in_err-ending-clause-err g c =
     at_fault _ c.from_residual-in_err-ending.result _ c.from_residual-in_err-ending.ensures.1
-    (ReadsSoFar-none_more _ _ _ _ _ _ c.loop-taken.invariant.reads _ input_limit _ c.loop-taken.invariant.limit c.in_err-ending.ensures.err)
+    (λ left may.
+    StopsAt-told _ _ _ _ _ _ _ _ left (left_only g.D.Store.files g.D.Store.shows c.args.store.now c.loop-taken.store left c.loop-taken.invariant.stays may)
+    (ReadsSoFar-none_more _ _ _ _ _ _ c.loop-taken.invariant.reads _ input_limit _ c.loop-taken.invariant.limit c.in_err-ending.ensures.err))
+
+pub returns-then-count-eq0-clause-stays : goal.returns-then-count-eq0-clause-stays
+returns-then-count-eq0-clause-stays g c = λ only. c.in_ok-count.ensures.stays (c.loop-taken.invariant.stays only)
+
+pub returns-clause-stays : goal.returns-clause-stays
+returns-clause-stays g c = c.loop-taken.invariant.stays

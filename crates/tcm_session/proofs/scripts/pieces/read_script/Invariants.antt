@@ -1,5 +1,6 @@
 use Rattle.std.proofs.Common.{◌-◌, ◌≡◌, ◌≤◌, None, vec_len}
 use Rattle.std.specs.Option.{option_copied}
+use Rattle.tcm_edges.specs.Shown.{StaysOnly}
 use Rattle.tcm_session.specs.Counts.{counts}
 use Rattle.tcm_session.specs.code.Runs.{standing}
 use Rattle.tcm_session.proofs.inputs.ReadLemmas.{ReadsSoFar}
@@ -19,6 +20,7 @@ invariant-loop-taken g l =
       counted : counts (g.S.Source.faults l.input) (g.K.Sink.faults l.out) (g.D.Store.faults l.store)
           ≡ counts (g.S.Source.faults l.initial.input) (g.K.Sink.faults l.initial.out) (g.D.Store.faults l.initial.store);
       unnamed : option_copied l.log ≡ None → l.store ≡ l.initial.store;
+      stays : StaysOnly g.D.Store.files g.D.Store.shows l.initial.store l.store;
     }
 
 abbrev pub decreases-loop-taken : goal.decreases-loop-taken
