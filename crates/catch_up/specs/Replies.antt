@@ -11,7 +11,7 @@ abbrev pub image_epoch : ℕ → ℕ
 image_epoch last = last - last % 256
 
 -- the epoch of a reply's image: the last multiple of 256, if it is above the epoch asked from, and more than `max` entries
--- come after that epoch
+-- come after the epoch asked from
 abbrev pub base_epoch : ℕ → ℕ → ℕ → Option ℕ
 base_epoch last since max =
     if nat_lt max (last - since) && nat_lt since (image_epoch last) then Some (image_epoch last) else None

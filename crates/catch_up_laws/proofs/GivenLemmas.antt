@@ -11,7 +11,7 @@ use Rattle.transformations.specs.declared.image.Image.{Image}
 use Rattle.catch_up.specs.Replies.{end_epoch, start_epoch}
 use Rattle.catch_up.specs.declared.message.Reply.{Reply}
 use Rattle.follower_log.proofs.ShowsLemmas.{numbers_after}
-use Rattle.follower_log.proofs.StepsCutShort.{entry_from, image_from}
+use Rattle.follower_log.proofs.StepsCutShort.{entry_from, valid_from}
 use Rattle.follower_log.specs.Follower.{FollowerState, hand_entry}
 use Rattle.follower_log.specs.Prefix.{IsImageOf}
 use Rattle.catch_up_laws.proofs.ReadySteps.{entry_old, entry_ready, image_old, image_ready, ready_to}
@@ -70,7 +70,7 @@ start_ready log since (Some image) f is of ready = image_ready log since image f
 start_old : (log : List Entry) (since : ℕ) (o : Option Image) (f : FollowerState) → IsLog log → IfSome o (IsImageOf log) → option_map_or (λ (image : Image). image.epoch) o since ≤ f.image.epoch
     → given_image f o ≡ f
 start_old log since None f is of past = refl
-start_old log since (Some image) f is of past = image_old log f image is of past
+start_old log since (Some image) f is of past = image_old f image past
 
 -- ---- a reply
 
@@ -81,7 +81,7 @@ entries_rise f (entry ∷ entries) = omega (arith, (entry_from f entry).up, entr
 
 pub image_rises : (f : FollowerState) (o : Option Image) → f.image.epoch ≤ (given_image f o).image.epoch
 image_rises f None = omega arith
-image_rises f (Some image) = (image_from f image).up
+image_rises f (Some image) = (valid_from f image).up
 
 pub reply_rises : (f : FollowerState) (reply : Reply) → f.image.epoch ≤ (given_reply f reply).image.epoch
 reply_rises f reply = omega (arith, image_rises f reply.image, entries_rise (given_image f reply.image) reply.entries)

@@ -3,19 +3,15 @@ use Rattle.std.proofs.Common.{◌≡◌, ℕ, ◌+◌, ◌<◌, ◌≤◌, Bool,
 use Rattle.std.proofs.lemmas.Bool.Decides.{nat_tests}
 use Rattle.std.specs.List.{Contains}
 use Rattle.cluster_terms.specs.Ascending.{put}
-use Rattle.transformation_laws.proofs.images.ValidLaws.{valid_to}
-use Rattle.transformations.proofs.histories.HistoryLemmas.{valid_at}
 use Rattle.transformations.specs.History.{next_image}
-use Rattle.transformations.specs.ImageRules.{bad_of}
-use Rattle.transformations.specs.Log.{IsLog, commands_of}
+use Rattle.transformations.specs.Log.{IsLog}
 use Rattle.transformations.specs.Refusals.{refusal_of}
-use Rattle.transformations.specs.Valid.{IsValid}
 use Rattle.transformations.specs.declared.entry.Entry.{Entry}
 use Rattle.transformations.specs.declared.image.Image.{Image}
 use Rattle.transformations.specs.declared.refusal.Refusal.{Refusal}
 use Rattle.follower_log.proofs.AdvanceLemmas.{advanced_on, advanced_refused, advanced_stays}
-use Rattle.follower_log.proofs.ShowsLemmas.{entry_shows, image_shows, prefix_ends}
-use Rattle.follower_log.specs.Follower.{FollowerState, Handed, Performs, advanced, by_epoch, hand_entry, hand_image, is_next, waiting_at}
+use Rattle.follower_log.proofs.ShowsLemmas.{entry_shows, prefix_ends, valid_shows}
+use Rattle.follower_log.specs.Follower.{FollowerState, Handed, Performs, advanced, by_epoch, hand_entry, hand_valid, is_next, waiting_at}
 use Rattle.follower_log.specs.Prefix.{IsImageOf, IsPrefix, Reaches, StandsAfter, StandsFor, Taken, has_entry, with_entry, with_image}
 use Rattle.follower_log.specs.declared.fault.FollowerFault.{FollowerFault}
 use Rattle.follower_log.specs.declared.fault.FollowerFault.TheVariants.{Fork, Refused, BadImage, Memory, MemoryAt}
@@ -78,14 +74,8 @@ ready_to log from to f ready reached = record { taken = ready.taken; stands = re
 pub entry_old : (f : FollowerState) (entry : Entry) → entry.epoch ≤ f.image.epoch → (hand_entry f entry).after ≡ f
 entry_old f entry low = (let is : nat_le entry.epoch f.image.epoch ≡ true = grind (arith, nat_tests, low) in rw is refl)
 
-good_of : (log : List Entry) (image : Image) → IsLog log → IsImageOf log image → bad_of image ≡ None
-good_of log image is of = valid_to image (subst IsValid (sym of.state) (valid_at (commands_of log) image.epoch is.history))
-
-pub image_old : (log : List Entry) (f : FollowerState) (image : Image) → IsLog log → IsImageOf log image → image.epoch ≤ f.image.epoch → (hand_image f image).after ≡ f
-image_old log f image is of low =
-    let good : bad_of image ≡ None = good_of log image is of in
-    let old : nat_le image.epoch f.image.epoch ≡ true = grind (arith, nat_tests, low) in
-    rw (good, old) refl
+pub image_old : (f : FollowerState) (image : Image) → image.epoch ≤ f.image.epoch → (hand_valid f image).after ≡ f
+image_old f image low = (let old : nat_le image.epoch f.image.epoch ≡ true = grind (arith, nat_tests, low) in rw old refl)
 
 -- ---- the next entry
 
@@ -144,15 +134,11 @@ entry_ready log epoch entry f is at there ready = by (nat_le entry.epoch f.image
 
 -- ---- a later image
 
-later_is : (log : List Entry) (f : FollowerState) (image : Image) → IsLog log → IsImageOf log image → f.image.epoch < image.epoch
-    → hand_image f image ≡ advanced image (filter (λ (entry : Entry). nat_lt image.epoch entry.epoch) f.waiting)
-later_is log f image is of past =
-    let good : bad_of image ≡ None = good_of log image is of in
-    let above : nat_le image.epoch f.image.epoch ≡ false = grind (arith, nat_tests, past) in
-    rw (good, above) refl
+later_is : (f : FollowerState) (image : Image) → f.image.epoch < image.epoch → hand_valid f image ≡ advanced image (filter (λ (entry : Entry). nat_lt image.epoch entry.epoch) f.waiting)
+later_is f image past = (let above : nat_le image.epoch f.image.epoch ≡ false = grind (arith, nat_tests, past) in rw above refl)
 
 image_later : (log : List Entry) (f : FollowerState) (taken : Taken) (image : Image) → IsLog log → IsImageOf log image → StandsFor log taken f → f.image.epoch < image.epoch
-    → IsReadyAt log image.epoch (hand_image f image).after
+    → IsReadyAt log image.epoch (hand_valid f image).after
 image_later log f taken image is of stands past = subst (λ (h : Handed). IsReadyAt log image.epoch h.after) (sym goes) (ready_from log more image.epoch step.after is ends ends.0.images.0)
   where
     left : List Entry
@@ -161,22 +147,22 @@ image_later log f taken image is of stands past = subst (λ (h : Handed). IsRead
     step : Handed
     step = advanced image left
 
-    goes : hand_image f image ≡ step
-    goes = later_is log f image is of past
+    goes : hand_valid f image ≡ step
+    goes = later_is f image past
 
     more : Taken
     more = with_image taken image.epoch
 
     ends : StandsFor log more step.after × IsPrefix more step.after.image.epoch
     ends = advance_ends log taken more f image left
-        (λ result comes. image_shows log taken f step.after image result is of stands (subst (λ h. Performs f h result step.after) (sym goes) comes))
+        (λ result comes. valid_shows log taken f step.after image result is of stands (subst (λ h. Performs f h result step.after) (sym goes) comes))
 
 -- an image brings a follower to its epoch
-pub image_ready : (log : List Entry) (epoch : ℕ) (image : Image) (f : FollowerState) → IsLog log → IsImageOf log image → IsReadyAt log epoch f → IsReadyAt log image.epoch (hand_image f image).after
+pub image_ready : (log : List Entry) (epoch : ℕ) (image : Image) (f : FollowerState) → IsLog log → IsImageOf log image → IsReadyAt log epoch f → IsReadyAt log image.epoch (hand_valid f image).after
 image_ready log epoch image f is of ready = by (nat_le image.epoch f.image.epoch) refl
   where
-    by : (old : Bool) → nat_le image.epoch f.image.epoch ≡ old → IsReadyAt log image.epoch (hand_image f image).after
+    by : (old : Bool) → nat_le image.epoch f.image.epoch ≡ old → IsReadyAt log image.epoch (hand_valid f image).after
     by true old =
         let below : image.epoch ≤ f.image.epoch = grind (arith, nat_tests) in
-        subst (IsReadyAt log image.epoch) (sym (image_old log f image is of below)) (ready_to log epoch image.epoch f ready below)
+        subst (IsReadyAt log image.epoch) (sym (image_old f image below)) (ready_to log epoch image.epoch f ready below)
     by false new = image_later log f ready.taken image is of ready.stands (grind (arith, nat_tests))

@@ -53,9 +53,9 @@ use transformations::{Command, Image, KeyspaceRow};
 /// The metadata of a cluster: a valid image, and the movements in flight, each as a value of its phase. Contracts see
 /// it as the image. Beside the image it keeps a directory, a value for each movement and the placement maps.
 ///
-/// Each movement in flight keeps the row and the deltas of its plan. The plan is made when the movement is prepared, and
-/// anew if a keyspace is set or dropped. The deltas are exact in the image as it is: at each token, under each keyspace,
-/// they are the nodes that the movement gains and loses.
+/// Each movement in flight keeps the row and the deltas of its plan. The plan is made when the movement is prepared or
+/// comes with an image, and anew if a keyspace is set or dropped. The deltas are exact in the image as it is: at each
+/// token, under each keyspace, they are the nodes that the movement gains and loses.
 ///
 /// Under each keyspace, a token is in the ranges of at most one movement. The ranges are CEP-21's locked ranges, by a
 /// rule of this project: the tokens whose replicas the movement may change, whatever happens to the other movements.
@@ -497,11 +497,13 @@ impl Metadata {
     }
 
     /// The plan of the movement of a node. Returns `None` if and only if the node has no movement. The plan was made
-    /// when the movement was prepared, or anew when a keyspace was last set or dropped.
+    /// when the movement was prepared or came with an image, or anew when a keyspace was last set or dropped.
     ///
     /// Its row is that of the movement at `Prepared`. Its deltas are exact in the image as it is: at each token, under
-    /// each replication of the keyspaces, they are the nodes that the movement gains and loses. It has neither cuts nor
-    /// ranges: the cuts change with each movement, and `locks` has the ranges.
+    /// each replication of the keyspaces, they are the nodes that the movement gains and loses.
+    ///
+    /// Nothing is told of its cuts, its ranges and `wide`: they may be left out, or be those of an earlier image. The
+    /// ranges in the image as it is are in `locks`, and `transformations::cuts` makes its cuts anew.
     ///
     /// Takes no memory. Cost: a comparison with each movement.
     pub fn plan_of(&self, node: NodeId) -> Option<&Plan>

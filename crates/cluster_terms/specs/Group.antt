@@ -33,20 +33,23 @@ wanted g ns = min g.rf (node_count g ns)
 abbrev pub spare : Group → List ℕ → ℕ
 spare g ns = g.rf - min g.rf (rack_count g ns)
 
--- whether the next node, in this rack, is a replica in a ring with the nodes ns, where the nodes ahead are met before
--- it. Of the group's d nodes ahead in p racks a walk has taken min (p + spare) d: the first of each rack, and up to
--- `spare` further nodes. The node is a replica if more replicas are wanted, and its rack is new or a repeat is left
+-- how many of the group's nodes met so far a walk has taken, in a ring with the nodes ns: the first of each rack, and up
+-- to `spare` further ones
+abbrev pub taken : Group → List ℕ → List ℕ → ℕ
+taken g ns met = min (rack_count g met + spare g ns) (node_count g met)
+
+-- whether the next node, in this rack, is a replica in a ring with the nodes ns, where the nodes `met` come before it:
+-- more replicas are wanted than were taken, and its rack is new, or fewer than `spare` nodes met so far repeat a rack
 unfoldable pub is_chosen_rack : Group → List ℕ → List ℕ → List ℕ → Bool
-is_chosen_rack g ns ahead rack =
-    let d = node_count g ahead in
-    let p = rack_count g ahead in
-    nat_lt (min (p + spare g ns) d) (wanted g ns)
-    && (not (is_member bytes_eq (filter_map g.rack_of ahead) rack) || nat_lt (d - p) (spare g ns))
+is_chosen_rack g ns met rack =
+    let repeats = node_count g met - rack_count g met in
+    nat_lt (taken g ns met) (wanted g ns)
+    && (not (is_member bytes_eq (filter_map g.rack_of met) rack) || nat_lt repeats (spare g ns))
 
 -- the same for a node whose rack may be None; a node outside the group is not chosen
 abbrev pub is_chosen : Group → List ℕ → List ℕ → Option (List ℕ) → Bool
-is_chosen g ns ahead None = false
-is_chosen g ns ahead (Some rack) = is_chosen_rack g ns ahead rack
+is_chosen g ns met None = false
+is_chosen g ns met (Some rack) = is_chosen_rack g ns met rack
 
 -- the pairs that are met clockwise from x before y
 abbrev pub ahead_of : ℤ → ℤ → List Pair → List Pair

@@ -34,10 +34,11 @@ datacenter_of factors dc = find (λ f. bytes_eq f.0 dc) factors
 abbrev pub pending : List ℕ → List ℕ → List ℕ
 pending reads writes = filter (λ n. not (is_member nat_eq reads n)) writes
 
--- the number of replicas that a read needs, and the number that a write needs
+-- the number of replicas that a read needs: a quorum
 abbrev pub read_need : Sets → ℕ
 read_need s = quorum_of s.total
 
+-- the number of replicas that a write needs: a quorum, and one more for each pending replica
 abbrev pub write_need : Sets → ℕ
 write_need s = quorum_of s.total + length (pending s.reads s.writes)
 
@@ -52,10 +53,11 @@ pub record AreSome (needed : ℕ) (nodes : List ℕ) (some : List ℕ) : Type 0 
   pub among : (n : ℕ) → is_member nat_eq some n ≡ true → is_member nat_eq nodes n ≡ true
   pub enough : needed ≤ length some
 
--- each write quorum of `one` has a replica in common with each read quorum of `other`; Meet says this both ways
+-- whether each write quorum of `one` has a replica in common with each read quorum of `other`
 abbrev pub writes_meet_reads : Sets → Sets → Bool
 writes_meet_reads one other = have_common (write_need one) one.writes (read_need other) other.reads
 
+-- the write quorums of `one` meet the read quorums of `other`, and the other way round
 pub record Meet (one other : Sets) : Type 0 where
   pub there : writes_meet_reads one other ≡ true
   pub back : writes_meet_reads other one ≡ true

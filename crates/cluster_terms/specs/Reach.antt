@@ -1,7 +1,7 @@
 -- Reach: the tokens whose placement may change when pairs come or go (CEP-21's locked ranges, by this project's rule).
-use Rattle.std.specs.Prelude.{◌≡◌, ◌+◌, Bool, true, not, ◌&&◌, ◌||◌, nat_lt, ℤ, List, is_some, ◌==◌}
+use Rattle.std.specs.Prelude.{◌≡◌, Bool, true, not, ◌&&◌, ◌||◌, nat_lt, ℤ, List, is_some, ◌==◌}
 use Rattle.std.specs.List.{list_any}
-use Rattle.cluster_terms.specs.Group.{Group, nodes_of, node_count, rack_count, wanted, spare, ahead_of}
+use Rattle.cluster_terms.specs.Group.{Group, nodes_of, wanted, spare, taken, ahead_of}
 use Rattle.cluster_terms.specs.Pair.{has_pair}
 use Rattle.cluster_terms.specs.declared.token.Pair.{Pair}
 
@@ -10,13 +10,10 @@ use Rattle.cluster_terms.specs.declared.token.Pair.{Pair}
 abbrev pub same_shape : Group → List Pair → List Pair → Bool
 same_shape g ps qs = (wanted g (nodes_of ps) == wanted g (nodes_of qs)) && (spare g (nodes_of ps) == spare g (nodes_of qs))
 
--- whether the group's fixed nodes from x clockwise before y leave replicas to find at y or beyond: they are too few, or
--- their racks are
+-- whether a walk from x clockwise leaves replicas to find at y: it takes fewer than are wanted of the group's fixed nodes
+-- that it meets before y
 abbrev pub is_open : Group → List Pair → ℤ → ℤ → Bool
-is_open g fixed x y =
-    let ahead = nodes_of (ahead_of x y fixed) in
-    let m = wanted g (nodes_of fixed) in
-    nat_lt (node_count g ahead) m || nat_lt (rack_count g ahead + spare g (nodes_of fixed)) m
+is_open g fixed x y = nat_lt (taken g (nodes_of fixed) (nodes_of (ahead_of x y fixed))) (wanted g (nodes_of fixed))
 
 -- whether a token y reaches x in a group: always if the group's shape differs between the fixed and the widest pairs,
 -- and otherwise if replicas are left to find at y

@@ -15,10 +15,11 @@ abbrev pub rack_within : List ℕ → Option NodeRow → Option (List ℕ)
 rack_within dc None = None
 rack_within dc (Some row) = if bytes_eq row.dc dc then Some row.rack else None
 
--- the group of all nodes, counted as one rack, and the group of a datacenter's nodes, with their racks
+-- the group of all nodes, counted as one rack
 abbrev pub whole_group : ℕ → Group
 whole_group rf = record { rf = rf; rack_of = λ n. Some [] }
 
+-- the group of a datacenter's nodes, with their racks
 abbrev pub datacenter_group : List NodeRow → List ℕ × ℕ → Group
 datacenter_group nodes f = record { rf = f.1; rack_of = λ n. rack_within f.0 (row_of nodes n) }
 
@@ -38,10 +39,11 @@ abbrev pub IsReplication : Replication → Type 0
 IsReplication (Simple rf) = IsFactor rf
 IsReplication (Topology factors) = IsFactors factors
 
--- whether two replications have the same strategy and the same factors
+-- whether two rows have the same datacenter and the same factor
 abbrev pub same_factor_row : List ℕ × ℕ → List ℕ × ℕ → Bool
 same_factor_row f e = bytes_eq f.0 e.0 && (f.1 == e.1)
 
+-- whether two replications have the same strategy and the same factors
 abbrev pub same_replication : Replication → Replication → Bool
 same_replication (Simple rf) (Simple other) = rf == other
 same_replication (Simple rf) (Topology others) = false

@@ -13,10 +13,11 @@ use Rattle.cluster_terms.specs.declared.replication.Replication.TheVariants.{Sim
 abbrev pub words_of : List ℕ → List (List ℕ)
 words_of text = slice_split (λ byte. byte == 32) text
 
--- DC:RF: a name up to the first colon, and a factor after it
+-- whether a byte is a colon
 abbrev pub is_colon : ℕ → Bool
 is_colon byte = byte == 58
 
+-- DC:RF: a name up to the first colon, and a factor after it
 unfoldable pub factor_row_of : List ℕ → Option (List ℕ × ℕ)
 factor_row_of word =
     let dc = before_first is_colon word in
@@ -47,10 +48,11 @@ replication_of_words (word ∷ words) =
 abbrev pub replication_of : List ℕ → Option Replication
 replication_of text = replication_of_words (words_of text)
 
--- the text of a row, after a space, and that of a replication
+-- the text of a row, after a space
 abbrev pub row_text : List ℕ × ℕ → List ℕ
 row_text row = codes " " ++ row.0 ++ codes ":" ++ decimal row.1
 
+-- the text of a replication
 unfoldable pub text_of : Replication → List ℕ
 text_of (Simple rf) = codes "simple " ++ decimal rf
 text_of (Topology factors) = codes "topology" ++ flat_map row_text factors

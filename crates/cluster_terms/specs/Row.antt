@@ -26,11 +26,12 @@ abbrev pub last_token : RightEnd → ℤ
 last_token (At t) = t
 last_token Max = greatest_token
 
--- whether a token is past a left end, and whether it is within a range
+-- whether a token is past a left end
 abbrev pub is_past : Option ℤ → ℤ → Bool
 is_past None t = true
 is_past (Some left) t = int_lt left t
 
+-- whether a token is within a range
 abbrev pub is_within : ℤ → TokenRange → Bool
 is_within t range = is_past range.left t && int_le t (last_token range.right)
 

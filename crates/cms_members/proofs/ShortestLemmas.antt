@@ -37,10 +37,6 @@ abbrev done : List ℕ → List ℕ → Option ℕ → ℕ
 done to S None = 0
 done to S (Some n) = one_if (has_to_join to S n)
 
-done_at_most : (to S : List ℕ) (o : Option ℕ) → done to S o ≤ 1
-done_at_most to S None = omega arith
-done_at_most to S (Some n) = one_at_most (has_to_join to S n)
-
 done_for : (to S : List ℕ) (o : Option ℕ) (n : ℕ) → has_started o n ≡ true → done to S o ≡ one_if (has_to_join to S n)
 done_for to S None n e = absurd (false≢true e)
 done_for to S (Some m) n e = ap (λ (k : ℕ). one_if (has_to_join to S k)) ((Decides-eqb m n).0 e)

@@ -9,6 +9,6 @@ abbrev pub changes_to_join : ℕ → List Change
 changes_to_join n = Start n ∷ Finish n ∷ []
 
 -- first each node of the second set that is not in the first joins, then each node of the first that is not in the
--- second is removed, both in ascending order
+-- second is removed, both in the order of their set
 abbrev pub route_of : List ℕ → List ℕ → List Change
 route_of from to = flat_map changes_to_join (without to from) ++ map Remove (without from to)

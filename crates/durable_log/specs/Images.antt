@@ -29,7 +29,7 @@ StandsEither change content image = IfSome content (λ bytes. (c : List ℕ) →
 abbrev pub ClosesGate : List ℕ → List ℕ → Type 0
 ClosesGate old new = (place : ℕ) × ClosesAt place old new
 
--- a crash may leave these files: those of the content, if the disk tells it, or those of an image
+-- if the disk tells its content, a crash may leave these files: those of the content, or those of an image; else none
 abbrev pub Shows : Option (List ℕ) → (List ℕ → Type 0) → Files → Type 0
 Shows None image f = ⊥
 Shows (Some bytes) image f = (c : List ℕ) × ((c ≡ bytes) ⊎ image c) × (f ≡ files c)

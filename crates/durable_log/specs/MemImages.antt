@@ -4,7 +4,7 @@ use Rattle.durable_log.specs.Disk.{Torn}
 use Rattle.durable_log.specs.declared.mem_disk.Done.{Done}
 use Rattle.durable_log.specs.declared.mem_disk.Done.TheVariants.{Wrote, Synced}
 
--- what a crash may leave after these steps, the last of them first: a write may be cut short, and after a sync the image
+-- what a crash may leave after these steps, the last of them first: a write may be torn, and after a sync the image
 -- is the content
 abbrev pub LeavesAfter : List ℕ → List Done → List ℕ → Type 0
 LeavesAfter first [] c = c ≡ first

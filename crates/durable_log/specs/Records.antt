@@ -34,12 +34,14 @@ change_of bytes = record {
   bytes = take (number_at 10 bytes) (drop (18 + number_at 2 bytes) bytes);
 }
 
--- the whole records that follow each other behind the first n bytes, up to the first that isn't whole
+-- the whole records that follow each other behind the first n bytes, up to the first that isn't whole; the n bytes are
+-- what is left of the record before
 abbrev pub records_past : ℕ → List ℕ → List Change
 records_past n [] = []
 records_past (suc n) (b ∷ rest) = records_past n rest
 records_past zero (b ∷ rest) = if is_whole (b ∷ rest) then change_of (b ∷ rest) ∷ records_past (record_len (b ∷ rest) - 1) rest else []
 
+-- the records of an image: whole ones from its front on
 abbrev pub records : List ℕ → List Change
 records image = records_past 0 image
 
@@ -56,9 +58,10 @@ changed_all all (change ∷ more) = changed_all (changed all change) more
 abbrev pub files : List ℕ → Files
 files image = changed_all map.empty (records image)
 
--- the change by an append, and by a replace
+-- the change by an append
 abbrev pub appending : List ℕ → List ℕ → Change
 appending name bytes = record { kind = 0; name = name; bytes = bytes }
 
+-- the change by a replace
 abbrev pub replacing : List ℕ → List ℕ → Change
 replacing name bytes = record { kind = 1; name = name; bytes = bytes }

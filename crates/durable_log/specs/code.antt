@@ -1,4 +1,4 @@
--- Of the code: private contracts cite these definitions, and no promise rests on them.
+-- Of the code: how values are kept and changed. No clause of `run` reaches these definitions.
 pub mod Ends
 pub mod Headers
 pub mod Loads

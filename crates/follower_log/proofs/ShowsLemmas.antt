@@ -221,7 +221,7 @@ advance_shows log taken f g result is stands comes =
     (subst (λ i. Performs f (advanced i (among (has_entry taken) (drop f.image.epoch log))) result g) stands.image (subst (λ w. Performs f (advanced f.image w) result g) stands.waiting comes))
 
 -- a valid image of the log is handed over
-valid_shows : (log : List Entry) (taken : Taken) (f g : FollowerState) (image : Image) (result : Result Took FollowerFault) → IsLog log → IsImageOf log image → StandsFor log taken f
+pub valid_shows : (log : List Entry) (taken : Taken) (f g : FollowerState) (image : Image) (result : Result Took FollowerFault) → IsLog log → IsImageOf log image → StandsFor log taken f
     → Performs f (hand_valid f image) result g → StandsAfter log taken (with_image taken image.epoch) result g
 valid_shows log taken f g image result is of stands comes = by (nat_le image.epoch f.image.epoch) refl
   where
@@ -262,11 +262,15 @@ valid_shows log taken f g image result is of stands comes = by (nat_le image.epo
         (subst (λ i. Performs f (advanced i (among (has_entry taken) (drop b log))) result g) of.state (subst (λ w. Performs f (advanced image w) result g) left step))
 
 -- an image of the log is valid, so it is taken as such
+pub as_valid : (log : List Entry) (f : FollowerState) (image : Image) → IsLog log → IsImageOf log image → hand_image f image ≡ hand_valid f image
+as_valid log f image is of =
+    let good : bad_of image ≡ None = valid_to image (subst IsValid (sym of.state) (valid_at (commands_of log) image.epoch is.history)) in
+    ap (λ bad. unless_bad bad f (hand_valid f image)) good
+
 pub image_shows : (log : List Entry) (taken : Taken) (f g : FollowerState) (image : Image) (result : Result Took FollowerFault) → IsLog log → IsImageOf log image → StandsFor log taken f
     → Performs f (hand_image f image) result g → StandsAfter log taken (with_image taken image.epoch) result g
 image_shows log taken f g image result is of stands comes =
-    let good : bad_of image ≡ None = valid_to image (subst IsValid (sym of.state) (valid_at (commands_of log) image.epoch is.history)) in
-    valid_shows log taken f g image result is of stands (subst (λ bad. Performs f (unless_bad bad f (hand_valid f image)) result g) good comes)
+    valid_shows log taken f g image result is of stands (subst (λ (h : Handed). Performs f h result g) (as_valid log f image is of) comes)
 
 -- an entry of the log is handed over
 pub entry_shows : (log : List Entry) (taken : Taken) (f g : FollowerState) (entry : Entry) (result : Result Took FollowerFault) → IsLog log → Contains log entry → StandsFor log taken f

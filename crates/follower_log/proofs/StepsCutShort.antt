@@ -70,7 +70,7 @@ entry_from f entry = by (nat_le entry.epoch f.image.epoch) refl (waiting_at f.wa
     by false e None is true many = rw (e, is, many) (stays_from same f (Ok (Full same)) (omega arith))
     by false e None is false many = rw (e, is, many) (advanced_from f.image (put by_epoch entry f.waiting))
 
-valid_from : (f : FollowerState) (image : Image) → CutsFrom f.image.epoch (hand_valid f image)
+pub valid_from : (f : FollowerState) (image : Image) → CutsFrom f.image.epoch (hand_valid f image)
 valid_from f image = by (nat_le image.epoch f.image.epoch) refl
   where
     by : (low : Bool) → nat_le image.epoch f.image.epoch ≡ low → CutsFrom f.image.epoch (hand_valid f image)

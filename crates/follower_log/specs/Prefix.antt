@@ -17,13 +17,15 @@ pub record Taken : Type 0 where
   pub entries : List ℕ
   pub images : List ℕ
 
--- nothing; one entry more; one image more
+-- nothing was taken
 abbrev pub nothing_taken : Taken
 nothing_taken = record { entries = []; images = [] }
 
+-- the entry of this epoch was taken, too
 abbrev pub with_entry : Taken → ℕ → Taken
 with_entry taken epoch = record taken { entries = epoch ∷ taken.entries }
 
+-- the image of this epoch was taken, too
 abbrev pub with_image : Taken → ℕ → Taken
 with_image taken epoch = record taken { images = epoch ∷ taken.images }
 
@@ -57,10 +59,11 @@ pub record StandsFor (log : List Entry) (taken : Taken) (follower : FollowerStat
   pub reached : Reaches taken follower.image.epoch
   pub waiting : follower.waiting ≡ filter (λ entry. has_entry taken entry.epoch) (drop follower.image.epoch log)
 
--- an entry is the log's of its epoch; and an image is the state of the log at its epoch
+-- an entry is the log's of its epoch
 abbrev pub IsEntryOf : List Entry → Entry → Type 0
 IsEntryOf log entry = Contains log entry
 
+-- an image is the state of the log at its epoch
 pub record IsImageOf (log : List Entry) (image : Image) : Type 0 where
   pub within : image.epoch ≤ length log
   pub state : image ≡ state_after (commands_of log) image.epoch

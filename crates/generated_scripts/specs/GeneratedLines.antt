@@ -5,10 +5,11 @@ use Rattle.script_session.specs.Machine.{SessionState, session_after, session_ov
 
 -- ---- draws
 
--- the number that is drawn after another one, and the token of a number
+-- the number that is drawn after another one
 abbrev pub drawn : ℕ → ℕ
 drawn s = (s * 1103515245 + 12345) % 2 ^ 31
 
+-- the token of a drawn number
 abbrev pub drawn_token : ℕ → ℤ
 drawn_token s = pos (s * 8000000000) -ℤ pos 8589934592000000000
 
@@ -18,15 +19,16 @@ drawn_token s = pos (s * 8000000000) -ℤ pos 8589934592000000000
 abbrev pub commit_line : ℕ → List ℕ → List ℕ
 commit_line id command = codes "commit " ++ decimal id ++ codes " " ++ command
 
--- the commands: the register of a node, named by a letter and a number, in a datacenter and a rack; a word on a node;
--- and a word on a node and a token
+-- the command that registers a node, named by a letter and a number, in a datacenter and a rack
 abbrev pub register_words : List ℕ → ℕ → ℕ → ℕ → List ℕ
 register_words letter number dc rack =
     codes "register " ++ letter ++ decimal number ++ codes " dc" ++ decimal dc ++ codes " r" ++ decimal rack
 
+-- the command with this word and this node
 abbrev pub on_node : List ℕ → ℕ → List ℕ
 on_node word node = word ++ codes " " ++ decimal node
 
+-- the command with this word, this node and this token
 abbrev pub with_token : List ℕ → ℕ → ℤ → List ℕ
 with_token word node token = on_node word node ++ codes " " ++ signed_decimal token
 
@@ -34,7 +36,7 @@ with_token word node token = on_node word node ++ codes " " ++ signed_decimal to
 abbrev pub deliver_line : ℕ → List ℕ
 deliver_line epoch = codes "deliver f " ++ decimal epoch
 
--- it is handed the entries of the `count` epochs after an epoch, from the last one down to the first
+-- follower f is handed the entries of the `count` epochs after an epoch, from the last one down to the first
 unfoldable pub delivers : ℕ → ℕ → List (List ℕ)
 delivers epoch zero = []
 delivers epoch (suc count) = deliver_line (epoch + suc count) ∷ delivers epoch count
@@ -46,20 +48,23 @@ abbrev pub each : (ℕ → List ℕ) → ℕ → ℕ → List (List ℕ)
 each line number zero = []
 each line number (suc count) = line number ∷ each line (number + 1) count
 
--- node i is registered, and joins with one token
+-- node i is registered
 abbrev pub register_line : ℕ → List ℕ
 register_line i = commit_line i (register_words (codes "n") i (2 - i % 2) ((i - 1) / 2 % 3 + 1))
 
+-- the token with which node i joins
 abbrev pub opening_token : ℕ → ℤ
 opening_token i = pos ((i - 1) * 700000000000000000) -ℤ pos 8000000000000000000
 
+-- node i joins with its token
 abbrev pub join_line : ℕ → List ℕ
 join_line i = commit_line (24 + i) (with_token (codes "unsafe-join") i (opening_token i))
 
--- the nodes 1 to `count` are registered, and join
+-- the nodes 1 to `count` are registered
 unfoldable pub register_lines : ℕ → List (List ℕ)
 register_lines count = each register_line 1 count
 
+-- the nodes 1 to `count` join
 unfoldable pub join_lines : ℕ → List (List ℕ)
 join_lines count = each join_line 1 count
 
@@ -69,12 +74,14 @@ keyspace_lines =
     codes "commit 49 keyspace ks simple 3" ∷ codes "commit 50 keyspace kt topology dc1:2 dc2:2"
     ∷ codes "follower f" ∷ []
 
+-- 24 nodes are registered and join, the keyspaces and the follower are made, and it is handed the 50 entries, from the
+-- last one down to the first
 unfoldable pub opening_lines : List (List ℕ)
 opening_lines = register_lines 24 ++ join_lines 24 ++ keyspace_lines ++ delivers 0 50
 
 -- ---- a round
 
--- the words of the steps in which a node joins and leaves again, once its join is prepared
+-- the words of the commands by which a node joins, leaves and is removed, once its join is prepared
 abbrev pub step_words : List (List ℕ)
 step_words =
     codes "start-join" ∷ codes "mid-join" ∷ codes "finish-join" ∷ codes "prepare-leave" ∷ codes "start-leave"
@@ -106,7 +113,8 @@ deliveries session lines =
 unfoldable pub round_lines : SessionState → ℕ → ℕ → List (List ℕ)
 round_lines session s j = (let commits = round_commits s j in commits ++ deliveries session commits)
 
--- `count` rounds, from round j on
+-- `count` rounds, from round j on. The script is computed by this session, and answered by another one
+-- (`generation_of`). A round ends with one delivery for each epoch that it made
 unfoldable pub rounds_lines : SessionState → ℕ → ℕ → ℕ → List (List ℕ)
 rounds_lines session s j zero = []
 rounds_lines session s j (suc count) =

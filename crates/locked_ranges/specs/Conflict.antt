@@ -8,10 +8,11 @@ use Rattle.token_ring.specs.declared.range_book.LockRow.{LockRow}
 use Rattle.token_ring.specs.declared.range_book.RangeRow.{RangeRow}
 use Rattle.locked_ranges.specs.Sharing.{share_token}
 
--- whether two books share a row, by its last token; and the right end of the first row that they share
+-- whether two books share a row, by its last token
 abbrev pub share_row : List RangeRow → List RangeRow → TokenRange → Bool
 share_row one other row = share_token one other (last_token row.right)
 
+-- the right end of the first row that two books share
 abbrev pub first_shared_end : List RangeRow → List RangeRow → List ℤ → Option RightEnd
 first_shared_end one other cuts = option_map (λ row. row.right) (find (share_row one other) (rows_between cuts))
 

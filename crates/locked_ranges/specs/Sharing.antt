@@ -6,7 +6,8 @@ use Rattle.cluster_terms.specs.Arc.{IsToken}
 use Rattle.token_ring.specs.TokenRanges.{have_token}
 use Rattle.token_ring.specs.declared.range_book.RangeRow.{RangeRow}
 
--- whether a token is in the ranges of both books under one replication
+-- whether a token is in the ranges of both books in one row. Where both books list the same replications in the same
+-- order, this is: under one replication
 abbrev pub share_token : List RangeRow → List RangeRow → ℤ → Bool
 share_token one other t = list_any (λ rows. have_token rows.0.ranges t && have_token rows.1.ranges t) (zip one other)
 

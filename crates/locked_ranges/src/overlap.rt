@@ -12,7 +12,8 @@ use token_ring::LockRow;
 
 /// The first movement of `rows` that shares a row between ascending cuts with a later one, under one replication: its
 /// node, the node of the first such later movement, and the right end of the first row that both share. The bounds of
-/// all ranges are cuts. Returns `None` if and only if no token is in two of the rows.
+/// all ranges are cuts. Returns `None` if and only if no token is in two of the rows. All books list the same
+/// replications in the same order, as they are compared row by row.
 ///
 /// The cost is that of `first_conflict` for each row with the rows after it, up to the one that is found. Takes no
 /// memory.

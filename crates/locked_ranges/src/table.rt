@@ -19,6 +19,9 @@ use token_ring::{LockRow, LockRows, RangeBook};
 ///
 /// The nodes are distinct, and no token is in the ranges of two rows under one replication: by a rule of this project,
 /// at most one movement at a time changes the replicas of a token.
+///
+/// Books are compared row by row, and nothing looks at their replications. So all books of a table, and those that are
+/// compared with it, have to list the same replications in the same order, as those of one cluster do.
 #[derive(Debug, Drop)]
 pub struct LockTable {
     rows: LockRows,
@@ -68,7 +71,10 @@ impl LockTable {
 
     /// The first movement of `wide`, in the order of its rows, that shares a row between cuts with `ranges` under one
     /// replication, and the right end of the first such row. Returns `None` if and only if `ranges` shares no token
-    /// with any movement of `wide`. Then it shares none with this table, so `lock` may follow.
+    /// with any movement of `wide`. Then it shares none with this table, so `lock` may follow. Where the rows of `wide`
+    /// ascend by node, the first movement is that of the least node.
+    ///
+    /// All books list the same replications in the same order: row i of one is compared with row i of the other alone.
     ///
     /// `wide` has the ranges of the same movements in the image with the new movement. It has a row for each node of
     /// this table, and the row's ranges contain those of the table. The cuts ascend. The bounds of `ranges` and `wide`
@@ -117,7 +123,8 @@ impl LockTable {
     }
 
     /// Locks the ranges of a movement, and returns the key. The node has no row yet, and no row shares a token with
-    /// `ranges`. The new row comes last. If memory runs out, returns the ranges and leaves the table unchanged.
+    /// `ranges`, which has to list the replications of the other books, in their order. The new row comes last. If
+    /// memory runs out, returns the ranges and leaves the table unchanged.
     pub fn lock(&mut self, node: NodeId, ranges: RangeBook) -> Result<LockKey, (RangeBook, Memory)>
         requires new { has_row self.old node ≡ false }
         requires apart { AllByRecursion (λ row. ShareNoToken ranges row.ranges) self.old }

@@ -11,9 +11,11 @@ pub record Registry : Type 0 where
   pub rows : List NodeRow
   pub next : ℕ
 
+-- the ids of rows
 abbrev pub ids_of : List NodeRow → List ℕ
 ids_of rows = map (λ row. row.id) rows
 
+-- the names of rows
 abbrev pub node_names : List NodeRow → List (List ℕ)
 node_names rows = map (λ row. row.name) rows
 

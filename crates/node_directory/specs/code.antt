@@ -1,3 +1,3 @@
--- Of the code: private contracts cite these definitions, and no promise rests on them.
+-- Of the code: how values are kept and changed. No clause of `run` reaches these definitions.
 pub mod GroupTally
 pub mod StoredRows

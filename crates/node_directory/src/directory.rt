@@ -17,8 +17,8 @@ use std::marker::Model;
 
 /// The registered nodes in order of registration, which is also the order of their ids.
 ///
-/// No two nodes have the same name, including nodes that left. The next id is above all ids and never decreases, so no
-/// id is used again.
+/// No two nodes have the same name, including nodes that left. The next id is above all ids. It never decreases but by
+/// `renumber`, so without this call no id is used again.
 ///
 /// A directory always has memory for one more node, and for the nodes after it up to the next id that is a multiple of
 /// 64.
@@ -202,8 +202,9 @@ impl Directory {
     }
 
     /// Sets the id of the next node, without a node for the ids up to it, as after the removal of their nodes. All ids
-    /// are below it. If memory runs out, leaves the directory unchanged. Takes memory only if there is none to spare for
-    /// the nodes up to the next id that is a multiple of 64.
+    /// are below it. It may be lower than before: then ids of removed nodes are given again. If memory runs out, leaves
+    /// the directory unchanged. Takes memory only if there is none to spare for the nodes up to the next id that is a
+    /// multiple of 64.
     pub fn renumber(&mut self, next: u32) -> Result<(), Memory>
         requires { IsTrue (is_directory 0 self.old.rows next) }
         // Promise: the id of the next node is set, if all ids are below it, and if memory runs out, nothing changes.

@@ -49,9 +49,10 @@ ShowsChanges _ _ _ delta = Unit
 abbrev pub EndAtCuts : List ℤ → List DeltaRow → Type 0
 EndAtCuts cuts delta = AllByRecursion (λ row. is_cut_right cuts row.right ≡ true) delta
 
--- a row with the nodes gained and the nodes lost exchanged, and a delta with all its rows so
+-- a row with the nodes gained and the nodes lost exchanged
 abbrev pub exchanged : DeltaRow → DeltaRow
 exchanged row = record { right = row.right; gained = row.lost; lost = row.gained }
 
+-- a delta with the nodes gained and the nodes lost exchanged
 abbrev pub inverse_of : List DeltaRow → List DeltaRow
 inverse_of rows = map exchanged rows

@@ -10,13 +10,15 @@ use Rattle.transformations.specs.MovementDeltas.{gained_at, lost_at}
 use Rattle.transformations.specs.declared.image.Image.{Image}
 use Rattle.transformations.specs.declared.sequence.SeqRow.{SeqRow}
 
--- the nodes at each token, under each replication: those that a movement gains, those that it loses, and none
+-- the nodes that a movement gains, under each replication at each token
 abbrev pub gained_by : Image → SeqRow → Replication → ℤ → List ℕ
 gained_by image s r x = gained_at image r s x
 
+-- the nodes that a movement loses, under each replication at each token
 abbrev pub lost_by : Image → SeqRow → Replication → ℤ → List ℕ
 lost_by image s r x = lost_at image r s x
 
+-- no nodes, under each replication at each token
 abbrev pub no_nodes : Replication → ℤ → List ℕ
 no_nodes r x = []
 

@@ -4,7 +4,8 @@ use token_ring::{LockRows, RangeBook};
 use transformations::SeqRow;
 
 /// The plan of a movement, made when it is prepared: its row, the cuts of the image with this row, its ranges under
-/// each replication, and the ranges of all other movements (`wide`).
+/// each replication, and the ranges of all other movements (`wide`). Of a plan that `Metadata` keeps, only the row and
+/// the deltas are told.
 ///
 /// `gain` adds the gained nodes to the writes. `swap` takes the lost nodes from the reads and adds the gained nodes.
 /// `lose` takes the lost nodes from the writes. They are three deltas, so whoever carries out a step reads one list.

@@ -13,18 +13,21 @@ abbrev pub with_first : Option PlacementRow → List PlacementRow → List Place
 with_first None rows = rows
 with_first (Some row) rows = row ∷ rows
 
--- the rows after edits: each keeps some rows, removes the next ones, and puts in its row, if it has one
+-- the rows after edits: each keeps some rows, removes the next ones, and puts in its row, if it has one. `last` rows
+-- are kept after the edits
 abbrev pub edited_rows : List RowEdit → ℕ → List PlacementRow → List PlacementRow
 edited_rows [] last rows = take last rows
 edited_rows (edit ∷ edits) last rows = take edit.keep rows ++ with_first edit.row (edited_rows edits last (drop edit.skip (drop edit.keep rows)))
 
+-- the rows after all edits
 abbrev pub edited : Edits → List PlacementRow → List PlacementRow
 edited edits rows = edited_rows edits.edits edits.keep rows
 
--- how many rows edits have kept or removed
+-- how many rows edits have kept or removed, with those kept after them
 abbrev pub rows_passed : List RowEdit → ℕ → ℕ
 rows_passed [] last = last
 rows_passed (edit ∷ edits) last = edit.keep + (edit.skip + rows_passed edits last)
 
+-- the same for all edits
 abbrev pub all_passed : Edits → ℕ
 all_passed edits = rows_passed edits.edits edits.keep

@@ -26,14 +26,16 @@ IsPlacementMap rows = CoverRing (λ row. row.right) rows
 abbrev pub right_ends : List PlacementRow → List RightEnd
 right_ends rows = map (λ row. row.right) rows
 
--- the cuts: the tokens at which rows end, apart from Max
+-- the cut at which a row ends: none at Max
 abbrev pub cut_of : RightEnd → Option ℤ
 cut_of (At t) = Some t
 cut_of Max = None
 
+-- the cuts: the tokens at which rows end, apart from Max
 abbrev pub cuts_of : List PlacementRow → List ℤ
 cuts_of rows = filter_map cut_of (right_ends rows)
 
+-- whether a token is a cut
 abbrev pub is_cut_of : List PlacementRow → ℤ → Bool
 is_cut_of rows t = is_member int_eq (cuts_of rows) t
 
@@ -64,9 +66,10 @@ merged_rows (row ∷ rows) t = if int_lt (last_token row.right) t then row ∷ m
 abbrev pub HasSameSides : List PlacementRow → ℤ → Type 0
 HasSameSides rows t = int_lt t greatest_token ≡ true → map_at rows t ≡ map_at rows (t +ℤ pos 1)
 
--- the reads and the writes where the reads change, and where the writes change, by nodes gained and nodes lost
+-- the reads and the writes after the reads change by nodes gained and nodes lost
 abbrev pub reads_changed : List ℕ × List ℕ → List ℕ × List ℕ → List ℕ × List ℕ
 reads_changed placement change = (with_change placement.0 change.0 change.1, placement.1)
 
+-- the reads and the writes after the writes change by nodes gained and nodes lost
 abbrev pub writes_changed : List ℕ × List ℕ → List ℕ × List ℕ → List ℕ × List ℕ
 writes_changed placement change = (placement.0, with_change placement.1 change.0 change.1)

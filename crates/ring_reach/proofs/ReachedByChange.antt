@@ -1,5 +1,5 @@
 -- What a change reaches in a group, by the tokens that come or go there.
-use Rattle.std.proofs.Common.{◌≡◌, ℕ, ◌+◌, ◌-◌, Bool, true, false, cond, not, ◌&&◌, ◌||◌, nat_lt, ℤ, int_le, List, [], ◌∷◌, ◌++◌, filter, Some, None, is_some, refl, sym, ap, ◌∙◌, arith}
+use Rattle.std.proofs.Common.{◌≡◌, ℕ, ◌+◌, ◌-◌, min, Bool, true, false, cond, not, ◌&&◌, ◌||◌, nat_lt, ℤ, int_le, List, [], ◌∷◌, ◌++◌, filter, Some, None, is_some, refl, sym, ap, ◌∙◌, arith}
 use Rattle.std.proofs.lemmas.Bool.{false≢true, and_parts, or_right, false_from_ne_true}
 use Rattle.std.proofs.lemmas.Bool.Decides.{Decides-int_eq, nat_tests}
 use Rattle.std.proofs.lemmas.Int.{ints}
@@ -38,7 +38,7 @@ common_none false s e = refl
 abbrev course_in : Group → List Pair → Course
 course_in g fixed = record { group = g; fixed = fixed; nodes = wanted g (nodes_of fixed); racks = wanted g (nodes_of fixed) - spare g (nodes_of fixed) }
 
-moved_over : (d p w s : ℕ) → (nat_lt d w || nat_lt p (w - s)) ≡ (nat_lt d w || nat_lt (p + s) w)
+moved_over : (d p w s : ℕ) → (nat_lt d w || nat_lt p (w - s)) ≡ nat_lt (min (p + s) d) w
 moved_over d p w s = grind (arith, nat_tests)
 
 leaves-open : (g : Group) (fixed : List Pair) (x y : ℤ) → leaves (course_in g fixed) x y ≡ is_open g fixed x y

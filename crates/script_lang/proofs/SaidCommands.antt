@@ -12,6 +12,7 @@ use Rattle.cluster_terms.specs.ReplicationText.{words_of, replication_of_words}
 use Rattle.cluster_terms.specs.declared.replication.Replication.{Replication}
 use Rattle.transformations.specs.declared.command.Command.{Command}
 use Rattle.transformations.specs.declared.command.Command.TheVariants.{Register, UnsafeJoin, Keyspace, DropKeyspace, PrepareJoin, PrepareMove, PrepareReplace}
+use Rattle.transformations.specs.Words.{node_commands}
 use Rattle.script_lang.specs.Grammar as spec
 use Rattle.script_lang.specs.declared.script_line.ScriptLine.{ScriptLine}
 use Rattle.script_lang.specs.declared.script_line.ScriptLine.TheVariants.{Commit, Follower, Deliver, Snapshot, Ask, Give, Place, Nodes, Quorum, Local}
@@ -28,9 +29,10 @@ pub record HoldsOfForms (P : Command → Type 0) : Type 0 where
   pub prepare_join : (node : ℕ) (tokens : List ℤ) → IsNode node → AreTokens tokens → P (PrepareJoin node tokens)
   pub prepare_move : (node : ℕ) (token : ℤ) → IsNode node → IsToken token → P (PrepareMove node token)
   pub prepare_replace : (node gone : ℕ) → IsNode node → IsNode gone → P (PrepareReplace node gone)
-  pub of_node : (node : ℕ) → IsNode node → AllByRecursion (λ row. P (row.1 node)) spec.node_commands
+  pub of_node : (node : ℕ) → IsNode node → AllByRecursion (λ row. P (row.1 node)) node_commands
 
--- what a line holds if P holds of its command: an id below 2^64, the token of a query, and how many entries a reply may have
+-- what a line holds if P holds of its command: an id below 2^64, the token of a query, and how many entries a reply may
+-- have
 abbrev pub HoldsOfLine : (Command → Type 0) → ScriptLine → Type 0
 HoldsOfLine P (Commit id command) = (id < 2 ^ 64) × P command
 HoldsOfLine P (Ask name max) = (1 ≤ max) × (max ≤ 1024)
@@ -107,7 +109,7 @@ module _ (P : Command → Type 0) (of : HoldsOfForms P) where
   of_node_command word [] = tt
   of_node_command word (node ∷ []) =
       chained (spec.command_on word) IsNode P
-      (λ n is. each_found (λ row. row.1 n) P (λ row. bytes_eq word row.0) spec.node_commands (of.of_node n is)) (spec.node_of node) (of_node node)
+      (λ n is. each_found (λ row. row.1 n) P (λ row. bytes_eq word row.0) node_commands (of.of_node n is)) (spec.node_of node) (of_node node)
   of_node_command word (node ∷ other ∷ words) = tt
 
   of_command_named : (word : List ℕ) (words : List (List ℕ)) → IfSome (spec.command_named word words) P

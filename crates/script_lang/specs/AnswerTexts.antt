@@ -12,15 +12,14 @@ use Rattle.cluster_terms.specs.declared.token.RightEnd.TheVariants.{At, Max}
 use Rattle.range_placements.specs.declared.placement_row.PlacementRow.{PlacementRow}
 use Rattle.transformations.specs.Rings.{reads_at, writes_at, cuts}
 use Rattle.transformations.specs.States.{node_tokens, state_of_row}
+use Rattle.transformations.specs.Words.{movement_word, phase_word}
 use Rattle.transformations.specs.declared.image_rules.BadImage.{BadImage}
 use Rattle.transformations.specs.declared.image.Image.{Image}
 use Rattle.transformations.specs.declared.keyspace.KeyspaceRow.{KeyspaceRow}
 use Rattle.transformations.specs.declared.refusal.Refusal.{Refusal}
 use Rattle.transformations.specs.declared.refusal.Refusal.TheVariants.{NameTaken, NodesFull, NoNode, WrongState, InSequence, NoSequence, WrongStep, TokenTaken, NoTokens, TokensFull, NotOneToken, OtherRack, NotIdle, NoKeyspace, KeyspacesFull, TooFewNodes, Locked, IdReused, EpochsFull, KeyspaceLocked}
 use Rattle.transformations.specs.declared.sequence.Kind.{Kind}
-use Rattle.transformations.specs.declared.sequence.Kind.TheVariants as kind
 use Rattle.transformations.specs.declared.sequence.Phase.{Phase}
-use Rattle.transformations.specs.declared.sequence.Phase.TheVariants as phase
 use Rattle.transformations.specs.declared.sequence.SeqRow.{SeqRow}
 use Rattle.transformations.specs.declared.state.NodeState.{NodeState}
 use Rattle.transformations.specs.declared.state.NodeState.TheVariants as state
@@ -34,20 +33,23 @@ abbrev pub listed : {X : Type 0} → (X → List ℕ) → List X → List ℕ
 listed text [] = codes "-"
 listed text (x ∷ xs) = text x ++ flat_map (λ y. codes "," ++ text y) xs
 
--- LIST of node ids, LIST of tokens, and PAIRS
+-- LIST of node ids
 abbrev pub list_text : List ℕ → List ℕ
 list_text ns = listed decimal ns
 
+-- LIST of tokens
 abbrev pub tokens_text : List ℤ → List ℕ
 tokens_text ts = listed signed_decimal ts
 
+-- a pair: its token and its node
 abbrev pub pair_text : Pair → List ℕ
 pair_text p = signed_decimal p.token ++ codes "@" ++ decimal p.node
 
+-- PAIRS
 abbrev pub pairs_text : List Pair → List ℕ
 pairs_text ps = listed pair_text ps
 
--- the words of states, kinds and phases
+-- the word of a state
 abbrev pub state_text : NodeState → List ℕ
 state_text state.Left = codes "LEFT"
 state_text state.Bootstrapping = codes "BOOTSTRAPPING"
@@ -57,31 +59,21 @@ state_text state.BootReplacing = codes "BOOT_REPLACING"
 state_text state.Joined = codes "JOINED"
 state_text state.Registered = codes "REGISTERED"
 
-abbrev pub kind_text : Kind → List ℕ
-kind_text kind.Join = codes "join"
-kind_text kind.Move = codes "move"
-kind_text kind.Leave = codes "leave"
-kind_text kind.Replace = codes "replace"
-
-abbrev pub phase_text : Phase → List ℕ
-phase_text phase.Prepared = codes "PREPARED"
-phase_text phase.Started = codes "STARTED"
-phase_text phase.Mid = codes "MID"
-
 -- the kind and the phase of a movement
 abbrev pub progress_text : Kind × Phase → List ℕ
-progress_text p = kind_text p.0 ++ codes " " ++ phase_text p.1
+progress_text p = movement_word p.0 ++ codes " " ++ phase_word p.1
 
--- the ends of a row
+-- the left end of a row
 abbrev pub left_text : Option ℤ → List ℕ
 left_text None = codes "min"
 left_text (Some t) = signed_decimal t
 
+-- the right end of a row
 abbrev pub right_text : RightEnd → List ℕ
 right_text (At t) = signed_decimal t
 right_text Max = codes "max"
 
--- the node whose ranges are locked, and the right end of the first row that both movements share
+-- the node of a movement in flight, and the right end of the first row that its ranges share with another movement's
 abbrev pub locked_text : ℕ × RightEnd → List ℕ
 locked_text p = decimal p.0 ++ codes " " ++ right_text p.1
 
@@ -112,10 +104,11 @@ refusal_text (IdReused e) = codes "ID-REUSED " ++ decimal e
 refusal_text EpochsFull = codes "EPOCHS-FULL"
 refusal_text (KeyspaceLocked n o end) = codes "KEYSPACE-LOCKED " ++ decimal n ++ codes " " ++ locked_text (o, end)
 
--- the answer to a commit that is accepted as an epoch, and to a line that is refused
+-- the answer to a commit that is accepted as an epoch
 abbrev pub ok_text : ℕ → List ℕ
 ok_text epoch = line (codes "OK " ++ decimal epoch)
 
+-- the answer to a line that is refused
 abbrev pub no_text : List ℕ → List ℕ
 no_text reason = line (codes "NO " ++ reason)
 
@@ -140,10 +133,11 @@ placed_row_text image replication row =
     let x = last_token row.right in
     placed_text row (reads_at image replication x) (writes_at image replication x)
 
--- the placements of a keyspace: a head with the number of rows, and the rows between the cuts
+-- the head of the placements of a keyspace, with the number of rows
 abbrev pub place_head : ℕ → List ℕ → ℕ → List ℕ
 place_head epoch keyspace rows = line (codes "PLACE " ++ decimal epoch ++ codes " " ++ keyspace ++ codes " " ++ decimal rows)
 
+-- the placements of a keyspace: the head, and the rows between the cuts
 unfoldable pub place_text : Image → KeyspaceRow → List ℕ
 place_text image keyspace =
     let rows = rows_between (cuts image) in
@@ -158,7 +152,7 @@ abbrev pub map_rows_text : Option ℤ → List PlacementRow → List ℕ
 map_rows_text left [] = []
 map_rows_text left (row ∷ rows) = map_row_text left row ++ map_rows_text (Some (last_token row.right)) rows
 
--- the placements of a keyspace by its placement map: a head with the number of rows, and the rows
+-- the placements of a keyspace by its placement map: the head and the rows
 abbrev pub map_text : ℕ → List ℕ → List PlacementRow → List ℕ
 map_text epoch keyspace rows = place_head epoch keyspace (length rows) ++ map_rows_text None rows
 
@@ -185,13 +179,14 @@ node_text image row =
 -- a movement in flight
 unfoldable pub sequence_text : SeqRow → List ℕ
 sequence_text s =
-    line (codes "SEQ " ++ decimal s.node ++ codes " " ++ kind_text s.kind ++ codes " " ++ phase_text s.phase
+    line (codes "SEQ " ++ decimal s.node ++ codes " " ++ movement_word s.kind ++ codes " " ++ phase_word s.phase
     ++ codes " out " ++ pairs_text s.out_pairs ++ codes " in " ++ pairs_text s.in_pairs)
 
--- the nodes of a cluster: a head with the number of nodes and the number of movements, the nodes, and the movements
+-- the head of the nodes of a cluster, with the number of nodes and the number of movements
 abbrev pub nodes_head : Image → List ℕ
 nodes_head image =
     line (codes "NODES " ++ decimal image.epoch ++ codes " " ++ decimal (length image.nodes) ++ codes " " ++ decimal (length image.sequences))
 
+-- the nodes of a cluster: the head, the nodes, and the movements
 unfoldable pub nodes_text : Image → List ℕ
 nodes_text image = nodes_head image ++ flat_map (node_text image) image.nodes ++ flat_map sequence_text image.sequences

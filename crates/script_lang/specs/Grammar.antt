@@ -9,10 +9,9 @@ use Rattle.cluster_terms.specs.Ascending.{ascending}
 use Rattle.cluster_terms.specs.Name.{is_name}
 use Rattle.cluster_terms.specs.ReplicationText.{words_of, replication_of_words}
 use Rattle.transformations.specs.declared.command.Command.{Command}
-use Rattle.transformations.specs.declared.command.Command.TheVariants.{Register, Unregister, UnsafeJoin, Keyspace, DropKeyspace, PrepareJoin, PrepareMove, PrepareLeave, PrepareReplace, Step, Cancel}
-use Rattle.transformations.specs.declared.sequence.Goal.TheVariants.{Start, Mid, Finish}
-use Rattle.transformations.specs.declared.sequence.Kind.TheVariants.{Join, Move, Leave, Replace}
+use Rattle.transformations.specs.declared.command.Command.TheVariants.{Register, UnsafeJoin, Keyspace, DropKeyspace, PrepareJoin, PrepareMove, PrepareReplace}
 use Rattle.transformations.specs.History.{is_command}
+use Rattle.transformations.specs.Words.{drop_keyspace_word, keyspace_word, node_commands, prepare_join_word, prepare_move_word, prepare_replace_word, register_word, unsafe_join_word}
 use Rattle.script_lang.specs.declared.script_line.ScriptLine.{ScriptLine}
 use Rattle.script_lang.specs.declared.script_line.ScriptLine.TheVariants.{Commit, Follower, Deliver, Snapshot, Ask, Give, Place, Nodes, Quorum, Local}
 use Rattle.script_lang.specs.declared.script_line.Target.{Target}
@@ -62,10 +61,11 @@ unfoldable pub node_and_tokens : List (List ℕ) → Option (ℕ × List ℤ)
 node_and_tokens [] = None
 node_and_tokens (node ∷ tokens) = option_and_then (λ n. option_map (λ ts. (n, ts)) (tokens_in_words tokens)) (node_of node)
 
--- the commands `unsafe-join` and `prepare-join`
+-- NODE TOKEN .. of `unsafe-join`
 unfoldable pub unsafe_join_command : List (List ℕ) → Option Command
 unsafe_join_command words = option_map (λ (node, tokens). UnsafeJoin node tokens) (node_and_tokens words)
 
+-- NODE TOKEN .. of `prepare-join`
 unfoldable pub prepare_join_command : List (List ℕ) → Option Command
 prepare_join_command words = option_map (λ (node, tokens). PrepareJoin node tokens) (node_and_tokens words)
 
@@ -89,21 +89,11 @@ unfoldable pub drop_keyspace_command : List (List ℕ) → Option Command
 drop_keyspace_command (name ∷ []) = if is_name name then Some (DropKeyspace name) else None
 drop_keyspace_command _ = None
 
--- the words of the commands whose only argument is a node, each with the command that it makes of the node
-abbrev pub node_commands : List (List ℕ × (ℕ → Command))
-node_commands =
-    (codes "unregister", Unregister) ∷ (codes "prepare-leave", PrepareLeave) ∷ (codes "cancel", Cancel)
-    ∷ (codes "start-join", Step Start Join) ∷ (codes "mid-join", Step Mid Join) ∷ (codes "finish-join", Step Finish Join)
-    ∷ (codes "start-move", Step Start Move) ∷ (codes "mid-move", Step Mid Move) ∷ (codes "finish-move", Step Finish Move)
-    ∷ (codes "start-leave", Step Start Leave) ∷ (codes "mid-leave", Step Mid Leave) ∷ (codes "finish-leave", Step Finish Leave)
-    ∷ (codes "start-replace", Step Start Replace) ∷ (codes "mid-replace", Step Mid Replace) ∷ (codes "finish-replace", Step Finish Replace)
-    ∷ []
-
--- the command that such a word makes of a node
+-- the command that a word makes of a node, if the node is all that it requires
 abbrev pub command_on : List ℕ → ℕ → Option Command
 command_on word node = option_map (λ row. row.1 node) (find (λ row. bytes_eq word row.0) node_commands)
 
--- such a word, and NODE
+-- NODE after such a word
 unfoldable pub node_only_command : List ℕ → List (List ℕ) → Option Command
 node_only_command word (node ∷ []) = option_and_then (command_on word) (node_of node)
 node_only_command word _ = None
@@ -111,15 +101,16 @@ node_only_command word _ = None
 -- a command: its first word, and the words that this first word requires
 unfoldable pub command_named : List ℕ → List (List ℕ) → Option Command
 command_named word words =
-    if bytes_eq word (codes "register") then register_command words
-    else if bytes_eq word (codes "unsafe-join") then unsafe_join_command words
-    else if bytes_eq word (codes "keyspace") then keyspace_command words
-    else if bytes_eq word (codes "drop-keyspace") then drop_keyspace_command words
-    else if bytes_eq word (codes "prepare-join") then prepare_join_command words
-    else if bytes_eq word (codes "prepare-move") then prepare_move_command words
-    else if bytes_eq word (codes "prepare-replace") then prepare_replace_command words
+    if bytes_eq word register_word then register_command words
+    else if bytes_eq word unsafe_join_word then unsafe_join_command words
+    else if bytes_eq word keyspace_word then keyspace_command words
+    else if bytes_eq word drop_keyspace_word then drop_keyspace_command words
+    else if bytes_eq word prepare_join_word then prepare_join_command words
+    else if bytes_eq word prepare_move_word then prepare_move_command words
+    else if bytes_eq word prepare_replace_word then prepare_replace_command words
     else node_only_command word words
 
+-- COMMAND
 unfoldable pub command_of : List (List ℕ) → Option Command
 command_of [] = None
 command_of (word ∷ words) = command_named word words
@@ -134,11 +125,12 @@ unfoldable pub follower_in : List (List ℕ) → Option ScriptLine
 follower_in (name ∷ []) = if is_name name then Some (Follower name) else None
 follower_in _ = None
 
--- F E
+-- F E of `deliver`
 unfoldable pub deliver_in : List (List ℕ) → Option ScriptLine
 deliver_in (name ∷ epoch ∷ []) = if is_name name then option_map (Deliver name) (number_below (2 ^ 64) epoch) else None
 deliver_in _ = None
 
+-- F E of `snapshot`
 unfoldable pub snapshot_in : List (List ℕ) → Option ScriptLine
 snapshot_in (name ∷ epoch ∷ []) = if is_name name then option_map (Snapshot name) (number_below (2 ^ 64) epoch) else None
 snapshot_in _ = None
@@ -206,8 +198,8 @@ line_of_words (word ∷ words) =
 unfoldable pub line_of : List ℕ → Option ScriptLine
 line_of bytes = if nat_le (length bytes) 16384 then line_of_words (words_of bytes) else None
 
--- if a line commits a command that lists tokens, they are 1 to 256 and ascend; if it asks for a reply, this may have 1 to
--- 1,024 entries
+-- if a line commits a command that lists tokens, they are 1 to 256 and ascend. If it asks for a reply, this may have
+-- 1 to 1,024 entries
 abbrev pub IsInRange : ScriptLine → Type 0
 IsInRange (Commit id command) = IsTrue (is_command command)
 IsInRange (Ask name max) = (1 ≤ max) × (max ≤ 1024)

@@ -2,6 +2,7 @@
 
 ghost use Rattle.std.specs.Prelude.{◌≡◌, ◌++◌, ℕ, List, decimal, take, length, OnOk};
 ghost use Rattle.std.specs.Fmt.{signed_decimal};
+ghost use Rattle.transformations.specs.Words.{movement_word, phase_word};
 ghost use Rattle.script_lang.specs.AnswerTexts as spec;
 
 use cluster_terms::{ByteText, Memory, Name, NodeId, Pair, RightEnd, Token};
@@ -120,7 +121,7 @@ impl Shown for NodeState {
 }
 
 impl Shown for Kind {
-    ghost text = { spec.kind_text };
+    ghost text = { movement_word };
 
     fn show(&self, out: &mut ByteText) -> Result<(), Memory> {
         match self {
@@ -133,7 +134,7 @@ impl Shown for Kind {
 }
 
 impl Shown for Phase {
-    ghost text = { spec.phase_text };
+    ghost text = { phase_word };
 
     fn show(&self, out: &mut ByteText) -> Result<(), Memory> {
         match self {

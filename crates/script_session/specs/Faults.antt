@@ -6,11 +6,12 @@ use Rattle.tcm_edges.specs.declared.fault.WriteFault.TheVariants as write
 use Rattle.script_session.specs.declared.fault.StepFault.{StepFault}
 use Rattle.script_session.specs.declared.fault.StepFault.TheVariants as step
 
--- the count of the store's faults after a step: one more if the store failed, else the same
+-- the count of the store's faults after a step that ended with this fault: one more if the store failed, else the same
 abbrev pub count_after : StepFault → ℕ → ℕ
 count_after step.Memory count = count
 count_after step.Store count = one_more count
 
+-- the count of the store's faults after a step that came to this result
 abbrev pub count_by : {T : Type 0} → Result T StepFault → ℕ → ℕ
 count_by (Ok _) count = count
 count_by (Err fault) count = count_after fault count

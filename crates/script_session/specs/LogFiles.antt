@@ -1,4 +1,5 @@
 -- The file of a log: the log in its lines, the first line that is refused, and the file once entries are added.
+-- `cause.Line 0` stands where a case never comes.
 use Rattle.std.specs.Prelude.{◌≡◌, ℕ, ◌+◌, if◌then◌else◌, List, [], ◌∷◌, ◌++◌, flat_map, length, Option, Some, None, option_map, Result, Ok, Err, ◌==◌, codes, decimal}
 use Rattle.std.specs.FinMap as map
 use Rattle.std.specs.Str.{bytes_eq}
@@ -21,33 +22,36 @@ use Rattle.script_session.specs.declared.refused_line.RefusedLine.{RefusedLine}
 
 -- ---- the log in a file
 
--- why an entry is refused as the next entry of a log, cause by cause
+-- the cause to refuse an entry whose epoch isn't the next one of a log
 abbrev pub wrong_epoch : List Entry → Entry → Option Cause
 wrong_epoch log entry =
     if entry.epoch == length log + 1 then None else Some (cause.Epoch (length log + 1) entry.epoch)
 
+-- the cause to refuse an entry whose id is in the log
 abbrev pub id_again : List Entry → Entry → Option Cause
 id_again log entry = option_map (λ (earlier : Entry). cause.Id entry.id earlier.epoch) (entry_with_id log entry.id)
 
+-- the cause to refuse an entry whose command is refused as the next one of a log
 abbrev pub command_refused : List Entry → Entry → Option Cause
 command_refused log entry = option_map (cause.Command entry.epoch) (commit_refusal (commands_of log) entry.cmd)
 
--- the first of these causes
+-- the first of some causes
 abbrev pub first_cause : List (Option Cause) → Option Cause
 first_cause [] = None
 first_cause (Some cause ∷ later) = Some cause
 first_cause (None ∷ later) = first_cause later
 
+-- the first cause to refuse an entry as the next one of a log: its epoch, its id or its command
 abbrev pub entry_cause : List Entry → Entry → Option Cause
 entry_cause log entry = first_cause (wrong_epoch log entry ∷ id_again log entry ∷ command_refused log entry ∷ [])
 
--- the entry that follows a log, or the cause to refuse it
+-- this entry, or the cause to refuse it
 abbrev pub unless_refused : Entry → Option Cause → Result Entry Cause
 unless_refused entry None = Ok entry
 unless_refused entry (Some cause) = Err cause
 
--- what was read as the next line of a log: its entry, or the first cause to refuse the line (a reading is never
--- without memory)
+-- what was read as the next line of a log: its entry, or the first cause to refuse the line; `reading` never gives
+-- Memory
 abbrev pub entry_read : List Entry → Result Line ReadLineFault → Result Entry Cause
 entry_read log (Ok (line.Header cluster)) = Err cause.Header
 entry_read log (Ok (line.Entry entry)) = unless_refused entry (entry_cause log entry)
@@ -55,16 +59,17 @@ entry_read log (Ok (line.Snapshot image)) = Err cause.NotEntry
 entry_read log (Err (read.Bad rule)) = Err (cause.Line rule)
 entry_read log (Err read.Memory) = Err (cause.Line 0)
 
+-- the entry of the next line of a log, or the first cause to refuse the line
 unfoldable pub next_entry : List Entry → List ℕ → Result Entry Cause
 next_entry log bytes = entry_read log (reading bytes)
 
--- goes on with what a line of a file came to, or refuses the line with this number of this file
+-- goes on with what was made of a line, or refuses it as the line with this number of the file with this number
 abbrev pub goes_on : {A B : Type 0} → ℕ → ℕ → Result A Cause → (A → Result B RefusedLine) → Result B RefusedLine
 goes_on file number (Ok came) next = next came
 goes_on file number (Err cause) next = Err (record { file = file; line = number; cause = cause })
 
--- the log that lines of entries make after a log, or the first line that is refused; `first` is the number of the line
--- that holds entry 1
+-- the log that lines of entries make after a log, or the first line that is refused. Entry 1 stands on line `first`, so
+-- the line after a log of n entries has the number n + first
 abbrev pub log_from : ℕ → List Entry → List (List ℕ) → Result (List Entry) RefusedLine
 log_from first log [] = Ok log
 log_from first log (bytes ∷ lines) =
@@ -75,7 +80,8 @@ abbrev pub other_cluster : Option (List ℕ) → List ℕ → Option Cause
 other_cluster None came = None
 other_cluster (Some want) came = if bytes_eq want came then None else Some (cause.Cluster want came)
 
--- the cause to refuse what was read as the first line of a log file, which must be a header of the cluster
+-- the cause to refuse what was read as the first line of a log file, which must be a header, of the cluster that is
+-- wanted, if one is; `reading` never gives Memory
 abbrev pub header_read : Option (List ℕ) → Result Line ReadLineFault → Option Cause
 header_read want (Ok (line.Header came)) = other_cluster want came
 header_read want (Ok (line.Entry entry)) = Some cause.Format
@@ -83,6 +89,7 @@ header_read want (Ok (line.Snapshot image)) = Some cause.Format
 header_read want (Err (read.Bad rule)) = Some (cause.Line rule)
 header_read want (Err read.Memory) = Some (cause.Line 0)
 
+-- the cause to refuse the first line of a log file
 unfoldable pub header_cause : Option (List ℕ) → List ℕ → Option Cause
 header_cause want bytes = header_read want (reading bytes)
 
@@ -100,6 +107,7 @@ log_in want (bytes ∷ lines) = log_after (header_cause want bytes) lines
 abbrev pub log_for : Option (List ℕ) → List ℕ → Result (List Entry) RefusedLine
 log_for want file = log_in want (whole_lines file)
 
+-- the log in a file, of whichever cluster
 abbrev pub log_of : List ℕ → Result (List Entry) RefusedLine
 log_of file = log_for None file
 
@@ -109,6 +117,7 @@ old_log_of file = log_from 1 [] (whole_lines file)
 
 -- ---- the text for a line that is refused
 
+-- the words for a cause
 abbrev pub cause_text : Cause → List ℕ
 cause_text (cause.Line rule) = codes "LINE " ++ decimal rule
 cause_text cause.Format = codes "FORMAT"
@@ -126,11 +135,12 @@ abbrev pub fork_lines : Cause → List ℕ
 fork_lines (cause.Fork epoch held came) = entry_line held ++ entry_line came
 fork_lines _ = []
 
--- the number of the file, the number of the line, and the cause
+-- the line with the number of the file, the number of the line, and the cause
 abbrev pub refused_head : RefusedLine → List ℕ
 refused_head refused =
     with_feed (codes "REFUSED " ++ decimal refused.file ++ codes " " ++ decimal refused.line ++ codes " " ++ cause_text refused.cause)
 
+-- the text for a line that is refused; after a fork it has the lines of the two entries, too
 unfoldable pub refused_line_text : RefusedLine → List ℕ
 refused_line_text refused = refused_head refused ++ fork_lines refused.cause
 

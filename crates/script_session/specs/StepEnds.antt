@@ -70,12 +70,13 @@ pub record Stops (f : NamedFollower) (session : SessionState) (due : List NamedF
   pub is : session' ≡ record session { followers = with_follower session.followers f.name at }
   pub between : IfSome (follower_named due f.name) (λ g. IsOnTheWay session.log f.follower g.follower at)
 
--- what a fault leaves of the session: all as before, but if memory ran out the follower that the line hands something
--- to may have stopped on the way
+-- what lack of memory leaves of the session: the follower that the line hands something to may have stopped on the way,
+-- and all else is as before
 abbrev pub StopsAny : Option NamedFollower → SessionState → List NamedFollower → SessionState → Type 0
 StopsAny None session due session' = session' ≡ session
 StopsAny (Some f) session due session' = Stops f session due session'
 
+-- what a fault leaves of the session; if the store failed, all is as before
 abbrev pub LeavesSession : StepFault → Option NamedFollower → SessionState → List NamedFollower → SessionState → Type 0
 LeavesSession fault.Memory handed session due session' = StopsAny handed session due session'
 LeavesSession fault.Store handed session due session' = session' ≡ session

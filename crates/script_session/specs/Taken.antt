@@ -6,7 +6,7 @@ use Rattle.std.specs.Str.{bytes_eq}
 use Rattle.catch_up.specs.declared.message.Reply.{Reply as CatchUpReply}
 use Rattle.catch_up_laws.specs.Given.{given_image}
 use Rattle.epoch_log.specs.Epochs.{entry_at}
-use Rattle.follower_log.specs.Follower.{FollowerState, Handed, hand_entry, hand_image}
+use Rattle.follower_log.specs.Follower.{FollowerState, Handed, hand_entry, hand_valid}
 use Rattle.follower_log.specs.Prefix.{IsPrefix, StandsFor, Taken, nothing_taken, with_entry, with_image}
 use Rattle.follower_log.specs.declared.fault.FollowerFault.{FollowerFault}
 use Rattle.follower_log.specs.declared.took.Took.{Took}
@@ -23,35 +23,39 @@ use Rattle.script_session.specs.Machine.{SessionState, answer_from, follower_nam
 use Rattle.script_session.specs.declared.session.followers.NamedFollower.{NamedFollower}
 use Rattle.script_session.specs.declared.session.query.Query.{Query}
 
--- what was handed over was taken, unless it is answered `FULL`
+-- what was handed over counts as taken, unless it is answered `FULL`; faults count, too, but don't come in one log
 abbrev pub unless_full : Result Took FollowerFault → Taken → Taken → Taken
 unless_full (Ok (Full epoch)) before after = before
 unless_full answer before after = after
 
+-- what a follower took, once it is handed an entry, if there is one
 abbrev pub and_entry : FollowerState → Option Entry → Taken → Taken
 and_entry follower None taken = taken
 and_entry follower (Some entry) taken = unless_full (hand_entry follower entry).answer taken (with_entry taken entry.epoch)
 
+-- what a follower took, once it is handed a valid image, if there is one
 abbrev pub and_image : FollowerState → Result Image (List ℕ) → Taken → Taken
 and_image follower (Err reason) taken = taken
-and_image follower (Ok image) taken = unless_full (hand_image follower image).answer taken (with_image taken image.epoch)
+and_image follower (Ok image) taken = unless_full (hand_valid follower image).answer taken (with_image taken image.epoch)
 
--- what it took of a catch-up reply: of its image, if it has one, and of its entries, one after another
+-- what a follower took, once it is handed entries, one after another
 abbrev pub and_entries : FollowerState → List Entry → Taken → Taken
 and_entries follower [] taken = taken
 and_entries follower (entry ∷ entries) taken =
     and_entries (hand_entry follower entry).after entries (and_entry follower (Some entry) taken)
 
+-- what a follower took, once it is handed the image of a catch-up reply, if it has one
 abbrev pub and_start : FollowerState → Option Image → Taken → Taken
 and_start follower None taken = taken
 and_start follower (Some image) taken = and_image follower (Ok image) taken
 
+-- what a follower took, once it is given a catch-up reply, if there is one: of its image, and then of its entries
 abbrev pub and_reply : FollowerState → Option CatchUpReply → Taken → Taken
 and_reply follower None taken = taken
 and_reply follower (Some given) taken =
     and_entries (given_image follower given.image) given.entries (and_start follower given.image taken)
 
--- what the follower with this name took, once it is handed something
+-- what is taken once a follower is handed something; without a follower, no more than before
 abbrev pub by_follower : Option NamedFollower → (FollowerState → Taken) → Taken → Taken
 by_follower None take taken = taken
 by_follower (Some f) take taken = take f.follower
@@ -74,7 +78,7 @@ taken_by session name (Some (Give to number)) taken =
     else taken
 taken_by session name _ taken = taken
 
--- once lines are answered, one after another
+-- what the follower with this name took, once lines are answered, one after another
 abbrev pub taken_in : SessionState → List ℕ → List (List ℕ) → Taken → Taken
 taken_in session name [] taken = taken
 taken_in session name (bytes ∷ lines) taken =
@@ -92,7 +96,7 @@ AllShowPrefixes log lines =
     (name : List ℕ) (f : NamedFollower) → follower_named session.followers name ≡ Some f
     → ShowsPrefix session.log (taken_in (session_over log) name lines nothing_taken) f.follower
 
--- so it is after each of some lines: after each prefix of them
+-- all followers show such prefixes after each of some lines
 abbrev pub FollowersShow : List Entry → List (List ℕ) → Type 0
 FollowersShow log lines = (front rest : List (List ℕ)) → lines ≡ front ++ rest → AllShowPrefixes log front
 

@@ -33,8 +33,8 @@ impl<P> Model for Seq<P> {
 }
 
 impl<P> Seq<P> {
-    /// The plan of the movement. Its row is at `Prepared`. A movement of `Metadata` keeps the row and the
-    /// deltas alone: its plan has no cuts and no ranges.
+    /// The plan of the movement. Its row is at `Prepared`. If the movement is one of `Metadata`, only the row and the
+    /// deltas are told: the cuts, the ranges and `wide` may be left out, or be those of an earlier image.
     pub fn plan(&self) -> &Plan
         ensures plan { result.now ≡ self.now }
         ensures prepared { self.now.row.phase ≡ phase.Prepared }

@@ -20,11 +20,12 @@ pub record IsBook (image : Image) (s : SeqRow) (book : List RangeRow) : Type 0 w
   pub ranges : AllByRecursion (λ r. HaveTokens (in_ranges image r.replication s) r.ranges) book
   pub bounds : AllByRecursion (λ r. AreCutOut (cuts image) r.ranges) book
 
--- the row has a movement's node and its ranges; and the rows of these movements, in their order
+-- the row has a movement's node and its ranges
 pub record IsLockRow (image : Image) (s : SeqRow) (row : LockRow) : Type 0 where
   pub node : row.node ≡ s.node
   pub ranges : IsBook image s row.ranges
 
+-- the rows are those of these movements, in their order
 abbrev pub AreLocks : Image → List SeqRow → List LockRow → Type 0
 AreLocks image [] [] = Unit {0}
 AreLocks image [] (row ∷ rows) = ⊥

@@ -25,10 +25,11 @@ pub record AreStepDeltas (image : Image) (s : SeqRow) (replications : List Repli
 abbrev pub HasDeltas : Image → Plan → Type 0
 HasDeltas image plan = AreStepDeltas image plan.row (replications_of image.keyspaces) plan.gain plan.swap plan.lose
 
--- under a replication the rows of a book are exact; and so are those of the plan of a movement
+-- under a replication the rows of a book are exact
 abbrev pub AreExactUnder : Replication → (ℤ → List ℕ) → (ℤ → List ℕ) → List DeltaBookRow → Type 0
 AreExactUnder r gained lost book = AllByRecursion (λ row. row.replication ≡ r → IsExact gained lost row.delta) book
 
+-- under a replication a plan has the exact deltas of its movement in an image
 pub record HasDeltasUnder (image : Image) (plan : Plan) (r : Replication) : Type 0 where
   pub gains : AreExactUnder r (gained_by image plan.row r) (no_nodes r) plan.gain
   pub swaps : AreExactUnder r (gained_by image plan.row r) (lost_by image plan.row r) plan.swap

@@ -9,7 +9,9 @@ use Rattle.catch_up.specs.Replies.{IsReplyFrom, catch_up_reply}
 use Rattle.catch_up.specs.declared.message.Reply.{Reply as CatchUpReply}
 use Rattle.catch_up_laws.specs.Given.{given_reply}
 use Rattle.epoch_log.specs.Epochs.{entry_at}
+use Rattle.follower_log.proofs.ShowsLemmas.{prefix_ends}
 use Rattle.follower_log.specs.Follower.{FollowerState}
+use Rattle.follower_log.specs.Prefix.{nothing_taken}
 use Rattle.transformations.specs.Log.{commands_of}
 use Rattle.transformations.specs.declared.entry.Entry.{Entry}
 use Rattle.transformations.specs.declared.image.Image.{Image}
@@ -18,12 +20,14 @@ use Rattle.script_lang.specs.Grammar.{line_of}
 use Rattle.script_lang.specs.declared.script_line.ScriptLine.{ScriptLine}
 use Rattle.script_lang.specs.declared.script_line.ScriptLine.TheVariants.{Commit, Follower, Deliver, Snapshot, Ask, Give, Place, Nodes, Quorum, Local}
 use Rattle.script_session.specs.Machine.{Reply, SessionState, ask_of, asked_reply, deliver_to, entries_added, follower_named, give_to, image_at, most_replies, only_answers, replied, reply, reply_numbered, reply_of, reply_to, session_after, session_next, session_over, snapshot_to, with_follower}
+use Rattle.script_session.specs.Taken.{taken_in}
 use Rattle.script_session.specs.declared.session.followers.NamedFollower.{NamedFollower}
-use Rattle.script_session.proofs.AnswersLemmas.{session_after-append}
-use Rattle.script_session.proofs.FollowerLemmas.{named_within, with_itself, with_named}
-use Rattle.script_session.proofs.SessionLemmas.{IsSession, after_lines}
-use Rattle.script_session.proofs.TakenLemmas.{follower_cases}
-use Rattle.session_laws.proofs.CatchUpLines.{none_falls, replies_from, replies_lead}
+use Rattle.script_session.proofs.answers.AnswersLemmas.{session_after-append}
+use Rattle.script_session.proofs.followers.FollowerLemmas.{named_within, with_itself, with_named}
+use Rattle.script_session.proofs.steps.SessionLemmas.{IsSession, after_lines}
+use Rattle.script_session.proofs.followers.TakenLemmas.{follower_cases}
+use Rattle.session_laws.proofs.CatchUpLines.{NoNextWaits, none_falls, replies_from, replies_lead}
+use Rattle.session_laws.proofs.TakenLines.{followers_show}
 use Rattle.session_laws.specs.CatchUp.{AskedRepliesLead, BringsTo, IsAsked, IsLedBy, IsNotBefore, NoneFalls, RepliesSkipNothing}
 
 -- ---- what is kept
@@ -187,18 +191,24 @@ module _ (session : SessionState) (give : List ℕ) (given : NamedFollower) (num
 
 -- ---- both
 
-asked_lead : (session : SessionState) → IsSession session → AskedRepliesLead session
+asked_lead : (session : SessionState) → IsSession session → ((lines : List (List ℕ)) → NoNextWaits (session_after session lines)) → AskedRepliesLead session
 unfolding asked_from
-asked_lead session is = λ ask give lines asking given max asked there.
+asked_lead session is none_waits = λ ask give lines asking given max asked there.
     let since = asking.follower.image.epoch in
     let made = catch_up_reply session.log since max in
     let later = session_after session (ask ∷ lines) in
     let number = length session.replies + 1 in
     let kept : reply_numbered later.replies number ≡ Some made = asked_there session ask lines asking max asked in
     let within : since ≤ length session.log = named_within session.log session.followers asking.name asking since is.follow asked.named refl in
-    let leads : IsLedBy later.log made given.follower = replies_lead later (after_lines session (ask ∷ lines) is).is number made given.name given kept there.named (record { reached = there.reached; none = there.none }) in
+    let leads : IsLedBy later.log made given.follower = replies_lead later (after_lines session (ask ∷ lines) is).is (none_waits (ask ∷ lines)) number made given.name given kept there.named there.reached in
     brings later give given number made there.said there.named kept (min (length session.log) (since + max))
     (leads.reaches (asked_from session (ask ∷ lines) since max within)) leads.again
+
+-- a follower of a script shows the longest prefix of what it took, so its next entry doesn't wait
+none_wait : (log : List Entry) (lines : List (List ℕ)) → IsSession (session_over log) → NoNextWaits (session_after (session_over log) lines)
+none_wait log lines is = λ name f there. (
+    let shows = followers_show log lines is lines [] (sym (append-nil lines)) name f there in
+    (prefix_ends (session_after (session_over log) lines).log (taken_in (session_over log) name lines nothing_taken) f.follower (after_lines (session_over log) lines is).is.is_log shows.stands).0 shows.longest)
 
 pub replies_skip_nothing : (log : List Entry) (lines : List (List ℕ)) → IsSession (session_over log) → RepliesSkipNothing log lines
 replies_skip_nothing log lines is = λ front rest cut. (
@@ -206,7 +216,7 @@ replies_skip_nothing log lines is = λ front rest cut. (
     let here : IsSession at = (after_lines (session_over log) front is).is in
     record {
       made = replies_from at here;
-      leads = replies_lead at here;
-      asked = asked_lead at here;
+      leads = replies_lead at here (none_wait log front is);
+      asked = asked_lead at here (λ more. subst NoNextWaits (session_after-append (session_over log) front more) (none_wait log (front ++ more) is));
       rises = subst (λ s. NoneFalls at s) (sym (ap (session_after (session_over log)) cut ∙ session_after-append (session_over log) front rest)) (none_falls at rest);
     })

@@ -1,5 +1,5 @@
 -- Replies in a session: where they lead followers, and that no follower goes back.
-use Rattle.std.proofs.Common.{◌≡◌, ℕ, ◌≤◌, Bool, true, false, if◌then◌else◌, List, [], ◌∷◌, ◌++◌, length, nat_le, codes, Option, Some, None, Result, Ok, Err, refl, sym, ap, ◌∙◌, subst, arith}
+use Rattle.std.proofs.Common.{◌≡◌, ℕ, ◌+◌, ◌≤◌, Bool, true, false, if◌then◌else◌, List, [], ◌∷◌, ◌++◌, length, nat_le, codes, Option, Some, None, Result, Ok, Err, refl, sym, ap, ◌∙◌, subst, arith}
 use Rattle.std.specs.Option.{option_or}
 use Rattle.std.specs.Str.{bytes_eq}
 use Rattle.std.proofs.lemmas.List.Folds.{find-append}
@@ -10,8 +10,8 @@ use Rattle.catch_up_laws.proofs.PartLemmas.{part_leads, part_of}
 use Rattle.catch_up_laws.specs.Given.{given_reply}
 use Rattle.catch_up_laws.specs.Ready.{IsReadyAt}
 use Rattle.epoch_log.specs.Epochs.{entry_at}
-use Rattle.follower_log.proofs.StepsCutShort.{entry_from, image_from}
-use Rattle.follower_log.specs.Follower.{FollowerState, hand_entry, hand_image}
+use Rattle.follower_log.proofs.StepsCutShort.{entry_from, valid_from}
+use Rattle.follower_log.specs.Follower.{FollowerState, hand_entry, hand_valid, waiting_at}
 use Rattle.transformations.specs.Log.{commands_of}
 use Rattle.transformations.specs.declared.entry.Entry.{Entry}
 use Rattle.transformations.specs.declared.image.Image.{Image}
@@ -22,10 +22,10 @@ use Rattle.script_lang.specs.declared.script_line.ScriptLine.TheVariants.{Commit
 use Rattle.script_session.specs.Machine.{Reply, SessionState, ask_of, asked_reply, deliver_to, follower_named, give_to, image_at, most_replies, new_follower, only_answers, replied, reply, reply_numbered, reply_of, reply_to, session_after, session_next, snapshot_to, with_follower}
 use Rattle.script_session.specs.StepEnds.{FollowsLog}
 use Rattle.script_session.specs.declared.session.followers.NamedFollower.{NamedFollower}
-use Rattle.script_session.proofs.FollowerLemmas.{named_follows, other_with, same_bytes, with_named}
-use Rattle.script_session.proofs.KeptReplyLemmas.{numbered_from}
-use Rattle.script_session.proofs.SessionLemmas.{IsSession}
-use Rattle.script_session.proofs.TakenLemmas.{follower_cases}
+use Rattle.script_session.proofs.followers.FollowerLemmas.{named_follows, other_with, same_bytes, with_named}
+use Rattle.script_session.proofs.replies.KeptReplyLemmas.{numbered_from}
+use Rattle.script_session.proofs.steps.SessionLemmas.{IsSession}
+use Rattle.script_session.proofs.followers.TakenLemmas.{follower_cases}
 use Rattle.session_laws.specs.CatchUp.{IsNotBefore, NoneFalls, RepliesAreFromLog, RepliesLead}
 
 -- ---- where replies lead
@@ -33,11 +33,15 @@ use Rattle.session_laws.specs.CatchUp.{IsNotBefore, NoneFalls, RepliesAreFromLog
 pub replies_from : (session : SessionState) → IsSession session → RepliesAreFromLog session
 replies_from session is = λ number given there. numbered_from session.log session.replies number given is.replies there
 
-pub replies_lead : (session : SessionState) → IsSession session → RepliesLead session
-replies_lead session is = λ number given name f there named ready. (
+-- no follower waits with the entry that is next for it
+abbrev pub NoNextWaits : SessionState → Type 0
+NoNextWaits session = (name : List ℕ) (f : NamedFollower) → follower_named session.followers name ≡ Some f → waiting_at f.follower.waiting (f.follower.image.epoch + 1) ≡ None
+
+pub replies_lead : (session : SessionState) → IsSession session → NoNextWaits session → RepliesLead session
+replies_lead session is none_waits = λ number given name f there named reached. (
     let from : IsReplyFrom session.log given = replies_from session is number given there in
     let follows : FollowsLog session.log f.follower = named_follows session.log session.followers name f is.follow named in
-    let at : IsReadyAt session.log given.since f.follower = record { taken = follows.taken; stands = follows.stands; reached = ready.reached; none = ready.none } in
+    let at : IsReadyAt session.log given.since f.follower = record { taken = follows.taken; stands = follows.stands; reached = reached; none = none_waits name f named } in
     let part = part_of session.log given from in
     record {
       reaches = λ made. omega (arith, part_leads session.log given made, (reply_ready session.log given f.follower is.is_log part at).reached);
@@ -87,7 +91,7 @@ on_deliver session to g there (Some entry) = led session to g (hand_entry g.foll
 
 on_snapshot : (session : SessionState) (to : List ℕ) (g : NamedFollower) → follower_named session.followers to ≡ Some g → (r : Result Image (List ℕ)) → NoneFalls session (replied session (snapshot_to session to g.follower r))
 on_snapshot session to g there (Err reason) = still session _ refl _ _
-on_snapshot session to g there (Ok image) = led session to g (hand_image g.follower image).after _ _ there (image_from g.follower image).up
+on_snapshot session to g there (Ok image) = led session to g (hand_valid g.follower image).after _ _ there (valid_from g.follower image).up
 
 on_ask : (session : SessionState) (max : ℕ) (f : FollowerState) → NoneFalls session (replied session (ask_of session max f))
 on_ask session max f = by (nat_le most_replies (length session.replies))

@@ -37,7 +37,7 @@ use Rattle.wire_json.specs.EntryTexts.{entry_line}
 use Rattle.session_laws.proofs.texts.PlainEntries.{entry_is_line}
 use Rattle.session_laws.proofs.texts.PlainImages.{commit_plain}
 use Rattle.session_laws.proofs.texts.PlainTexts.{plain_signed, HasPlainNames, is_plain, plain_decimal, plain_joined, plain_name, plain_refusal}
-use Rattle.script_session.proofs.SessionLemmas.{IsSession, added_entry, session_empty}
+use Rattle.script_session.proofs.steps.SessionLemmas.{IsSession, added_entry, session_empty}
 use Rattle.session_laws.proofs.texts.WholeLines.{AreLines, AreLines-append, AreLines-nil}
 
 -- ---- the commands of lines

@@ -1,3 +1,4 @@
+pub mod AnsweredLines
 pub mod AskedReplies
 pub mod CatchUpLines
 pub mod FileLogs

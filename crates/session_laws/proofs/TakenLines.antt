@@ -15,7 +15,7 @@ use Rattle.catch_up_laws.specs.Given.{given_reply}
 use Rattle.epoch_log.specs.Epochs.{entry_at}
 use Rattle.follower_log.proofs.GrowthLemmas.{stands_on}
 use Rattle.follower_log.proofs.ShowsLemmas.{empty_stands, prefix_ends}
-use Rattle.follower_log.specs.Follower.{FollowerState, empty_follower, hand_entry, hand_image}
+use Rattle.follower_log.specs.Follower.{FollowerState, empty_follower, hand_entry, hand_valid}
 use Rattle.follower_log.specs.Prefix.{Taken, nothing_taken}
 use Rattle.script_lang.specs.AnswerTexts.{no_text}
 use Rattle.script_lang.specs.Grammar.{line_of}
@@ -24,12 +24,12 @@ use Rattle.script_lang.specs.declared.script_line.ScriptLine.TheVariants.{Commit
 use Rattle.script_session.specs.Machine.{Reply, SessionState, answer_from, ask_of, asked_reply, deliver_to, give_to, most_replies, only_answers, reply_numbered, follower_named, follower_reply, image_at, image_named, new_follower, query_text, replied, reply, reply_of, reply_to, session_after, session_next, session_over, snapshot_to, with_follower}
 use Rattle.script_session.specs.Taken.{AllShowPrefixes, AnswerAsLog, FollowersShow, ShowsPrefix, and_entry, and_image, and_reply, by_follower, taken_by, taken_in}
 use Rattle.script_session.specs.declared.session.followers.NamedFollower.{NamedFollower}
-use Rattle.script_session.proofs.SessionLemmas.{IsSession, after_reply}
+use Rattle.script_session.proofs.steps.SessionLemmas.{IsSession, after_reply}
 use Rattle.script_session.specs.code.StepParts.{AllFrom}
-use Rattle.script_session.proofs.GivenReplies.{reply_shown}
-use Rattle.script_session.proofs.KeptReplyLemmas.{numbered_from}
-use Rattle.script_session.proofs.FollowerLemmas.{named_follows, other_with, same_bytes, with_named}
-use Rattle.script_session.proofs.TakenLemmas.{entry_shown, entry_there, follower_cases, image_shown, image_there, shows_log}
+use Rattle.script_session.proofs.replies.GivenReplies.{reply_shown}
+use Rattle.script_session.proofs.replies.KeptReplyLemmas.{numbered_from}
+use Rattle.script_session.proofs.followers.FollowerLemmas.{named_follows, other_with, same_bytes, with_named}
+use Rattle.script_session.proofs.followers.TakenLemmas.{entry_shown, entry_there, follower_cases, image_shown, image_there, shows_log}
 
 -- what was taken by the follower with a name, if there is one: it shows the prefix of it
 abbrev pub ShowsNamed : List Entry → Taken → Option NamedFollower → Type 0
@@ -145,7 +145,7 @@ module _ (session : SessionState) (is : IsLog session.log) (name : List ℕ) (ta
   on_snapshot to f there (Err reason) epoch is_at = named_still session.log _ _ (not_taken (bytes_eq to name) (follower_named session.followers name) shows (λ g. taken) (λ g. refl))
   on_snapshot to f there (Ok image) epoch is_at =
       named_still session.log _ _
-      (took to f (hand_image f.follower image).after there (λ g. and_image g (Ok image) taken)
+      (took to f (hand_valid f.follower image).after there (λ g. and_image g (Ok image) taken)
       (λ shown. image_shown session.log taken f.follower image is (image_there session.log epoch image is_at) shown))
 
   on_ask : (max : ℕ) (f : FollowerState) → ShowsIn (replied session (ask_of session max f)) name taken

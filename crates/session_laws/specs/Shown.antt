@@ -24,11 +24,12 @@ pub record Shown : Type 0 where
   pub epoch : ℕ
   pub sets : Sets
 
--- the text of an answer that shows quorums
+-- the first word of an answer that shows quorums
 abbrev pub word_of : Option (List ℕ) → List ℕ
 word_of None = codes "QUORUM"
 word_of (Some dc) = codes "LOCAL"
 
+-- the text of an answer that shows quorums
 abbrev pub shown_text : Shown → List ℕ
 shown_text s = quorum_text (word_of s.datacenter) s.epoch s.sets
 
@@ -38,10 +39,11 @@ sets_in image t None k = Some (sets_at image k.replication t)
 sets_in image t (Some dc) k =
     option_map (λ f. local_sets_at image k.replication f t) (datacenter_of (datacenters_of k.replication) dc)
 
--- a text begins with the word of an answer with quorums; or it does not
+-- a text begins with the word of an answer with quorums
 abbrev pub BeginsWithWord : List ℕ → Type 0
 BeginsWithWord text = (take 6 text ≡ codes "QUORUM") ⊎ (take 5 text ≡ codes "LOCAL")
 
+-- a text doesn't begin with such a word
 abbrev pub IsOfNoQuorum : List ℕ → Type 0
 IsOfNoQuorum text = BeginsWithWord text → ⊥
 
@@ -52,16 +54,18 @@ shown_from (Ok image) name dc t =
     let show : Sets → Shown = λ s. record { datacenter = dc; keyspace = name; token = t; epoch = image.epoch; sets = s } in
     option_map show (option_and_then (sets_in image t dc) (keyspace_of image name))
 
+-- the quorums that the answer to a line shows, if it shows some
 abbrev pub shown_by : SessionState → Option ScriptLine → Option Shown
 shown_by session (Some (Quorum target name t)) = shown_from (image_of session target) name None t
 shown_by session (Some (Local target name dc t)) = shown_from (image_of session target) name (Some dc) t
 shown_by session _ = None
 
--- the quorums that the answers to lines show, in their order, from a session on
+-- the quorums that an answer shows, if it shows some, before those of later answers
 abbrev pub and_shown : Option Shown → List Shown → List Shown
 and_shown None later = later
 and_shown (Some s) later = s ∷ later
 
+-- the quorums that the answers to lines show, in their order, from a session on
 abbrev pub shown : SessionState → List (List ℕ) → List Shown
 shown session [] = []
 shown session (bytes ∷ lines) =
@@ -73,7 +77,7 @@ pub record AskAlike (p q : Shown) : Type 0 where
   pub keyspace : p.keyspace ≡ q.keyspace
   pub token : p.token ≡ q.token
 
--- they are at the same epoch, or the second is at the next epoch, which is a movement epoch for their keyspace
+-- two answers are at the same epoch, or the second is at the next epoch, which is a movement epoch for their keyspace
 abbrev pub AreAdjacent : List Command → Shown → Shown → Type 0
 AreAdjacent history p q = (p.epoch ≡ q.epoch) ⊎ ((q.epoch ≡ p.epoch + 1) × (option_map (makes_movement_epoch p.keyspace) (slice_get history p.epoch) ≡ Some true))
 

@@ -4,5 +4,6 @@
 pub mod validity;
 
 pub use validity::{
-    catch_up_skips_nothing, followers_show_prefixes, lines_make_the_input, shown_quorums_meet,
+    catch_up_skips_nothing, followers_show_prefixes, lines_are_answered, lines_make_the_input,
+    shown_quorums_meet,
 };

@@ -1,7 +1,7 @@
 //! Facts about the definitions of a session: the lines of an input, the quorums in answers, what followers show, and
 //! where replies lead.
 
-ghost use Rattle.std.specs.Prelude.{◌≡◌, ℕ, ◌++◌, [], List, None, Some, Ok, flat_map};
+ghost use Rattle.std.specs.Prelude.{◌≡◌, ◌≢◌, ℕ, ◌++◌, [], List, None, Some, Ok, flat_map};
 ghost use Rattle.std.specs.List.{AllByRecursion};
 ghost use Rattle.script_lang.specs.Grammar.{line_of};
 ghost use Rattle.script_lang.specs.AnswerTexts.{line};
@@ -77,19 +77,29 @@ pub fn followers_show_prefixes()
         → AnswerAsLog (session_after (session_over log) lines) }
 {}
 
+/// Each line of a script is answered by at least one byte. Only a fork, a refused entry and a bad image would be answered
+/// by no text, and none of them comes: a follower of a session is handed only entries and images of the session's log.
+///
+/// The first line is answered from the log in a file; a file without lines is the empty log.
+pub fn lines_are_answered()
+    // Promise: each line of a script is answered by at least one byte. Guards: law.
+    ensures { (file : List ℕ) (log : List Entry) (lines : List (List ℕ)) (bytes : List ℕ) → log_of file ≡ Ok log
+        → (reply (session_after (session_over log) lines) bytes).text ≢ [] }
+{}
+
 /// Replies skip nothing, whether they are lost, come twice or come late. Each reply of a session is one from its log:
 /// it was made when the log had its first entries, maybe not all that it has now.
 ///
-/// Let a follower have reached the epoch that the reply was asked from, and let no entry of its next epoch wait. Given
-/// the reply, it comes at least to the lesser of two epochs: the last one when the reply was made, and the one that is
-/// `MAX` after the one asked from. Given the same reply again, nothing changes. No line takes a follower back to an
-/// earlier epoch. All this holds after each line of a script.
+/// Let a follower have reached the epoch that the reply was asked from. Given the reply, it comes at least to the lesser
+/// of two epochs: the last one when the reply was made, and the one that is `MAX` after the one asked from. Given the
+/// same reply again, nothing changes. No line takes a follower back to an earlier epoch. All this holds after each line
+/// of a script.
 ///
 /// The first line is answered from the log in a file; a file without lines is the empty log.
 pub fn catch_up_skips_nothing()
     // Promise: each reply of a session is one from its log. Guards: law.
-    // Promise: a follower that is ready for a reply comes by it to the last epoch of that time or `max` epochs further,
-    // whichever is less, and again it changes nothing. Guards: law.
+    // Promise: a follower that has reached the epoch from which a reply was asked comes by it to the last epoch of that
+    // time, or `max` epochs after that epoch, whichever is less; again it changes nothing. Guards: law.
     // Promise: no line takes a follower back to an earlier epoch. Guards: law.
     ensures { (file : List ℕ) (log : List Entry) (lines : List (List ℕ)) → log_of file ≡ Ok log
         → RepliesSkipNothing log lines }

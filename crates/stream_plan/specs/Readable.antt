@@ -20,8 +20,8 @@ use Rattle.stream_plan.specs.declared.stream_row.StreamRow.{StreamRow}
 abbrev pub streams_strictly : List StreamRow → ℤ → List ℕ → ℕ → Bool
 streams_strictly rows x taken n = list_any (λ row. is_for x n row && is_strictly_from taken row.from) rows
 
--- of any `need` nodes placed before and any `need` nodes placed with the movement: one of the latter is among the former,
--- or streams strictly from one of them
+-- of any `need` nodes placed before and any `need` nodes placed with the movement: one of the latter is among the
+-- former, or streams strictly from one of them
 abbrev pub AreReached : List StreamRow → ℤ → ℕ → List ℕ → List ℕ → Type 0
 AreReached rows x need before after = (taken asked : List ℕ) → AreSome need before taken → AreSome need after asked
     → IsTrue (list_any (λ n. is_member nat_eq taken n || streams_strictly rows x taken n) asked)
@@ -37,7 +37,8 @@ pub record AreReadable (image : Image) (rows : List StreamRow) (r : Replication)
 abbrev pub KeepReadable : Image → List StreamRow → Replication → SeqRow → Type 0
 KeepReadable image rows r s = (x : ℤ) → IsToken x → AreReadable image rows r s x
 
--- the strict sources at a token: each is placed there before the movement and not with it, and is the source of one node
+-- the strict sources at a token: each is placed there before the movement and not with it, and is the source of one
+-- node
 pub record AreSources (image : Image) (r : Replication) (s : SeqRow) (x : ℤ) : Type 0 where
   pub before : (n source : ℕ) → source_at image r s x n ≡ Strict source → is_member nat_eq (placed_before image r x) source ≡ true
   pub gone : (n source : ℕ) → source_at image r s x n ≡ Strict source → is_member nat_eq (placed_with image r s x) source ≡ false

@@ -27,11 +27,12 @@ strict_source [] gained lost n = None
 strict_source (g ∷ gs) gained lost n =
     if is_some (g.rack_of n) then paired (nodes_in g gained) (nodes_in g lost) n else strict_source gs gained lost n
 
--- from where a gained node streams: strictly from its source, and otherwise from any of the nodes placed before
+-- from where a gained node streams: strictly from its source, and without one from any of the nodes placed before
 abbrev pub from_source : List ℕ → Option ℕ → StreamFrom
 from_source before None = AnyOf before
 from_source before (Some source) = Strict source
 
+-- from where a gained node streams, by the nodes that are gained and lost
 abbrev pub streams_from : List Group → List ℕ → List ℕ → List ℕ → ℕ → StreamFrom
 streams_from gs before gained lost n = from_source before (strict_source gs gained lost n)
 

@@ -18,14 +18,16 @@ use Rattle.transformations.specs.declared.sequence.SeqRow.{SeqRow}
 use Rattle.stream_plan.specs.Sources.{streams_from}
 use Rattle.stream_plan.specs.declared.stream_row.StreamRow.{StreamRow}
 
--- the row of a gained node in a range, and the rows of the range: one for each gained node, ascending
+-- the row of a gained node in a range
 abbrev pub row_for : List Group → TokenRange → List ℕ → List ℕ → List ℕ → ℕ → StreamRow
 row_for gs range before gained lost n =
     record { left = range.left; right = range.right; to = n; from = streams_from gs before gained lost n }
 
+-- the rows of a range: one for each gained node, ascending
 abbrev pub rows_in : List Group → TokenRange → List ℕ → List ℕ → List ℕ → List StreamRow
 rows_in gs range before gained lost = map (row_for gs range before gained lost) gained
 
+-- the rows of a range between cuts, by its last token
 abbrev pub rows_of_range : Image → Replication → SeqRow → TokenRange → List StreamRow
 rows_of_range image r s range =
     let x = last_token range.right in
@@ -35,11 +37,12 @@ rows_of_range image r s range =
 abbrev pub stream_rows : Image → Replication → SeqRow → List StreamRow
 stream_rows image r s = flat_map (rows_of_range image r s) (rows_between (cuts image))
 
--- the stream plan of the movement of a node under a keyspace, if there are both
+-- the stream plan of a movement under a keyspace, if there are both
 abbrev pub streams_under : Image → Option KeyspaceRow → Option SeqRow → Option (List StreamRow)
 streams_under image (Some k) (Some s) = Some (stream_rows image k.replication s)
 streams_under image _ _ = None
 
+-- the stream plan of the movement of a node under the keyspace of this name, if there are both
 abbrev pub streams : Image → ℕ → List ℕ → Option (List StreamRow)
 streams image n name = streams_under image (keyspace_of image name) (movement_of image n)
 
@@ -47,10 +50,11 @@ streams image n name = streams_under image (keyspace_of image name) (movement_of
 abbrev pub OfMovement : Image → ℕ → List ℕ → (Replication → SeqRow → Type 0) → Type 0
 OfMovement image n name Fact = IfSome (keyspace_of image name) (λ k. IfSome (movement_of image n) (Fact k.replication))
 
--- the range of a row, and whether a row is for a node at a token
+-- the range of a row
 abbrev pub range_of : StreamRow → TokenRange
 range_of row = record { left = row.left; right = row.right }
 
+-- whether a row is for a node at a token
 abbrev pub is_for : ℤ → ℕ → StreamRow → Bool
 is_for x n row = is_within x (range_of row) && nat_eq n row.to
 

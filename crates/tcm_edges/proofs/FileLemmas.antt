@@ -1,5 +1,5 @@
 -- Lemmas on files, and on a list of files as a map.
-use Rattle.std.proofs.Common.{◌≡◌, ◌≢◌, ℕ, suc, ◌+◌, ◌<◌, ◌≤◌, Bool, true, false, cond, not, ltb, List, [], ◌∷◌, ◌++◌, Option, Some, None, refl, sym, ap, ◌∙◌, subst, length, get_or, set, position, arith, add_comm, add-one, take, inl, inr, ◌==◌, leb, replicate}
+use Rattle.std.proofs.Common.{◌≡◌, ◌≢◌, ℕ, suc, ◌+◌, ◌<◌, ◌≤◌, Bool, true, false, cond, not, ltb, List, [], ◌∷◌, ◌++◌, Option, Some, None, refl, sym, ap, ◌∙◌, subst, length, get_or, set, position, arith, add_comm, add-one, take, inl, inr, ◌==◌, replicate}
 use Rattle.std.specs.List.{list_any, position_or_len}
 use Rattle.std.specs.Ordering.{nat_cmp, eq_by_cmp}
 use Rattle.std.specs.Cmp.Lexicographic.{slice_cmp}
@@ -8,13 +8,12 @@ use Rattle.std.specs.Str.{bytes_eq}
 use Rattle.std.proofs.lemmas.Map.Text.{is_eq-slice_cmp}
 use Rattle.std.proofs.lemmas.Cmp.{nat_list_cmp_total}
 use Rattle.std.proofs.lemmas.Slice.Eq.{bytes_eq-Decides}
-use Rattle.std.proofs.lemmas.Bool.{le-leb, leb-false, leb-true, lt-leb, ltb-true, ltb-false, false≢true, false_from_ne_true, or_from, or_parts}
+use Rattle.std.proofs.lemmas.Bool.{le-leb, lt-leb, ltb-true, ltb-false, false≢true, false_from_ne_true, or_from, or_parts}
 use Rattle.std.proofs.lemmas.List.{length-replicate}
 use Rattle.std.proofs.Math.Seq.{get_or-append_seam, set-append_seam}
-use Rattle.tcm_edges.specs.declared.store.Loaded.{Loaded}
 use Rattle.tcm_edges.specs.declared.store.Loaded.TheVariants.{Bytes, TooLarge}
 use Rattle.tcm_edges.specs.FailingFiles.{after_append, after_failed_append, after_failed_replace}
-use Rattle.tcm_edges.specs.Files.{Files, content, file_of, untold_files, GainsPart, IsLoad, IsOldOrNew, loaded_of}
+use Rattle.tcm_edges.specs.Files.{Files, content, file_of, untold_files, GainsPart, IsLoad, IsOldOrNew}
 use Rattle.tcm_edges.specs.code.StoredFiles.{is_named}
 
 -- ---- names
@@ -220,40 +219,6 @@ IsLoad-too_large name limit size above =
 pub IsLoad-bytes : (name bytes : List ℕ) (limit : ℕ) → length bytes ≤ limit → IsLoad untold_files name limit (Bytes bytes)
 IsLoad-bytes name bytes limit within =
     record { file = Some bytes; told = tt; answer = ap (λ b. cond b (Bytes bytes) (TooLarge (length bytes))) (sym (le-leb (length bytes) limit within)) }
-
--- ---- what a load tells of any store
-
--- the answer of a load of a file that is there, by whether the limit allows it
-abbrev answer_by : Bool → List ℕ → Loaded
-answer_by b held = cond b (Bytes held) (TooLarge (length held))
-
-within_by : (held bytes : List ℕ) (limit : ℕ) (b : Bool) → leb (length held) limit ≡ b → Bytes bytes ≡ answer_by b held → length bytes ≤ limit
-within_by held bytes limit true is e =
-    let same_bytes : bytes ≡ held = cc in
-    omega (arith, ap length same_bytes, leb-true (length held) limit is)
-within_by held bytes limit false is e = absurd (cc)
-
-above_by : (held : List ℕ) (size limit : ℕ) (b : Bool) → leb (length held) limit ≡ b → TooLarge size ≡ answer_by b held → limit < size
-above_by held size limit true is e = absurd (cc)
-above_by held size limit false is e =
-    let same_size : size ≡ length held = cc in
-    omega (arith, same_size, leb-false (length held) limit is)
-
--- the bytes of a load are at most as many as the limit
-pub IsLoad-within : (all : Option Files) (name : List ℕ) (limit : ℕ) (bytes : List ℕ) → IsLoad all name limit (Bytes bytes) → length bytes ≤ limit
-IsLoad-within all name limit bytes load = by load.file load.answer
-  where
-    by : (file : Option (List ℕ)) → Bytes bytes ≡ loaded_of file limit → length bytes ≤ limit
-    by None e = absurd (cc)
-    by (Some held) e = within_by held bytes limit (leb (length held) limit) refl e
-
--- a file that is too large has more bytes than the limit
-pub IsLoad-above : (all : Option Files) (name : List ℕ) (limit size : ℕ) → IsLoad all name limit (TooLarge size) → limit < size
-IsLoad-above all name limit size load = by load.file load.answer
-  where
-    by : (file : Option (List ℕ)) → TooLarge size ≡ loaded_of file limit → limit < size
-    by None e = absurd (cc)
-    by (Some held) e = above_by held size limit (leb (length held) limit) refl e
 
 -- ---- calls that fail by a list
 

@@ -117,6 +117,3 @@ module _ {D : Type 0} (told : D → Option Files) (shows : D → Files → Type 
   -- calls that change no file
   pub stays_kept : told new ≡ told old → ShowsNoMore (shows old) (shows new) → StaysOnly told shows old new
   stays_kept kept no_more only f shown = kept ∙ only f (no_more f shown)
-
-  pub stays_same : new ≡ old → StaysOnly told shows old new
-  stays_same same = subst (λ (d : D). StaysOnly told shows old d) (sym same) (λ only. only)

@@ -23,10 +23,11 @@ after_failed_append all name kept = if length kept == 0 then all else after_appe
 abbrev pub after_failed_replace : Files → List ℕ → List ℕ → ℕ → Files
 after_failed_replace all name bytes keep = if keep == 0 then all else map.insert all name bytes
 
--- how proofs tell these values apart: no promise rests on it
+-- how proofs tell two failures apart: no promise rests on it
 abbrev pub store_fail_code : Coded StoreFail
 store_fail_code = code_by (ℕ × ℕ) (coded× coded_ℕ coded_ℕ) (λ fail. (fail.call, fail.keep)) (λ p. record { call = p.0; keep = p.1 }) (λ _. refl)
 
+-- how proofs tell two such stores apart: no promise rests on it
 abbrev pub failing_files_code : Coded FailingFiles
 failing_files_code =
     code_by (Files × (List StoreFail × (ℕ × ℕ))) (coded× (map.code (coded_list coded_ℕ) (coded_list coded_ℕ)) (coded× (coded_list store_fail_code) (coded× coded_ℕ coded_ℕ)))

@@ -23,7 +23,8 @@ pub trait Store {
     /// The bytes of each file by name, if the store tells them.
     ghost files: { Self → Option Files };
 
-    /// Whether a crash now may leave these files: those that the store tells, and maybe others.
+    /// Whether a crash now may leave these files: those that the store tells, and maybe others. If nothing is known of
+    /// crashes, as with `FileStore`, there are no such files. Then the clauses about crashes say nothing.
     ghost shows: { Self → Files → Type 0 };
 
     /// The count of failures. A call that returns `Failed` adds one, at most up to the greatest `u64`; no other call

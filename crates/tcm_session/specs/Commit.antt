@@ -23,22 +23,24 @@ pub record Start : Type 0 where
 abbrev pub files_with : Start → List (List ℕ) → Files
 files_with start lines = with_added start.file (entry_lines (entries_added (session_over start.log) lines)) start.files
 
--- all lines are answered; if the script is too large, only the lines that end within the limit are
+-- the outcome of a script within the limit: all its lines are answered
 abbrev pub whole_outcome : Start → List ℕ → Outcome
 whole_outcome start input =
     let lines = script_lines input in
     record { status = 0; log = start.log; lines = lines; last = []; reads = true; files = files_with start lines }
 
+-- the outcome of a script that is too large: only the lines that end within the limit are answered
 abbrev pub large_outcome : Start → List ℕ → Outcome
 large_outcome start input =
     let lines = whole_lines (take input_limit input) in
     record { status = 8; log = start.log; lines = lines; last = too_large_text; reads = true; files = files_with start lines }
 
+-- the outcome of a script, by its size
 unfoldable pub script_outcome : Start → List ℕ → Outcome
 script_outcome start input = if nat_le (length input) input_limit then whole_outcome start input else large_outcome start input
 
--- a script from the log in a file, which keeps its whole lines, or gets the header if it has none; if the log is refused,
--- no line is answered
+-- a script from the log in a file, which keeps its whole lines, or gets the header if it has none; if the log is
+-- refused, no line is answered
 abbrev pub outcome_from : List ℕ → List ℕ → Files → List ℕ → Result (List Entry) RefusedLine → List ℕ → Outcome
 outcome_from name cluster all file (Ok log) input =
     script_outcome (record { log = log; file = Some name; files = map.insert all name (base_of cluster file) }) input
@@ -54,9 +56,10 @@ outcome_loaded name cluster all loaded.Absent input = outcome_in name cluster al
 outcome_loaded name cluster all (loaded.TooLarge size) input = ended_outcome too_large_end all
 outcome_loaded name cluster all (loaded.Bytes file) input = outcome_in name cluster all file input
 
--- without a log file, and with the log file of a cluster
+-- the outcome of `commit` without a log file
 abbrev pub commit_outcome : Files → List ℕ → Outcome
 commit_outcome all input = script_outcome (record { log = []; file = None; files = all }) input
 
+-- the outcome of `commit` with the log file of a cluster
 abbrev pub commit_to_outcome : List ℕ → List ℕ → Files → List ℕ → Outcome
 commit_to_outcome name cluster all input = outcome_loaded name cluster all (loaded_of (file_of all name) input_limit) input

@@ -23,13 +23,15 @@ pub record Mending : Type 0 where
   pub ending : Ending
   pub made : Option (List ℕ)
 
+-- the command ends so, and makes no file
 abbrev pub makes_nothing : Ending → Mending
 makes_nothing ending = record { ending = ending; made = None }
 
--- the end once NEW is made, with the number of entries, and the end at a NEW that is there
+-- the end once NEW is made, with the number of entries
 abbrev pub mended_end : ℕ → Ending
 mended_end entries = record { status = 0; text = line (codes "MENDED " ++ decimal entries) }
 
+-- the end at a NEW that is there
 abbrev pub file_there_end : List ℕ → Ending
 file_there_end name = record { status = 7; text = line (codes "FILE-THERE " ++ name) }
 
@@ -38,6 +40,7 @@ abbrev pub mending_to : List ℕ → List ℕ → List Entry → Option (List �
 mending_to new cluster log (Some file) = makes_nothing (file_there_end new)
 mending_to new cluster log None = record { ending = mended_end (length log); made = Some (log_text cluster log) }
 
+-- by the log in OLD, or its first line that is refused
 abbrev pub mending_from : List ℕ → List ℕ → Result (List Entry) RefusedLine → Option (List ℕ) → Mending
 mending_from new cluster (Ok log) found = mending_to new cluster log found
 mending_from new cluster (Err refused) found = makes_nothing (refused_end refused)
@@ -48,18 +51,20 @@ mending_loaded old new cluster loaded.Absent found = makes_nothing (absent_end o
 mending_loaded old new cluster (loaded.TooLarge size) found = makes_nothing too_large_end
 mending_loaded old new cluster (loaded.Bytes file) found = mending_from new cluster (old_log_of file) found
 
--- `seen 0` are the files as the load of OLD finds them, and `seen 1` as that of NEW does
+-- by the files: `seen 0` are the files as the load of OLD finds them, and `seen 1` as that of NEW does
 abbrev pub mending : List ℕ → List ℕ → List ℕ → (ℕ → Files) → Mending
 mending old new cluster seen =
     mending_loaded old new cluster (loaded_of (file_of (seen 0) old) input_limit) (file_of (seen 1) new)
 
--- the files once a file is made
+-- the files once a file is made, if one is
 abbrev pub with_made : List ℕ → Option (List ℕ) → Files → Files
 with_made new None all = all
 with_made new (Some bytes) all = map.insert all new bytes
 
+-- the outcome of a command that makes this file, if it makes one
 abbrev pub made_outcome : List ℕ → Mending → Files → Outcome
 made_outcome new mending all = ended_outcome mending.ending (with_made new mending.made all)
 
+-- the outcome of `mend2`
 abbrev pub mend_outcome : List ℕ → List ℕ → List ℕ → (ℕ → Files) → Outcome
 mend_outcome old new cluster seen = made_outcome new (mending old new cluster seen) (seen 0)

@@ -21,8 +21,11 @@ use Rattle.tcm_session.specs.files.StreamPlan.{plan_ending}
 use Rattle.script_session.specs.Lines.{whole_lines}
 use Rattle.script_session.specs.Machine.{answers, session_over}
 
--- the statuses, 0 to 8: all was done, out of memory, the usage line, a line of a file that is refused, a fault of the source,
--- of the sink or of the store, something that is absent or a file that is there, an input or a file that is too large
+-- the statuses are 0 to 8. By the clauses, 0: what was asked for is done: lines answered, or a report, a state, counts,
+-- a stream plan or a route printed, or a log file made. 1: memory ran out. 2: words that name no command. 3: a line of
+-- a file is refused. 4, 5 and 6: the source, the sink or the store failed. 7: what is asked for isn't there: a file, an
+-- epoch, a node's movement, a keyspace, or a node that is JOINED; or a file that is to be made is there. 8: an input or
+-- a file is too large
 abbrev pub IsStatus : ℕ → Type 0
 IsStatus status = status ≤ 8
 
@@ -39,6 +42,7 @@ pub record Told : Type 0 where
   pub written : Option (List ℕ)
   pub files : Option Files
 
+-- what the objects tell, as a record
 abbrev pub told : Option (List ℕ) → Option (List ℕ) → Option Files → Told
 told left written files = record { left = left; written = written; files = files }
 
@@ -48,8 +52,9 @@ AreSeen files seen = IfSome files (λ these. (i : ℕ) → seen i ≡ these)
 
 -- ---- scripts
 
--- the input of a run, and the files as its load i, counted from 0, finds them: if the source tells its bytes, they are
--- the input, and if the store tells its files, each load finds these
+-- there are an input of the run, and files as its load i, counted from 0, finds them. If the source tells its bytes,
+-- they are the input; else it is some input. If the store tells its files, each load finds these; else they are some
+-- files
 pub record Given (left : Option (List ℕ)) (files : Option Files) : Type 0 where
   pub input : List ℕ
   pub seen : ℕ → Files
@@ -76,15 +81,15 @@ pub record HasRead (log : List Entry) (left left' written written' : Option (Lis
   -- at status 4 the printed bytes are exactly the answers to the lines that end among the bytes read
   pub read_fault : status ≡ 4 → Appends written written' (answers (session_over log) (whole_lines read))
 
--- a script whose lines are answered has read its input to the end at status 0, and the byte past the limit at its status
--- 8; an outcome that reads no input keeps the source as it was, and doesn't end in 4
+-- a script whose lines are answered has read its input to the end at status 0, and the byte past the limit at its
+-- status 8; an outcome that reads no input keeps the source as it was, and doesn't end in 4
 pub record ReadsAll (o : Outcome) (InputKept : Type 0) (left' : Option (List ℕ)) (read : List ℕ) (status : ℕ) : Type 0 where
   pub at_end : status ≡ 0 → o.reads ≡ true → IsAtEnd left'
   pub past_limit : status ≡ 8 → o.reads ≡ true → length read ≡ input_limit + 1
   pub unread : o.reads ≡ false → InputKept × (status ≢ 4)
 
--- a run that has this outcome: it prints it, and reads as it says; Left holds of the printed bytes and the status if a fault
--- or lack of memory (1, 4, 5 or 6) ends it
+-- a run that has this outcome: it prints it, and reads as it says; Left holds of the printed bytes and the status if a
+-- fault or lack of memory (1, 4, 5 or 6) ends it
 pub record RunsTo (o : Outcome) (Left : List ℕ → ℕ → Type 0) (InputKept : Type 0) (before after : Told) (status : ℕ) : Type 0 where
   pub comes : ComesTo o before.written after.written after.files status
   pub reads : HasRead o.log before.left after.left before.written after.written status
@@ -106,7 +111,7 @@ pub record PrintsEnd (ending : Ending) (written written' : Option (List ℕ)) (e
   pub status : IsFinal ended → ended ≡ ending.status
   pub whole : IsFinal ended → printed ≡ ending.text
 
--- a run that looks at files alone: it prints the end that they lead to, reads no input, and changes no file
+-- a run that looks at most at files: it prints the end that they lead to, reads no input, and changes no file
 pub record Looks (ending_of : (ℕ → Files) → Ending) (InputKept : Type 0) (before after : Told) (status : ℕ) : Type 0 where
   pub seen : ℕ → Files
   pub told_files : AreSeen before.files seen
@@ -115,8 +120,8 @@ pub record Looks (ending_of : (ℕ → Files) → Ending) (InputKept : Type 0) (
   pub files : IsFinal status → IfSome after.files (λ these. these ≡ seen 0)
   pub leaves : (IsFinal status → ⊥) → after.files ≡ before.files
 
--- a run that makes a file: it prints the end that the files lead to, and reads no input; a fault or lack of memory leaves
--- the file absent, or whole, and no other file changes
+-- a run that makes a file: it prints the end that the files lead to, and reads no input; a fault or lack of memory
+-- leaves the file as before, or it was absent and is whole, and no other file changes
 pub record MakesFile (name : List ℕ) (mending_of : (ℕ → Files) → Mending) (InputKept : Type 0) (before after : Told) (status : ℕ) : Type 0 where
   pub seen : ℕ → Files
   pub told_files : AreSeen before.files seen
@@ -124,7 +129,7 @@ pub record MakesFile (name : List ℕ) (mending_of : (ℕ → Files) → Mending
   pub unread : InputKept × (status ≢ 4)
   pub files : IsFinal status → IfSome after.files (λ these. these ≡ (made_outcome name (mending_of seen) (seen 0)).files)
   pub leaves : (IsFinal status → ⊥)
-      → ChangesFile (LeavesNew name (made_outcome name (mending_of seen) (seen 0))) before.files after.files name
+      → ChangesFile (LeavesNew name (made_outcome name (mending_of seen) (seen 0)) prints.printed) before.files after.files name
       × OthersKept before.files after.files name
 
 -- ---- each request

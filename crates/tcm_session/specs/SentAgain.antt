@@ -8,21 +8,23 @@ use Rattle.script_lang.specs.declared.script_line.ScriptLine.TheVariants.{Commit
 use Rattle.script_session.specs.LogFiles.{base_of, entry_lines, log_for}
 use Rattle.script_session.specs.Machine.{SessionState, entries_added, reply, session_after, session_next, session_over}
 
--- the answers to the commits among some lines
+-- the text alone, if the line is a commit, and else none
 abbrev pub answer_of_commit : Option ScriptLine → List ℕ → List (List ℕ)
 answer_of_commit (Some (Commit id command)) text = text ∷ []
 answer_of_commit said text = []
 
+-- the answers to the commits among some lines
 abbrev pub commit_answers : SessionState → List (List ℕ) → List (List ℕ)
 commit_answers session [] = []
 commit_answers session (bytes ∷ lines) =
     answer_of_commit (line_of bytes) (reply session bytes).text ++ commit_answers (session_next session bytes) lines
 
--- a commit among some lines is answered with an epoch, and so is each
+-- a line that is a commit is answered with an epoch
 abbrev pub IsAccepted : SessionState → Option ScriptLine → Type 0
 IsAccepted session (Some (Commit id command)) = IsOk (commit_of session.log id command).answer
 IsAccepted session said = Unit {0}
 
+-- each commit among some lines is answered with an epoch
 abbrev pub AreAccepted : SessionState → List (List ℕ) → Type 0
 AreAccepted session [] = Unit {0}
 AreAccepted session (bytes ∷ lines) = IsAccepted session (line_of bytes) × AreAccepted (session_next session bytes) lines

@@ -14,8 +14,8 @@ use durable_log::{Disk, DurableStore};
 use std::alloc::Global;
 use tcm_edges::{Sink, Source};
 
-/// The path of a disk and the words after it, for words that begin with `on` and a path that isn't empty. Returns `None`
-/// for all other words.
+/// The path of a disk and the words after it, for words that begin with `on` and a path that isn't empty. Returns
+/// `None` for all other words.
 pub fn durable_words(words: &[String]) -> Option<(&str, &[String])>
     // Promise: `on`, a word that isn't empty, and any other words name a disk and the words of a run, and no others do.
     // Guards: rows.rt of tcm_disks.
@@ -36,13 +36,14 @@ pub fn durable_words(words: &[String]) -> Option<(&str, &[String])>
 /// Runs the program, as `run` does, over the files on a disk that may stop at any moment. Returns the status, and the
 /// disk.
 ///
-/// First a store is opened on the disk. If this fails, the status is 6, whatever the words are; then nothing was read or
-/// printed, and the files are as before.
+/// First a store is opened on the disk, which syncs it. If this fails, the status is 6, whatever the words are; then
+/// nothing is read or printed, and the files are as before.
 ///
 /// The files are those after the records on the disk. At the end of the run, each image that a crash may leave then
-/// stands for files that a run may leave: each entry whose answer was printed stands whole in its file. This supposes that
-/// each image stood for the told files when the run began, as it does on a disk with one image. At the moments between,
-/// the clauses of `DurableStore` speak: an image stands for the files before or after one call of the store.
+/// stands for files that a run may leave: each entry whose answer was printed stands whole in its file. So it is after
+/// a run that was killed, too, and after one whose last sync failed. Only a run that ends with status 6 and prints
+/// nothing supposes that each image stood for the told files when it began. At the moments between, the clauses of
+/// `DurableStore` speak: an image stands for the files before or after one call of the store.
 ///
 /// Cost: beside that of `run`, up to three reads for each record when the store is opened, and again for each file that
 /// is loaded. Each entry takes five writes and two syncs of the disk.
@@ -59,9 +60,10 @@ pub fn run_durable<S: Source, K: Sink, D: Disk>(
         (told (S.left input.old) (K.written out.old) (told_files (D.content disk)))
         (told (S.left input.new) (K.written out.new) (told_files (D.content result.1))) result.0.0 }
 
-    // Promise: if each image stood for the told files, as after each call of a store, the same holds of the files of each
-    // image afterwards, so an entry whose answer was begun stands whole in the log. Guards: stops.rt of tcm_disks.
-    ensures crash { Stands (D.content disk) (D.image disk (D.moment disk)) →
+    // Promise: the same holds of the files of each image that a crash may leave after the run, so an entry whose answer
+    // was begun stands whole in the log; only a run that ends with status 6 and prints nothing supposes that each image
+    // stood for the told files before it. Guards: stops.rt of tcm_disks.
+    ensures crash { (result.0.0 ≡ 6 → out.new ≡ out.old → Stands (D.content disk) (D.image disk (D.moment disk))) →
         (c : List ℕ) → D.image result.1 (D.moment result.1) c →
         IsRun (spec.request_of (map string_bytes words.now)) (input.new ≡ input.old)
         (told (S.left input.old) (K.written out.old) (told_files (D.content disk)))

@@ -1,5 +1,5 @@
-//! Files of lines: a log that is taken over, lines that are handed to a follower, a state, a route and a stream plan that are
-//! printed, and a log that is written anew.
+//! Files of lines: a log that is taken over, lines that are handed to a follower, a state, a route and a stream plan
+//! that are printed, and a log that is written anew.
 
 pub mod log_file;
 pub mod member_route;

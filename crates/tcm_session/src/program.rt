@@ -106,15 +106,14 @@ fn answer_words<S: Source, K: Sink, D: Store>(
 /// Runs the program `tcm`; `words` are the words after its name. All output goes to `out`.
 ///
 /// - `commit` runs the script in `input` from an empty log, and uses no file.
-/// - `commit LOG CLUSTER` runs it from the log in the file `LOG` of `store`, which is that of the cluster `CLUSTER`, and
-///   adds the line of each new entry to this file before its commit is answered. The first line of the file is a header,
-///   which names the cluster. A file that is absent or has no whole line gets this header first. Bytes after the last
-///   line feed of the file are cut off, once all its lines were found good.
+/// - `commit LOG CLUSTER` runs it from the log in the file `LOG` of `store`, which is that of the cluster `CLUSTER`,
+///   and adds the line of each new entry to this file before its commit is answered. The first line of the file is a
+///   header, which names the cluster. A file that is absent or has no whole line gets this header first. Bytes after
+///   the last line feed of the file are cut off, once all its lines were found good.
 /// - `replay FILE..`, with 1 to 64 files, hands the entries and the images in the lines of these files to one follower,
 ///   in their order, and prints a report: the counts of lines, the epoch of the follower and the number of entries that
-///   wait at it, and the nodes and the placements at this epoch. No input is read, and no file changes. Each file is
-///   loaded once the files before it are done. A file may begin with a header; all headers name one cluster. Bytes after
-///   the last line feed of a file are passed over.
+///   wait at it, and the nodes and the placements at this epoch. No input is read, and no file changes. A file may
+///   begin with a header; all headers name one cluster. Bytes after the last line feed of a file are passed over.
 /// - `snapshot LOG E`, with an E below 2^64 in decimal digits without leading zeros, prints the state of the log in the
 ///   file `LOG` at epoch E, as one line. No input is read, and no file changes. The whole log is checked before E is
 ///   looked at.
@@ -123,15 +122,15 @@ fn answer_words<S: Source, K: Sink, D: Store>(
 ///   and the epoch of its follower. No input is read, and the store isn't used.
 /// - `mend2 OLD NEW CLUSTER` reads the file `OLD` as a log of the older format, which has no header, and makes the file
 ///   `NEW`, the same log as that of the cluster `CLUSTER`. No input is read, and no other file changes.
-/// - `plan LOG NODE KS`, with a NODE below 2^32 in decimal digits without leading zeros and the name of a keyspace, prints
-///   the stream plan of the movement of NODE under KS in the last state of the log in the file `LOG`: a row for each range
-///   between cuts and each node that the movement adds to its replicas, with the node from which it streams, or a list of
-///   nodes of which any will do. `stream_plan::streams` says what such a plan is good for. No input is read, and no file
-///   changes.
-/// - `cms LOG FROM TO`, with lists of 1 to 16 ascending nodes, prints the shortest safe route of the metadata service from
-///   the members FROM to the members TO: each change, and how many of the voting members after it are a majority. The
-///   nodes of TO that are not in FROM must be JOINED in the last state of the log in the file `LOG`. No input is read,
-///   and no file changes.
+/// - `plan LOG NODE KS`, with a NODE below 2^32 in decimal digits without leading zeros and the name of a keyspace,
+///   prints the stream plan of the movement of NODE under KS in the last state of the log in the file `LOG`: a row for
+///   each range between cuts and each node that the movement adds to its replicas, with the node from which it streams,
+///   or a list of the nodes placed before. `stream_plan::streams` says what such a plan is good for. No input is
+///   read, and no file changes.
+/// - `cms LOG FROM TO`, with lists of 1 to 16 ascending nodes, prints a shortest safe route of the metadata service
+///   from the members FROM to the members TO: each change, and how many of the voting members after it are a majority.
+///   The nodes of TO that are not in FROM must be JOINED in the last state of the log in the file `LOG`. No input is
+///   read, and no file changes.
 /// - Other words print the usage line.
 ///
 /// No name of a file is empty, and a cluster has a name as a node has.
@@ -142,9 +141,9 @@ fn answer_words<S: Source, K: Sink, D: Store>(
 ///
 /// Returns the status of the run:
 ///
-/// - 0: the input was read to its end, and every line was answered; or all files were replayed; or a state, a route or a
-///   stream plan was printed; or the answers to the generated script were counted; or a log file was made, and `MENDED`
-///   and the number of its entries were printed.
+/// - 0: the input was read to its end, and every line was answered; or all files were replayed; or a state, a route or
+///   a stream plan was printed; or the answers to the generated script were counted; or a log file was made, and
+///   `MENDED` and the number of its entries were printed.
 /// - 1: memory ran out.
 /// - 2: the words name no command. Nothing was read, and the usage line was printed.
 /// - 3: a line of the log file, or of a file that is replayed, is refused. Nothing was read from the input, no file was
@@ -155,11 +154,11 @@ fn answer_words<S: Source, K: Sink, D: Store>(
 /// - 5: the sink failed.
 /// - 6: the store failed. Only words that name a file give this status.
 /// - 7: a file that is to be replayed or made anew, or whose state is to be looked at, is absent, and `NO FILE` and its
-///   name were printed; or E is past the last epoch of the log, and `NO EPOCH` and the last epoch were printed; or `NEW`
-///   is there, and `FILE-THERE` and its name were printed; or a node of TO that is not in FROM isn't JOINED, and for the
-///   least such node `NO NO-NODE` and the node were printed if it isn't registered, and `NO NODE-STATE`, the node and its
-///   state if it is; or NODE has no movement, and `NO SEQUENCE` was printed; or no keyspace has the name KS, and
-///   `NO KEYSPACE` was printed.
+///   name were printed; or E is past the last epoch of the log, and `NO EPOCH` and the last epoch were printed; or
+///   `NEW` is there, and `FILE-THERE` and its name were printed; or a node of TO that is not in FROM isn't JOINED, and
+///   for the least such node `NO NO-NODE` and the node were printed if it isn't registered, and `NO NODE-STATE`, the
+///   node and its state if it is; or NODE has no movement, and `NO SEQUENCE` was printed; or no keyspace has the name
+///   KS, and `NO KEYSPACE` was printed.
 /// - 8: byte 536,870,913 of the input was read, and the lines that end before it were answered; or a file has more than
 ///   536,870,912 bytes, and no input was read. Then `TOO-LARGE 536870912` was printed.
 ///
@@ -167,11 +166,11 @@ fn answer_words<S: Source, K: Sink, D: Store>(
 /// before, and no other count of faults changes at any status. If the text for status 0, 2, 3, 7 or 8 can't be written,
 /// the status is 5, or 1 if the sink runs out of memory. With status 1, 4, 5 or 6, the printed bytes are a prefix of
 /// the output of a run without the fault, and some lines of a script are done. The file `LOG` has then its whole lines,
-/// or the header if it had none, and the lines of the entries that the script added, and maybe a part of one entry more;
-/// or it is as before, and no line is done. It changes only once it was found good. An entry whose answer is printed, or
-/// begun, stands whole in it. The file `NEW` is as before, or it was absent and is whole. No other file that the store
-/// tells changed; `FileStore` tells none, and may overwrite `LOG.new` or `NEW.new`. `scripts_are_sent_again` says what
-/// the same lines make of such a `LOG`.
+/// or the header if it had none, and the lines of the entries that the script added, and maybe a part of one entry
+/// more; or it is as before, and no line is done. It changes only once it was found good. An entry whose answer is
+/// printed, or begun, stands whole in it. The file `NEW` is as before, or it was absent and is whole. No other file
+/// that the store tells changed; `FileStore` tells none, and may overwrite `LOG.new` or `NEW.new`.
+/// `scripts_are_sent_again` says what the same lines make of such a `LOG`.
 ///
 /// Cost: a run keeps in memory the log, the image of each 256th epoch, the metadata at the last epoch and that of each
 /// follower, the file while it is loaded, and of the current line at most 16,385 bytes, with its answer. A query of an
@@ -279,7 +278,7 @@ pub fn run<S: Source, K: Sink, D: Store>(
         (told (S.left input.old) (K.written out.old) (D.files store.old))
         (told (S.left input.new) (K.written out.new) files) result.0) }
 
-    // A log file is made of one of the older format. A fault leaves it absent, or whole.
+    // A log file is made of one of the older format. A fault leaves it as before, or it was absent and is whole.
     // Promise: `mend2 OLD NEW CLUSTER` makes NEW of the header and the line of each entry of OLD, and prints `MENDED`
     // and their number, with status 0. Guards: mend_drops_an_entry.edit, mends.rt (mend-format, another spelling).
     // Promise: a `mend2` checks all of OLD first: its absence ends it with status 7, its first refused line, as any
@@ -288,6 +287,7 @@ pub fn run<S: Source, K: Sink, D: Store>(
     // is. Guards: mends.rt (the same again, an empty file).
     // Promise: after a fault or lack of memory in a `mend2` NEW is as before, or it was absent and is whole; no other
     // file changes, whatever the status. Guards: mends.rt (test `mends_stop`).
+    // Promise: a `mend2` that makes NEW prints nothing before NEW is whole. Guards: mends.rt (test `mends_stop`).
     ensures mend { (old new cluster : List ℕ) → spec.request_of (map string_bytes words.now) ≡ Some (Mend old new cluster)
         → EachLeft D.files D.shows store.old store.new (λ files. MakesFile new (mending old new cluster) (input.new ≡ input.old)
         (told (S.left input.old) (K.written out.old) (D.files store.old))

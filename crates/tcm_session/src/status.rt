@@ -5,9 +5,17 @@ ghost use Rattle.tcm_session.specs.code.Endings as spec;
 
 use crate::run_fault::RunFault;
 
-/// The status of a run: 0 if it did what was asked for, 1 if memory ran out, 2 for words that name no command, 3 if a line
-/// of a file is refused, 4 if the source failed, 5 if the sink failed, 6 if the store failed, 7 if what was asked for isn't
-/// there, or a file that is to be made is, 8 if the input or a file is too large. `run` explains each status.
+/// The status of a run; `run` explains each one.
+///
+/// - 0: what was asked for is done: lines were answered, or a report, a state, counts, a stream plan or a route was
+///   printed, or a log file was made.
+/// - 1: memory ran out.
+/// - 2: the words name no command.
+/// - 3: a line of a file is refused.
+/// - 4, 5 and 6: the source, the sink or the store failed.
+/// - 7: what was asked for isn't there: a file, an epoch, a node's movement, a keyspace, or a node that is JOINED. Or a
+///   file that is to be made is there, `FILE-THERE`.
+/// - 8: the input or a file is too large.
 #[derive(Clone, Copy, Debug, PartialEq, Eq)]
 pub struct Status(pub u8);
 

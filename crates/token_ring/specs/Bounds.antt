@@ -9,6 +9,7 @@ abbrev pub left_bound : Option ℤ → List ℤ
 left_bound None = []
 left_bound (Some left) = left ∷ []
 
+-- the right bound of a range, if it is a token
 abbrev pub right_bound : RightEnd → List ℤ
 right_bound (At right) = right ∷ []
 right_bound Max = []

@@ -41,25 +41,29 @@ pub record IsRangeList (ranges : List TokenRange) : Type 0 where
   pub each : AllByRecursion IsRange ranges
   pub apart : AllPairs (λ r s. ends_before r.right s.left ≡ true) ranges
 
--- whether the bounds of a range are cuts, if they are tokens
+-- whether a left bound is a cut, if it is a token
 abbrev pub is_cut_left : List ℤ → Option ℤ → Bool
 is_cut_left cuts None = true
 is_cut_left cuts (Some left) = is_member int_eq cuts left
 
+-- whether a right bound is a cut, if it is a token
 abbrev pub is_cut_right : List ℤ → RightEnd → Bool
 is_cut_right cuts (At right) = is_member int_eq cuts right
 is_cut_right cuts Max = true
 
+-- whether both bounds of a range are cuts, if they are tokens
 abbrev pub is_cut_out : List ℤ → TokenRange → Bool
 is_cut_out cuts range = is_cut_left cuts range.left && is_cut_right cuts range.right
 
+-- the bounds of all ranges are cuts, if they are tokens
 abbrev pub AreCutOut : List ℤ → List TokenRange → Type 0
 AreCutOut cuts ranges = AllByRecursion (λ r. is_cut_out cuts r ≡ true) ranges
 
--- whether a token is in a chosen row
+-- whether a row is chosen and contains a token
 abbrev pub is_chosen_row : ℤ → TokenRange × Bool → Bool
 is_chosen_row t row = is_within t row.0 && row.1
 
+-- whether a token is in a chosen row
 abbrev pub have_chosen : List TokenRange → List Bool → ℤ → Bool
 have_chosen rows chosen t = list_any (is_chosen_row t) (zip rows chosen)
 
@@ -71,9 +75,10 @@ chosen_by test rows = map (λ row. test (last_token row.right)) rows
 abbrev pub AnswersAs : (ℤ → Bool → Type 0) → (ℤ → Bool) → Type 0
 AnswersAs answers test = (t : ℤ) (b : Bool) → IsToken t → answers t b → b ≡ test t
 
--- the right end of the first row between cuts that is in both lists of ranges
+-- whether a row is in both lists of ranges, by its last token
 abbrev pub is_common : List TokenRange → List TokenRange → TokenRange → Bool
 is_common one other row = have_token one (last_token row.right) && have_token other (last_token row.right)
 
+-- the right end of the first row between cuts that is in both lists of ranges
 abbrev pub first_common_end : List TokenRange → List TokenRange → List ℤ → Option RightEnd
 first_common_end one other cuts = option_map (λ row. row.right) (find (is_common one other) (rows_between cuts))

@@ -17,11 +17,12 @@ use Rattle.transformations.specs.declared.sequence.Goal.TheVariants as goal
 use Rattle.transformations.specs.declared.sequence.Phase.TheVariants.{Mid}
 use Rattle.transformations.specs.declared.sequence.SeqRow.{SeqRow}
 
--- the movement that a command ends: a finish ends its movement, and so does a cancel, except at MID
+-- this movement, unless it is at MID
 abbrev pub unless_mid : Option SeqRow → Option SeqRow
 unless_mid None = None
 unless_mid (Some s) = if same_phase s.phase Mid then None else Some s
 
+-- the movement that a command ends: a finish ends its movement, and so does a cancel, except at MID
 abbrev pub ended_by : Image → Command → Option SeqRow
 ended_by image (Step goal.Finish kind node) = movement_of image node
 ended_by image (Cancel node) = unless_mid (movement_of image node)

@@ -33,17 +33,19 @@ pub record PlacementDelta : Type 0 where
 abbrev pub with_delta : List ℕ → SetDelta → List ℕ
 with_delta nodes delta = with_change nodes delta.gained delta.lost
 
--- nothing is gained or lost
+-- the delta of a set that gains and loses nothing
 abbrev pub no_change : SetDelta
 no_change = record { gained = []; lost = [] }
 
+-- the delta of a token whose reads and writes stay
 abbrev pub no_changes : PlacementDelta
 no_changes = record { reads = no_change; writes = no_change }
 
--- a delta with the nodes gained and the nodes lost exchanged
+-- the delta of a set, with the nodes gained and the nodes lost exchanged
 abbrev pub inverse : SetDelta → SetDelta
 inverse delta = record { gained = delta.lost; lost = delta.gained }
 
+-- the delta of a token, with this exchange in its reads and in its writes
 abbrev pub inverses : PlacementDelta → PlacementDelta
 inverses delta = record { reads = inverse delta.reads; writes = inverse delta.writes }
 
@@ -54,7 +56,8 @@ step_delta goal.Start gained lost = record { reads = no_change; writes = record 
 step_delta goal.Mid gained lost = record { reads = record { gained = gained; lost = lost }; writes = no_change }
 step_delta goal.Finish gained lost = record { reads = no_change; writes = record { gained = []; lost = lost } }
 
--- the delta of a cancel of a movement at this phase: the inverse of the delta of the step that led to the phase
+-- the delta of a cancel of a movement at this phase: the inverse of the delta of the step that led to the phase.
+-- No step leads to PREPARED, so nothing changes there
 abbrev pub cancel_delta : Phase → List ℕ → List ℕ → PlacementDelta
 cancel_delta Prepared gained lost = no_changes
 cancel_delta Started gained lost = inverses (step_delta goal.Start gained lost)

@@ -47,11 +47,12 @@ changes_keyspace name (Keyspace other replication) = bytes_eq other name
 changes_keyspace name (DropKeyspace other) = bytes_eq other name
 changes_keyspace name _ = false
 
--- the image after a list of commands, from a given image on; and the image after the first e commands of a history
+-- the image after a list of commands, from a given image on
 abbrev pub image_after : Image → List Command → Image
 image_after image [] = image
 image_after image (command ∷ commands) = image_after (next_image image command) commands
 
+-- the image after the first e commands of a history
 abbrev pub state_after : List Command → ℕ → Image
 state_after history e = image_after empty_image (take e history)
 
@@ -61,11 +62,11 @@ ascend [] = true
 ascend (t ∷ []) = true
 ascend (t ∷ u ∷ ts) = int_lt t u && ascend (u ∷ ts)
 
--- whether a command may have these tokens: there are 1 to 256, and they ascend; and whether a command that has a list
--- of tokens may have them, true for other commands
+-- whether a command may have these tokens: there are 1 to 256, and they ascend
 abbrev pub are_tokens : List ℤ → Bool
 are_tokens tokens = nat_le 1 (length tokens) && (nat_le (length tokens) 256 && ascend tokens)
 
+-- whether a command may have its list of tokens; true for a command that has no list of tokens
 abbrev pub is_command : Command → Bool
 is_command (UnsafeJoin node tokens) = are_tokens tokens
 is_command (PrepareJoin node tokens) = are_tokens tokens
@@ -77,10 +78,11 @@ are_accepted image [] = true
 are_accepted image (command ∷ commands) =
     (is_command command && is_none (refusal_of image command)) && are_accepted (next_image image command) commands
 
--- a history: at most 65,536 commands, each accepted in the image after the commands before it
+-- the greatest number of epochs
 abbrev pub most_epochs : ℕ
 most_epochs = 65536
 
+-- a history: at most 65,536 commands, each accepted in the image after the commands before it
 abbrev pub IsHistory : List Command → Type 0
 IsHistory history = IsTrue (nat_le (length history) most_epochs && are_accepted empty_image history)
 

@@ -1,5 +1,5 @@
 -- The rules of valid images, in order (by rules of this project). A rule that is broken shows a value: that of the
--- first place, in the order of the lists, that breaks it. `bad_image` has the rules on lists alone.
+-- first place, in the order of the lists, that breaks it. Only rule 18 needs ranges: `broken_rule` has rules 1 to 17.
 use Rattle.std.specs.Prelude.{ℕ, ◌+◌, Bool, false, not, ◌&&◌, ◌||◌, if◌then◌else◌, ℤ, pos, negsuc, int_le, List, [], ◌∷◌, ◌++◌, length, filter, find, is_none, Option, Some, None, option_map, nat_le, nat_lt, ◌==◌}
 use Rattle.std.specs.Cmp.Lexicographic.{pointwise}
 use Rattle.std.specs.List.{list_all, list_any}
@@ -38,12 +38,14 @@ shown_if test value = if test then Some value else None
 abbrev pub above : ℕ → ℕ → Option ℤ
 above most count = shown_if (nat_lt most count) (pos count)
 
--- the value for the first item that breaks a rule; the rule sees an item and the items before it, the nearest first
+-- the value for the first item that breaks a rule. The rule sees the item and the reversed list of the items before it,
+-- with the nearest first; at the start, `before` is empty
 abbrev pub first_bad : {A : Type 0} → (List A → A → Option ℤ) → List A → List A → Option ℤ
 first_bad rule before [] = None
 first_bad rule before (x ∷ xs) = option_or (rule before x) (first_bad rule (x ∷ before) xs)
 
--- the first item that isn't above the one before it, and its position; the first of these items is at position `at`
+-- the position of the first item that isn't above the one before it, and this item. Positions count from 0: the first
+-- item of this list is at position `at`, which is 0 for a whole list
 abbrev pub first_fall : {A : Type 0} → (A → A → Ordering) → ℕ → List A → Option (ℕ × A)
 first_fall order at [] = None
 first_fall order at (x ∷ []) = None
@@ -51,12 +53,12 @@ first_fall order at (x ∷ y ∷ ys) = if is_lt (order x y) then first_fall orde
 
 -- ---- the nodes
 
--- the id of the nearest node before; ids are above 0
+-- the id of the nearest node before, which is the first of the reversed list; 0 if there is none
 abbrev pub id_before : List NodeRow → ℕ
 id_before [] = 0
 id_before (row ∷ rows) = row.id
 
--- a node's id is 0 or not above the one before it
+-- a node's id is 0 or not above the one before it; it is shown
 abbrev pub id_falls : List NodeRow → NodeRow → Option ℤ
 id_falls before row = shown_if (nat_le row.id (id_before before)) (pos row.id)
 
@@ -66,8 +68,7 @@ name_repeats before row = shown_if (list_any (λ q. bytes_eq q.name row.name) be
 
 -- ---- the movements
 
--- the pairs of a movement fit its kind. A join takes no pair out and puts in 1 to 256 pairs of its node, which has no
--- token in the ring
+-- a join takes no pair out, and puts in 1 to 256 pairs of its node, which has no token in the ring
 abbrev pub fits_join : Image → SeqRow → Bool
 fits_join image s =
     (length s.out_pairs == 0) && (nat_le 1 (length s.in_pairs) && (nat_le (length s.in_pairs) 256
@@ -93,6 +94,7 @@ fits_replace image s (Some gone) =
     && (pointwise same_pair s.in_pairs (pairs_of s.node (tokens_of s.out_pairs))
     && (not (owns_tokens image s.node) && is_none (other_rack image s.node gone)))
 
+-- the pairs of a movement fit its kind
 abbrev pub fits_kind : Kind → Image → SeqRow → Bool
 fits_kind Join image s = fits_join image s
 fits_kind Move image s = fits_move image s
@@ -111,24 +113,27 @@ shares_node s q = takes_part s.node q || list_any (λ p. takes_part p.node q) s.
 abbrev pub node_repeats : List SeqRow → SeqRow → Option ℤ
 node_repeats before s = shown_if (list_any (shares_node s) before) (pos s.node)
 
--- a movement brings a token that is in the ring, or that an earlier movement puts in
+-- whether the token of a pair is in the ring, or an earlier movement puts it in
 abbrev pub is_known : List Pair → List SeqRow → Pair → Bool
 is_known ring before p = list_any (λ q. int_eq q.token p.token) (ring ++ incoming before)
 
+-- a movement brings a token that is in the ring, or that an earlier one puts in; the first such token is shown
 abbrev pub token_repeats : List Pair → List SeqRow → SeqRow → Option ℤ
 token_repeats ring before s = option_map (λ p. p.token) (find (is_known ring before) (brought_by s.kind s.in_pairs))
 
--- whether a number is a token; and the rows between the cuts that are tokens, as all cuts are in code
+-- whether a number is a token
 abbrev pub is_token : ℤ → Bool
 is_token t = int_le (negsuc 9223372036854775807) t && int_le t greatest_token
 
+-- the rows between the cuts that are tokens; in code all cuts are tokens
 abbrev pub token_rows : Image → List TokenRange
 token_rows image = rows_between (filter is_token (cuts image))
 
--- two movements overlap: a row is in the ranges of both; and a movement overlaps one with a lesser node
+-- whether two movements overlap: one of these rows is in the ranges of both
 abbrev pub overlap : Image → SeqRow → SeqRow → Bool
 overlap image s q = list_any (is_shared image s q) (token_rows image)
 
+-- whether a movement overlaps one with a lesser node
 abbrev pub overlaps : Image → SeqRow → Bool
 overlaps image s = list_any (λ q. nat_lt q.node s.node && overlap image s q) image.sequences
 
@@ -138,7 +143,7 @@ overlaps image s = list_any (λ q. nat_lt q.node s.node && overlap image s q) im
 abbrev pub rule_1 : Image → Option ℤ
 rule_1 image = above most_nodes (length image.nodes)
 
--- a node's id isn't above the one before it; it is shown
+-- a node's id is 0 or not above the one before it; it is shown
 abbrev pub rule_2 : Image → Option ℤ
 rule_2 image = first_bad id_falls [] image.nodes
 
@@ -174,7 +179,7 @@ rule_9 image = option_map (λ row. pos row.id) (find (λ row. nat_lt 256 (length
 abbrev pub rule_10 : Image → Option ℤ
 rule_10 image = above most_keyspaces (length image.keyspaces)
 
--- a keyspace's name isn't above the one before it; its position is shown
+-- a keyspace's name isn't above the one before it; the keyspace's position, counted from 0, is shown
 abbrev pub rule_11 : Image → Option ℤ
 rule_11 image = option_map (λ found. pos found.0) (first_fall by_name 0 image.keyspaces)
 
@@ -186,7 +191,7 @@ rule_12 image = option_map (λ found. pos found.1.node) (first_fall by_node 0 im
 abbrev pub rule_13 : Image → Option ℤ
 rule_13 image = option_map (λ s. pos s.node) (find (λ s. not (is_standing image.nodes s.node)) image.sequences)
 
--- the pairs of a movement don't fit its kind; its node is shown
+-- the pairs of a movement don't fit its kind, or those that it puts in don't ascend; its node is shown
 abbrev pub rule_14 : Image → Option ℤ
 rule_14 image = option_map (λ s. pos s.node) (find (λ s. not (fits image s)) image.sequences)
 
@@ -215,7 +220,7 @@ abbrev pub first_broken : List (Option BadImage) → Option BadImage
 first_broken [] = None
 first_broken (rule ∷ later) = option_or rule (first_broken later)
 
--- the first rule that is broken of all but the last; and of all rules
+-- the first rule that is broken of rules 1 to 17, which need no ranges
 unfoldable pub broken_rule : Image → Option BadImage
 broken_rule image =
     first_broken (broken 1 (rule_1 image) ∷ broken 2 (rule_2 image) ∷ broken 3 (rule_3 image) ∷ broken 4 (rule_4 image)
@@ -224,5 +229,6 @@ broken_rule image =
     ∷ broken 13 (rule_13 image) ∷ broken 14 (rule_14 image) ∷ broken 15 (rule_15 image) ∷ broken 16 (rule_16 image)
     ∷ broken 17 (rule_17 image) ∷ [])
 
+-- the first rule that is broken of all rules
 unfoldable pub bad_of : Image → Option BadImage
 bad_of image = option_or (broken_rule image) (broken 18 (rule_18 image))

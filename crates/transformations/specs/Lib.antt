@@ -14,4 +14,5 @@ pub mod Rings
 pub mod Same
 pub mod States
 pub mod Valid
+pub mod Words
 pub mod code

@@ -39,7 +39,8 @@ pub record Committed : Type 0 where
   pub answer : Result ℕ Refusal
   pub added : List Entry
 
--- a commit whose id is in the log adds nothing: the same command is answered with the epoch of its entry
+-- a commit whose id is in the log adds nothing: the same command is answered with the epoch of its entry, and another
+-- command is refused
 abbrev pub repeated : Entry → Command → Committed
 repeated entry command =
     record { answer = if same_command entry.cmd command then Ok entry.epoch else Err (IdReused entry.epoch); added = [] }
@@ -51,10 +52,11 @@ decided log id command None =
     let entry : Entry = record { id = id; epoch = length log + 1; cmd = command } in
     record { answer = Ok entry.epoch; added = entry ∷ [] }
 
--- the commit of a command under an id: first the id is looked up
+-- the commit of a command under an id, by the entry that has this id, if there is one
 abbrev pub commit_by : List Entry → ℕ → Command → Option Entry → Committed
 commit_by log id command (Some entry) = repeated entry command
 commit_by log id command None = decided log id command (commit_refusal (commands_of log) command)
 
+-- the commit of a command under an id: first the id is looked up
 abbrev pub commit_of : List Entry → ℕ → Command → Committed
 commit_of log id command = commit_by log id command (entry_with_id log id)

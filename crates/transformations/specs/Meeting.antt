@@ -31,11 +31,11 @@ datacenters_of (Topology factors) = factors
 abbrev pub AreWritten : Image → Replication → ℤ → Type 0
 AreWritten image r x = (n : ℕ) → is_member nat_eq (reads_at image r x) n ≡ true → is_member nat_eq (writes_at image r x) n ≡ true
 
--- sets have a write quorum if and only if they have a read quorum; and this holds for the sets of QUORUM at a token,
--- and for those of LOCAL_QUORUM in each datacenter
+-- sets have a write quorum if and only if they have a read quorum
 abbrev pub HaveBothOrNone : Sets → Type 0
 HaveBothOrNone s = nat_le (write_need s) (length s.writes) ≡ nat_le (read_need s) (length s.reads)
 
+-- this holds for the sets of QUORUM at a token, and for those of LOCAL_QUORUM in each datacenter that is named
 pub record ExistAt (image : Image) (r : Replication) (x : ℤ) : Type 0 where
   pub quorums : HaveBothOrNone (sets_at image r x)
   pub local_quorums : AllByRecursion (λ f. HaveBothOrNone (local_sets_at image r f x)) (datacenters_of r)
@@ -58,25 +58,27 @@ pub record MeetAt (one other : Image) (r : Replication) (x : ℤ) : Type 0 where
   pub quorums : Meet (sets_at one r x) (sets_at other r x)
   pub local_quorums : AllByRecursion (λ f. Meet (local_sets_at one r f x) (local_sets_at other r f x)) (datacenters_of r)
 
--- they meet at every token under every keyspace
+-- they meet at every token under every keyspace of the first image
 abbrev pub QuorumsMeet : Image → Image → Type 0
 QuorumsMeet one other = (x : ℤ) → IsToken x → AllByRecursion (λ k. MeetAt one other k.replication x) one.keyspaces
 
--- whether a command gives tokens at once; and whether it makes a movement epoch for the keyspace of this name: it
--- doesn't, and it neither sets nor drops the keyspace
+-- whether a command gives tokens at once
 abbrev pub is_unsafe_join : Command → Bool
 is_unsafe_join (UnsafeJoin node tokens) = true
 is_unsafe_join _ = false
 
+-- whether a command makes a movement epoch for the keyspace of this name: it doesn't give tokens at once, and
+-- neither sets nor drops the keyspace
 abbrev pub makes_movement_epoch : List ℕ → Command → Bool
 makes_movement_epoch name c = not (is_unsafe_join c) && not (changes_keyspace name c)
 
--- the quorums before and after a command meet at every token, under each keyspace for which it makes a movement epoch;
--- such a keyspace is there before and after, with one replication
+-- a keyspace is in the image after too, with the same replication, and under it the quorums before and after meet at
+-- every token
 pub record MeetsAfter (before after : Image) (k : KeyspaceRow) : Type 0 where
   pub stays : Contains after.keyspaces k
   pub meet : (x : ℤ) → IsToken x → MeetAt before after k.replication x
 
+-- this holds across a command for each keyspace for which it makes a movement epoch
 abbrev pub QuorumsMeetAcross : Image → Command → Type 0
 QuorumsMeetAcross image c = (k : KeyspaceRow) → Contains image.keyspaces k → makes_movement_epoch k.name c ≡ true
     → MeetsAfter image (next_image image c) k

@@ -16,10 +16,11 @@ use Rattle.transformations.specs.declared.image.Image.{Image}
 use Rattle.transformations.specs.declared.keyspace.KeyspaceRow.{KeyspaceRow}
 use Rattle.transformations.specs.declared.sequence.SeqRow.{SeqRow}
 
--- the nodes that are placed at a token on the low ring, and those that are placed there with a movement applied to it
+-- the nodes that are placed at a token on the low ring
 unfoldable pub placed_before : Image → Replication → ℤ → List ℕ
 placed_before image r x = place (groups_of image.nodes r) x (low_ring image)
 
+-- the nodes that are placed at a token on the low ring with a movement applied to it
 unfoldable pub placed_with : Image → Replication → SeqRow → ℤ → List ℕ
 placed_with image r s x = place (groups_of image.nodes r) x (replaced (low_ring image) s.out_pairs s.in_pairs)
 
@@ -27,10 +28,11 @@ placed_with image r s x = place (groups_of image.nodes r) x (replaced (low_ring 
 abbrev pub newcomers : List ℕ → List ℕ → List ℕ
 newcomers after before = without after before
 
--- the nodes that a movement adds at a token, and the nodes that it takes away there
+-- the nodes that a movement adds at a token
 abbrev pub gained_at : Image → Replication → SeqRow → ℤ → List ℕ
 gained_at image r s x = newcomers (placed_with image r s x) (placed_before image r x)
 
+-- the nodes that a movement takes away at a token
 abbrev pub lost_at : Image → Replication → SeqRow → ℤ → List ℕ
 lost_at image r s x = newcomers (placed_before image r x) (placed_with image r s x)
 
@@ -74,10 +76,11 @@ pub record LivesOn (before after : Image) (commands : List Command) (s : SeqRow)
       → SameUnder before after k s movement
 
 -- a row stands for its tokens in the deltas of a movement: at each of them the same nodes are placed before the
--- movement, and the same with it, as at its last token; and each row between cuts does so, for each movement
+-- movement, and the same with it, as at its last token
 pub record StandsForDeltas (image : Image) (r : Replication) (s : SeqRow) (row : TokenRange) : Type 0 where
   pub before : (x : ℤ) → is_within x row ≡ true → placed_before image r x ≡ placed_before image r (last_token row.right)
   pub applied : (x : ℤ) → is_within x row ≡ true → placed_with image r s x ≡ placed_with image r s (last_token row.right)
 
+-- each row between cuts stands for its tokens in the deltas of each movement, under every replication
 abbrev pub RowsStandForDeltas : Image → Type 0
 RowsStandForDeltas image = (r : Replication) → All (λ s. All (StandsForDeltas image r s) (rows_between (cuts image))) image.sequences

@@ -17,7 +17,7 @@ use Rattle.transformations.specs.declared.sequence.Phase.{Phase}
 use Rattle.transformations.specs.declared.sequence.Phase.TheVariants.{Prepared, Started, Mid}
 use Rattle.transformations.specs.declared.sequence.SeqRow.{SeqRow}
 
--- the pairs of a node and its tokens
+-- the pairs of a node and these tokens, in their order
 abbrev pub pairs_of : ℕ → List ℤ → List Pair
 pairs_of node tokens = map (λ t. record { token = t; node = node }) tokens
 
@@ -51,18 +51,20 @@ movement_of image n = find (λ s. s.node == n) image.sequences
 abbrev pub takes_part : ℕ → SeqRow → Bool
 takes_part n s = (s.node == n) || list_any (λ p. p.node == n) s.out_pairs
 
--- the phase before a step with this goal; and whether two phases, and two kinds, are the same
+-- the phase before a step with this goal
 abbrev pub phase_before : Goal → Phase
 phase_before goal.Start = Prepared
 phase_before goal.Mid = Started
 phase_before goal.Finish = Mid
 
+-- whether two phases are the same
 abbrev pub same_phase : Phase → Phase → Bool
 same_phase Prepared Prepared = true
 same_phase Started Started = true
 same_phase Mid Mid = true
 same_phase _ _ = false
 
+-- whether two kinds are the same
 abbrev pub same_kind : Kind → Kind → Bool
 same_kind Join Join = true
 same_kind Move Move = true
@@ -74,10 +76,11 @@ same_kind _ _ = false
 abbrev pub is_next_step : Goal → Kind → SeqRow → Bool
 is_next_step goal kind s = same_kind s.kind kind && same_phase s.phase (phase_before goal)
 
--- a movement, at another phase if it is the movement of this node; and the movements of the other nodes
+-- a movement, brought to this phase if it is the movement of this node
 abbrev pub at_phase : Phase → ℕ → SeqRow → SeqRow
 at_phase phase n s = let changed : SeqRow = record s { phase = phase } in if s.node == n then changed else s
 
+-- the movements of the other nodes
 abbrev pub others : List SeqRow → ℕ → List SeqRow
 others sequences n = filter (λ s. not (s.node == n)) sequences
 
@@ -90,12 +93,14 @@ abbrev pub first_node : List Pair → Option ℕ
 first_node [] = None
 first_node (p ∷ ps) = Some p.node
 
--- the node that has left once a movement is done: the node of a leave, or the node from which a replace takes pairs
+-- the node that has left once a movement of this kind is done: the node of a leave, or of the first pair that a replace
+-- takes out
 abbrev pub leaver_by : Kind → SeqRow → Option ℕ
 leaver_by Leave s = Some s.node
 leaver_by Replace s = first_node s.out_pairs
 leaver_by _ s = None
 
+-- the node that has left once a movement is done, if any has
 abbrev pub leaver : SeqRow → Option ℕ
 leaver s = leaver_by s.kind s
 

@@ -35,18 +35,19 @@ in_both image s q x = list_any (λ k. in_ranges image k.replication s x && in_ra
 abbrev pub AreApart : Image → Type 0
 AreApart image = (x : ℤ) → IsToken x → AllPairs (λ s q. in_both image s q x ≡ false) image.sequences
 
--- a row stands for its tokens in the ranges of a movement: all of them are in the ranges, or none; and each row between
--- cuts does so, for each movement
+-- a row stands for its tokens in the ranges of a movement: all of them are in the ranges, or none
 abbrev pub StandsInRanges : Image → Replication → SeqRow → TokenRange → Type 0
 StandsInRanges image r s row = (x : ℤ) → is_within x row ≡ true → in_ranges image r s x ≡ in_ranges image r s (last_token row.right)
 
+-- each row between cuts stands for its tokens in the ranges of each movement, under every replication
 abbrev pub RowsStandInRanges : Image → Type 0
 RowsStandInRanges image = (r : Replication) → All (λ s. All (StandsInRanges image r s) (rows_between (cuts image))) image.sequences
 
--- whether a row is in the ranges of both movements; and the right end of the first such row between cuts
+-- whether a row is in the ranges of both movements: its last token is
 abbrev pub is_shared : Image → SeqRow → SeqRow → TokenRange → Bool
 is_shared image s q row = in_both image s q (last_token row.right)
 
+-- the right end of the first row between cuts that is in the ranges of both movements
 abbrev pub first_shared : Image → SeqRow → SeqRow → Option RightEnd
 first_shared image s q = option_map (λ row. row.right) (find (is_shared image s q) (rows_between (cuts image)))
 
@@ -66,10 +67,11 @@ pub record IsLockedBy (image : Image) (s : SeqRow) (n : ℕ) (right : RightEnd) 
   pub least : (x : ℤ) → IsToken x → All (λ q. q.node < n → in_both image s q x ≡ false) (others image.sequences s.node)
   pub first : Any (λ q. (q.node ≡ n) × IsFirstShared image s q right) (others image.sequences s.node)
 
--- the ring after an outcome, in which each movement is done or given up
+-- the pairs of a movement in the ring after an outcome: those that it puts in if it is done, else those it takes out
 abbrev pub side : (SeqRow → Bool) → SeqRow → List Pair
 side done s = if done s then s.in_pairs else s.out_pairs
 
+-- the ring after an outcome, in which each movement is done or given up
 abbrev pub outcome_ring : Image → (SeqRow → Bool) → List Pair
 outcome_ring image done = fixed_ring image ++ flat_map (side done) image.sequences
 

@@ -31,13 +31,15 @@ use Rattle.transformations.specs.declared.sequence.SeqRow.{SeqRow}
 use Rattle.transformations.specs.declared.state.NodeState.{NodeState}
 use Rattle.transformations.specs.declared.state.NodeState.TheVariants as state
 
--- the greatest numbers of nodes, tokens and keyspaces in a cluster
+-- the greatest number of nodes in a cluster
 abbrev pub most_nodes : ℕ
 most_nodes = 1024
 
+-- the greatest number of tokens in a cluster
 abbrev pub most_tokens : ℕ
 most_tokens = 16384
 
+-- the greatest number of keyspaces in a cluster
 abbrev pub most_keyspaces : ℕ
 most_keyspaces = 64
 
@@ -53,29 +55,33 @@ name_taken image name = option_map (λ row. NameTaken row.id) (find (λ row. byt
 abbrev pub nodes_full : Image → Option Refusal
 nodes_full image = refused_if (nat_le most_nodes (length image.nodes)) NodesFull
 
--- whether a node is registered; and the refusal if it isn't
+-- whether a node is registered
 abbrev pub is_registered : Image → ℕ → Bool
 is_registered image n = is_some (row_of image.nodes n)
 
+-- the node isn't registered
 abbrev pub no_node : Image → ℕ → Option Refusal
 no_node image n = refused_if (not (is_registered image n)) NoNode
 
--- the node's state isn't allowed; the state is shown
+-- a state isn't allowed; it is shown
 abbrev pub unless_allowed : (NodeState → Bool) → NodeState → Option Refusal
 unless_allowed allowed s = refused_if (not (allowed s)) (WrongState s)
 
+-- the node is registered, and its state isn't allowed; the state is shown
 abbrev pub wrong_state : (NodeState → Bool) → Image → ℕ → Option Refusal
 wrong_state allowed image n = option_and_then (unless_allowed allowed) (node_state image n)
 
--- the states of a node that may be given tokens, of one that may give its tokens up, and of one that may be removed
+-- whether a node in this state may be given tokens
 abbrev pub may_join : NodeState → Bool
 may_join state.Registered = true
 may_join _ = false
 
+-- whether a node in this state may move or leave
 abbrev pub may_move_or_leave : NodeState → Bool
 may_move_or_leave state.Joined = true
 may_move_or_leave _ = false
 
+-- whether a node in this state may be removed
 abbrev pub may_be_removed : NodeState → Bool
 may_be_removed state.Registered = true
 may_be_removed state.Left = true
@@ -89,10 +95,11 @@ in_sequence image n = option_map (λ s. InSequence s.node) (find (takes_part n) 
 abbrev pub no_sequence : Image → ℕ → Option Refusal
 no_sequence image n = refused_if (not (is_some (movement_of image n))) NoSequence
 
--- the step isn't the next one of the node's movement, whose own kind and phase are shown
+-- the step isn't the next one of a movement, whose own kind and phase are shown
 abbrev pub unless_next : Goal → Kind → SeqRow → Option Refusal
 unless_next goal kind s = refused_if (not (is_next_step goal kind s)) (WrongStep s.kind s.phase)
 
+-- the node has a movement, and the step isn't its next one; the movement's own kind and phase are shown
 abbrev pub wrong_step : Goal → Kind → Image → ℕ → Option Refusal
 wrong_step goal kind image n = option_and_then (unless_next goal kind) (movement_of image n)
 
@@ -101,10 +108,11 @@ abbrev pub not_idle : List SeqRow → Option Refusal
 not_idle [] = None
 not_idle (s ∷ later) = Some (NotIdle s.node)
 
--- a token is in the ring, or a movement in flight brings it; the first such token of the command is shown
+-- whether a token is in the ring, or a movement in flight puts it in
 abbrev pub is_taken : Image → ℤ → Bool
 is_taken image t = list_any (λ p. int_eq p.token t) (widest image)
 
+-- one of these tokens is taken; the first such token is shown
 abbrev pub token_taken : Image → List ℤ → Option Refusal
 token_taken image tokens = option_map TokenTaken (find (is_taken image) tokens)
 
@@ -112,10 +120,11 @@ token_taken image tokens = option_map TokenTaken (find (is_taken image) tokens)
 abbrev pub no_tokens : Image → ℕ → Option Refusal
 no_tokens image gone = refused_if (not (owns_tokens image gone)) NoTokens
 
--- the node doesn't have one token; how many it has is shown
+-- this number of tokens isn't 1; it is shown
 abbrev pub unless_one : ℕ → Option Refusal
 unless_one count = refused_if (not (count == 1)) (NotOneToken count)
 
+-- the node doesn't have exactly one token; how many it has is shown
 abbrev pub not_one_token : Image → ℕ → Option Refusal
 not_one_token image n = unless_one (length (node_tokens image n))
 
@@ -123,36 +132,40 @@ not_one_token image n = unless_one (length (node_tokens image n))
 abbrev pub same_place : NodeRow → NodeRow → Bool
 same_place row gone = bytes_eq row.dc gone.dc && bytes_eq row.rack gone.rack
 
--- the node that is to be replaced stands in another datacenter or rack, which are shown
+-- a node stands in another datacenter or rack than the one that is to be replaced, whose datacenter and rack are shown
 abbrev pub unless_near : NodeRow → NodeRow → Option Refusal
 unless_near gone row = refused_if (not (same_place row gone)) (OtherRack gone.dc gone.rack)
 
+-- both nodes are registered, and the one that is to be replaced stands in another datacenter or rack, which are shown
 abbrev pub other_rack : Image → ℕ → ℕ → Option Refusal
 other_rack image n gone =
     option_and_then (λ left. option_and_then (unless_near left) (row_of image.nodes n)) (row_of image.nodes gone)
 
--- a group of the node has no more nodes with tokens than it is to have replicas; the first keyspace with such a group
--- is shown
+-- whether a group has the node, and has no more nodes with tokens than it is to have replicas
 abbrev pub is_short : Image → ℕ → Group → Bool
 is_short image n g = is_some (g.rack_of n) && nat_le (node_count g (nodes_of image.tokens)) g.rf
 
+-- whether a replication has such a group for the node
 abbrev pub is_too_few : Image → ℕ → Replication → Bool
 is_too_few image n replication = list_any (is_short image n) (groups_of image.nodes replication)
 
+-- a keyspace has such a group for the node; the first such keyspace is shown
 abbrev pub too_few_nodes : Image → ℕ → Option Refusal
 too_few_nodes image n = option_map (λ k. TooFewNodes k.name) (find (λ k. is_too_few image n k.replication) image.keyspaces)
 
--- the same for the nodes of the leaves in flight, if this keyspace is to be set
+-- whether a movement is a leave, and the replication has such a group for its node
 abbrev pub is_left_short : Image → Replication → SeqRow → Bool
 is_left_short image replication s = same_kind s.kind Leave && is_too_few image s.node replication
 
+-- the keyspace that is to be set has such a group for the node of a leave in flight; the keyspace is shown
 abbrev pub too_few_left : Image → KeyspaceRow → Option Refusal
 too_few_left image k = refused_if (list_any (is_left_short image k.replication) image.sequences) (TooFewNodes k.name)
 
--- there would be too many tokens
+-- how many different tokens there are in the ring, among those that movements put in, and among these
 abbrev pub tokens_with : Image → List ℤ → ℕ
 tokens_with image tokens = distinct_count int_eq (map (λ p. p.token) (widest image) ++ tokens)
 
+-- with these tokens there would be too many
 abbrev pub tokens_full : Image → List ℤ → Option Refusal
 tokens_full image tokens = refused_if (nat_lt most_tokens (tokens_with image tokens)) TokensFull
 
@@ -160,10 +173,11 @@ tokens_full image tokens = refused_if (nat_lt most_tokens (tokens_with image tok
 abbrev pub has_keyspace : Image → List ℕ → Bool
 has_keyspace image name = list_any (λ row. bytes_eq row.name name) image.keyspaces
 
--- no keyspace has the name; and no keyspace has the name, and there is the greatest number of keyspaces
+-- no keyspace has the name
 abbrev pub no_keyspace : Image → List ℕ → Option Refusal
 no_keyspace image name = refused_if (not (has_keyspace image name)) NoKeyspace
 
+-- there is the greatest number of keyspaces, and none of them has the name
 abbrev pub keyspaces_full : Image → List ℕ → Option Refusal
 keyspaces_full image name = refused_if (nat_le most_keyspaces (length image.keyspaces) && not (has_keyspace image name)) KeyspacesFull
 
@@ -177,35 +191,38 @@ first_of (None ∷ later) = first_of later
 abbrev pub with_movement : Image → SeqRow → Image
 with_movement image s = record image { sequences = put by_node s image.sequences }
 
--- a new movement overlaps another movement, in the image that has both. The node of the first such movement is shown,
--- and the right end of the first row that is in the ranges of both
+-- a new movement overlaps this other one, in the image that has both. The node of the other one is shown, and the right
+-- end of the first row that is in the ranges of both
 abbrev pub locked_by : Image → SeqRow → SeqRow → Option Refusal
 locked_by image s q = option_map (Locked q.node) (first_shared image s q)
 
+-- a new movement overlaps a movement of another node, in the image that has both; the first such movement is shown
 unfoldable pub locked : Image → SeqRow → Option Refusal
 locked image s = first_of (map (locked_by image s) (others image.sequences s.node))
 
--- the row of a keyspace; and the image with a keyspace so set
+-- the row of a keyspace
 abbrev pub keyspace_row : List ℕ → Replication → KeyspaceRow
 keyspace_row name replication = record { name = name; replication = replication }
 
+-- the image with a keyspace set: put in the order of names, in the place of one with the same name
 abbrev pub with_keyspace : Image → KeyspaceRow → Image
 with_keyspace image k = record image { keyspaces = put by_name k image.keyspaces }
 
--- the image with a keyspace alone
+-- the image with this keyspace and no other
 abbrev pub alone : Image → KeyspaceRow → Image
 alone image k = record image { keyspaces = k ∷ [] }
 
--- two movements overlap: their nodes are shown, and the right end of the first row that is in the ranges of both. Of
--- several movements, the first that overlaps a later one is shown, with the first that it overlaps
+-- two movements overlap; their nodes are shown, and the right end of the first row that is in the ranges of both
 abbrev pub overlap_of : Image → SeqRow → SeqRow → Option Refusal
 overlap_of image s q = option_map (KeyspaceLocked s.node q.node) (first_shared image s q)
 
+-- the first of these movements that overlaps a later one is shown, with the first later one that it overlaps
 abbrev pub first_overlap : Image → List SeqRow → Option Refusal
 first_overlap image [] = None
 first_overlap image (s ∷ later) = first_of (first_of (map (overlap_of image s) later) ∷ first_overlap image later ∷ [])
 
--- movements would overlap if this keyspace were set
+-- movements would overlap if this keyspace were set: under any keyspace of the image that has it. In an image whose
+-- movements are apart, only the new keyspace can show an overlap
 unfoldable pub keyspace_locked : Image → KeyspaceRow → Option Refusal
 keyspace_locked image k = first_overlap (with_keyspace image k) image.sequences
 
@@ -264,9 +281,9 @@ pub record IsLockedOf (image : Image) (command : Command) (n : ℕ) (right : Rig
   pub prepared : prepared_by image.tokens command ≡ Some movement
   pub shown : IsLockedBy (with_movement image movement) movement n right
 
--- KEYSPACE-LOCKED shows this. With the keyspace so set, the movements of nodes n and o overlap, and the first row in the
--- ranges of both under its replication ends at `right`. No movement of a node below n overlaps that of a greater node,
--- and that of n overlaps none of a node between n and o
+-- KEYSPACE-LOCKED shows this. With the keyspace so set, the movements of nodes n and o overlap, and the first row in
+-- the ranges of both under its replication ends at `right`. No movement of a node below n overlaps that of a greater
+-- node, and that of n overlaps none of a node between n and o
 pub record IsKeyspaceLocked (image : Image) (k : KeyspaceRow) (n o : ℕ) (right : RightEnd) : Type 0 where
   pub one : SeqRow
   pub other : SeqRow

@@ -15,12 +15,13 @@ use Rattle.transformations.specs.declared.sequence.Phase.{Phase}
 use Rattle.transformations.specs.declared.sequence.Phase.TheVariants.{Prepared, Started, Mid}
 use Rattle.transformations.specs.declared.sequence.SeqRow.{SeqRow}
 
--- the phases at which reads, and those at which writes, see a movement as done
+-- whether a movement at this phase is applied in the read ring: it is at MID
 abbrev pub is_mid : Phase → Bool
 is_mid Mid = true
 is_mid Started = false
 is_mid Prepared = false
 
+-- whether a movement at this phase is applied in the high ring: it is at STARTED or MID
 abbrev pub has_started : Phase → Bool
 has_started Mid = true
 has_started Started = true
@@ -30,10 +31,11 @@ has_started Prepared = false
 abbrev pub replaced : List Pair → List Pair → List Pair → List Pair
 replaced ring outgoing incoming = without_pairs ring outgoing ++ incoming
 
--- the pairs that these movements take out, and the pairs that they put in
+-- the pairs that these movements take out
 abbrev pub outgoing : List SeqRow → List Pair
 outgoing sequences = flat_map (λ s. s.out_pairs) sequences
 
+-- the pairs that these movements put in
 abbrev pub incoming : List SeqRow → List Pair
 incoming sequences = flat_map (λ s. s.in_pairs) sequences
 
@@ -55,32 +57,37 @@ read_ring image = ring_at is_mid image
 abbrev pub high_ring : Image → List Pair
 high_ring image = ring_at has_started image
 
--- the nodes that are read and those that are written at a token
+-- the nodes that are read at a token: those placed on the read ring
 unfoldable pub reads_at : Image → Replication → ℤ → List ℕ
 reads_at image replication x = place (groups_of image.nodes replication) x (read_ring image)
 
+-- the nodes that are written at a token: those placed on the low ring or on the high ring
 unfoldable pub writes_at : Image → Replication → ℤ → List ℕ
 writes_at image replication x =
     let groups = groups_of image.nodes replication in
     put_all nat_cmp (place groups x (low_ring image)) (place groups x (high_ring image))
 
--- the pairs that stay in the ring whatever happens to the movements, and all pairs that may come to be in it
+-- the pairs of a ring that stay in it whatever happens to the movements: none of these takes them out
 abbrev pub fixed_among : List Pair → List SeqRow → List Pair
 fixed_among tokens sequences = without_pairs tokens (outgoing sequences)
 
+-- all pairs that are in a ring or may come to be in it: those of the ring and those that the movements put in
 abbrev pub widest_among : List Pair → List SeqRow → List Pair
 widest_among tokens sequences = tokens ++ incoming sequences
 
+-- the pairs that stay in the ring of an image whatever happens to its movements
 abbrev pub fixed_ring : Image → List Pair
 fixed_ring image = fixed_among image.tokens image.sequences
 
+-- all pairs that are in the ring of an image or may come to be in it
 abbrev pub widest : Image → List Pair
 widest image = widest_among image.tokens image.sequences
 
--- the cuts: the tokens of the ring and those that movements bring, ascending
+-- the cuts: the tokens of a ring and those that movements put in, ascending, each once
 abbrev pub cuts_among : List Pair → List SeqRow → List ℤ
 cuts_among tokens sequences = ascending int_cmp (tokens_of (widest_among tokens sequences))
 
+-- the cuts of an image
 abbrev pub cuts : Image → List ℤ
 cuts image = cuts_among image.tokens image.sequences
 

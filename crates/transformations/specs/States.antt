@@ -13,7 +13,7 @@ use Rattle.transformations.specs.declared.sequence.SeqRow.{SeqRow}
 use Rattle.transformations.specs.declared.state.NodeState.{NodeState}
 use Rattle.transformations.specs.declared.state.NodeState.TheVariants.{Left, Bootstrapping, Moving, Leaving, BootReplacing, Joined, Registered}
 
--- the tokens of a node in the ring, ascending
+-- the tokens of a node in the ring, in the order of the ring
 abbrev pub node_tokens : Image → ℕ → List ℤ
 node_tokens image n = tokens_of (owned image.tokens n)
 
@@ -37,9 +37,10 @@ abbrev pub state_by : Image → ℕ → Option SeqRow → NodeState
 state_by image n (Some s) = state_in s.kind
 state_by image n None = if owns_tokens image n then Joined else Registered
 
--- the state of the node of a row; and the state of a node by its id, if it is registered
+-- the state of the node of a row
 unfoldable pub state_of_row : Image → NodeRow → NodeState
 state_of_row image row = if row.left then Left else state_by image row.id (started_of image row.id)
 
+-- the state of a node, if it is registered
 abbrev pub node_state : Image → ℕ → Option NodeState
 node_state image n = option_map (state_of_row image) (row_of image.nodes n)

@@ -21,11 +21,12 @@ use Rattle.transformations.specs.declared.sequence.Kind.{Kind}
 use Rattle.transformations.specs.declared.sequence.Kind.TheVariants.{Join, Move, Leave, Replace}
 use Rattle.transformations.specs.declared.sequence.SeqRow.{SeqRow}
 
--- whether a node is registered and hasn't left
+-- whether there is a row, and it isn't marked as left
 abbrev pub stands : Option NodeRow → Bool
 stands None = false
 stands (Some row) = not row.left
 
+-- whether a node is registered and hasn't left
 abbrev pub is_standing : List NodeRow → ℕ → Bool
 is_standing nodes n = stands (row_of nodes n)
 
@@ -81,7 +82,8 @@ Fits Move image s = IsMove image s
 Fits Leave image s = IsLeave image s
 Fits Replace image s = IsReplace image s
 
--- a movement in flight: its node is registered and hasn't left, and its pairs ascend and fit its kind
+-- a movement in flight: its node is registered and hasn't left, its pairs fit its kind, and those that it puts in
+-- ascend
 pub record IsMovement (image : Image) (s : SeqRow) : Type 0 where
   pub stands : is_standing image.nodes s.node ≡ true
   pub ascending : IsStrictlySortedBy by_token s.in_pairs
@@ -96,6 +98,7 @@ abbrev pub brought_by : Kind → List Pair → List Pair
 brought_by Replace pairs = []
 brought_by _ pairs = pairs
 
+-- the pairs that movements bring at tokens of their own
 abbrev pub brought : List SeqRow → List Pair
 brought sequences = flat_map (λ s. brought_by s.kind s.in_pairs) sequences
 

@@ -49,8 +49,8 @@ pub enum Command {
         node: NodeId,
         gone: NodeId,
     },
-    /// Takes the movement of a node to this goal. The movement is of this kind. A step is one command with a goal and a
-    /// kind, so there is one refusal, `WrongStep`.
+    /// Takes the movement of a node to this goal. The movement is of this kind. A step can be refused with `NoNode`,
+    /// `NoSequence` or `WrongStep`, looked for in this order.
     Step {
         goal: Goal,
         kind: Kind,

@@ -117,7 +117,7 @@ fn bad_repeats(alloc: Global, image: &Image) -> Result<Option<BadImage>, Memory>
 /// | 11 | a keyspace's name isn't above the one before it by bytes | its position, from 0 |
 /// | 12 | a movement's node isn't above the one before it | the node |
 /// | 13 | a movement's node isn't registered, or has left | the node |
-/// | 14 | a movement's pairs don't fit its kind | the node |
+/// | 14 | a movement's pairs don't fit its kind, or those that it puts in don't ascend | the node |
 /// | 15 | a node takes part in two movements | the node of the later movement |
 /// | 16 | a movement brings a token of `tokens`, or one that an earlier movement puts in | the token |
 /// | 17 | there are more than 16,384 tokens, with those that movements put in | their number |

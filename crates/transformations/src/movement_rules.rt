@@ -44,7 +44,7 @@ pub(crate) fn mover_missing(image: &Image) -> Option<i128>
         .map(|row| i128::from(row.node.0))
 }
 
-/// The first movement whose pairs don't fit its kind.
+/// The first movement whose pairs don't fit its kind, or whose pairs to put in don't ascend.
 fn first_unfit(alloc: Global, image: &Image) -> Result<Option<NodeId>, Memory>
     requires { IsStrictlyIncreasing (map (λ row. row.id) image.now.nodes) }
     ensures { IfOk result (λ found. option_map (λ n. pos n) found ≡ rule_14 image.now) }
@@ -58,7 +58,7 @@ fn first_unfit(alloc: Global, image: &Image) -> Result<Option<NodeId>, Memory>
     Ok(None)
 }
 
-/// The node of the first movement whose pairs don't fit its kind.
+/// The node of the first movement whose pairs don't fit its kind, or whose pairs to put in don't ascend.
 pub(crate) fn unfit(alloc: Global, image: &Image) -> Result<Option<i128>, Memory>
     requires { IsStrictlyIncreasing (map (λ row. row.id) image.now.nodes) }
     ensures { IfOk result (λ found. found ≡ rule_14 image.now) }

@@ -48,6 +48,7 @@ pub enum Refusal {
     EpochsFull,
     /// With the keyspace so set, the ranges of the movements of these two nodes would overlap. The first node is the
     /// least one whose movement would overlap that of a greater node, and the second is the least such greater node.
-    /// The right end is that of the first row between cuts in the ranges of both, under the replication of the command.
+    /// The right end is that of the first row between cuts in the ranges of both, under any keyspace of the image with
+    /// the new one. Where the movements are apart before, only the new keyspace can show an overlap.
     KeyspaceLocked(NodeId, NodeId, RightEnd),
 }

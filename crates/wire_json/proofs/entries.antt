@@ -4,4 +4,5 @@ pub mod EntryCommands
 pub mod EntryEpochs
 pub mod EntryFloats
 pub mod EntryParts
+pub mod EntrySizes
 pub mod EntryTokens

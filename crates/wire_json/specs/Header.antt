@@ -12,9 +12,10 @@ header_keys = codes "cluster" ∷ codes "format" ∷ []
 abbrev pub header_data : List ℕ → Data
 header_data cluster = object (with_text (codes "cluster") cluster (with_number (codes "format") 2 no_members))
 
--- the text of a header, and its line
+-- the text of a header
 unfoldable pub header_text : List ℕ → List ℕ
 header_text cluster = compact_text (header_data cluster)
 
+-- the line of a header
 abbrev pub header_line : List ℕ → List ℕ
 header_line cluster = header_text cluster ++ 10 ∷ []

@@ -3,16 +3,10 @@ use Rattle.std.specs.Prelude.{ℕ, if◌then◌else◌, List, [], ◌∷◌, map
 use Rattle.std.specs.Str.{bytes_eq}
 use Rattle.serde_json.specs.Data.{Data}
 use Rattle.serde_json.specs.Find.{get}
+use Rattle.transformations.specs.Words.{drop_keyspace_word, keyspace_word, node_commands, prepare_join_word, prepare_move_word, prepare_replace_word, register_word, unsafe_join_word}
 use Rattle.transformations.specs.declared.command.Command.{Command}
-use Rattle.transformations.specs.declared.command.Command.TheVariants.{Register, Unregister, UnsafeJoin, Keyspace, DropKeyspace, PrepareJoin, PrepareMove, PrepareLeave, PrepareReplace, Step, Cancel}
-use Rattle.transformations.specs.declared.sequence.Goal.TheVariants.{Start, Mid, Finish}
-use Rattle.transformations.specs.declared.sequence.Kind.TheVariants.{Join, Move, Leave, Replace}
-use Rattle.wire_json.specs.Values.{has_keys, name_at, node_at, replication_at, text_at, token_at, tokens_at}
-
--- continues with the value, if there is one
-infixl 10 ◌>>=◌
-abbrev ◌>>=◌ : {A B : Type 0} → Option A → (A → Option B) → Option B
-o >>= f = option_and_then f o
+use Rattle.transformations.specs.declared.command.Command.TheVariants.{Register, UnsafeJoin, Keyspace, DropKeyspace, PrepareJoin, PrepareMove, PrepareReplace}
+use Rattle.wire_json.specs.Values.{◌>>=◌, has_keys, name_at, node_at, replication_at, text_at, token_at, tokens_at}
 
 -- a kind of command: its word, the keys of its object in ascending order, and the command that an object makes
 pub record Kind : Type 0 where
@@ -20,7 +14,7 @@ pub record Kind : Type 0 where
   pub keys : List (List ℕ)
   pub made : Data → Option Command
 
--- dc, name, rack
+-- dc, name, rack. `do` takes its lines in order: if one gives no value, the whole gives None
 unfoldable pub register_of : Data → Option Command
 register_of value = do
   name ← name_at (codes "name") value
@@ -29,7 +23,7 @@ register_of value = do
   Some (Register name dc rack)
 
 abbrev pub register : Kind
-register = record { word = codes "register"; keys = codes "dc" ∷ codes "kind" ∷ codes "name" ∷ codes "rack" ∷ []; made = register_of }
+register = record { word = register_word; keys = codes "dc" ∷ codes "kind" ∷ codes "name" ∷ codes "rack" ∷ []; made = register_of }
 
 -- node, tokens
 unfoldable pub unsafe_join_of : Data → Option Command
@@ -39,8 +33,9 @@ unsafe_join_of value = do
   Some (UnsafeJoin node tokens)
 
 abbrev pub unsafe_join : Kind
-unsafe_join = record { word = codes "unsafe-join"; keys = codes "kind" ∷ codes "node" ∷ codes "tokens" ∷ []; made = unsafe_join_of }
+unsafe_join = record { word = unsafe_join_word; keys = codes "kind" ∷ codes "node" ∷ codes "tokens" ∷ []; made = unsafe_join_of }
 
+-- node, tokens
 unfoldable pub prepare_join_of : Data → Option Command
 prepare_join_of value = do
   node ← node_at (codes "node") value
@@ -48,7 +43,7 @@ prepare_join_of value = do
   Some (PrepareJoin node tokens)
 
 abbrev pub prepare_join : Kind
-prepare_join = record { word = codes "prepare-join"; keys = codes "kind" ∷ codes "node" ∷ codes "tokens" ∷ []; made = prepare_join_of }
+prepare_join = record { word = prepare_join_word; keys = codes "kind" ∷ codes "node" ∷ codes "tokens" ∷ []; made = prepare_join_of }
 
 -- name, replication
 unfoldable pub set_keyspace_of : Data → Option Command
@@ -58,7 +53,7 @@ set_keyspace_of value = do
   Some (Keyspace name replication)
 
 abbrev pub keyspace : Kind
-keyspace = record { word = codes "keyspace"; keys = codes "kind" ∷ codes "name" ∷ codes "replication" ∷ []; made = set_keyspace_of }
+keyspace = record { word = keyspace_word; keys = codes "kind" ∷ codes "name" ∷ codes "replication" ∷ []; made = set_keyspace_of }
 
 -- name
 unfoldable pub drop_keyspace_of : Data → Option Command
@@ -67,7 +62,7 @@ drop_keyspace_of value = do
   Some (DropKeyspace name)
 
 abbrev pub drop_keyspace : Kind
-drop_keyspace = record { word = codes "drop-keyspace"; keys = codes "kind" ∷ codes "name" ∷ []; made = drop_keyspace_of }
+drop_keyspace = record { word = drop_keyspace_word; keys = codes "kind" ∷ codes "name" ∷ []; made = drop_keyspace_of }
 
 -- node, token
 unfoldable pub prepare_move_of : Data → Option Command
@@ -77,7 +72,7 @@ prepare_move_of value = do
   Some (PrepareMove node token)
 
 abbrev pub prepare_move : Kind
-prepare_move = record { word = codes "prepare-move"; keys = codes "kind" ∷ codes "node" ∷ codes "token" ∷ []; made = prepare_move_of }
+prepare_move = record { word = prepare_move_word; keys = codes "kind" ∷ codes "node" ∷ codes "token" ∷ []; made = prepare_move_of }
 
 -- node, gone
 unfoldable pub prepare_replace_of : Data → Option Command
@@ -87,24 +82,17 @@ prepare_replace_of value = do
   Some (PrepareReplace node gone)
 
 abbrev pub prepare_replace : Kind
-prepare_replace = record { word = codes "prepare-replace"; keys = codes "gone" ∷ codes "kind" ∷ codes "node" ∷ []; made = prepare_replace_of }
+prepare_replace = record { word = prepare_replace_word; keys = codes "gone" ∷ codes "kind" ∷ codes "node" ∷ []; made = prepare_replace_of }
 
--- the words of the commands whose only argument is a node, each with the command that it makes of the node
-abbrev pub node_commands : List (List ℕ × (ℕ → Command))
-node_commands =
-    (codes "unregister", Unregister) ∷ (codes "prepare-leave", PrepareLeave) ∷ (codes "cancel", Cancel)
-    ∷ (codes "start-join", Step Start Join) ∷ (codes "mid-join", Step Mid Join) ∷ (codes "finish-join", Step Finish Join)
-    ∷ (codes "start-move", Step Start Move) ∷ (codes "mid-move", Step Mid Move) ∷ (codes "finish-move", Step Finish Move)
-    ∷ (codes "start-leave", Step Start Leave) ∷ (codes "mid-leave", Step Mid Leave) ∷ (codes "finish-leave", Step Finish Leave)
-    ∷ (codes "start-replace", Step Start Replace) ∷ (codes "mid-replace", Step Mid Replace) ∷ (codes "finish-replace", Step Finish Replace)
-    ∷ []
-
+-- the keys of a command whose only argument is a node
 abbrev pub node_keys : List (List ℕ)
 node_keys = codes "kind" ∷ codes "node" ∷ []
 
+-- the kind of such a command, from its word and what it makes of the node
 abbrev pub of_node : List ℕ × (ℕ → Command) → Kind
 of_node row = record { word = row.0; keys = node_keys; made = λ value. option_map row.1 (node_at (codes "node") value) }
 
+-- the kinds of these commands
 unfoldable pub node_kinds : List Kind
 node_kinds = map of_node node_commands
 
@@ -121,9 +109,10 @@ command_by kind value = if has_keys kind.keys value then kind.made value else No
 abbrev pub command_named : List Kind → List ℕ → Data → Option Command
 command_named ks word value = option_and_then (λ kind. command_by kind value) (find (λ kind. bytes_eq word kind.word) ks)
 
--- the command in a value, by the word at its key `kind`; and the command at a key
+-- the command in a value, by the word at its key `kind`
 unfoldable pub command_of : Data → Option Command
 command_of value = option_and_then (λ word. command_named kinds word value) (text_at (codes "kind") value)
 
+-- the command at a key
 abbrev pub command_at : List ℕ → Data → Option Command
 command_at key value = option_and_then command_of (get key value)

@@ -11,16 +11,19 @@ use Rattle.transformations.specs.declared.keyspace.KeyspaceRow.{KeyspaceRow}
 use Rattle.transformations.specs.declared.sequence.SeqRow.{SeqRow}
 use Rattle.wire_json.specs.Entries.{IsNode}
 
--- the values of a pair, of a registered node, of a keyspace and of a movement are tokens, nodes, names and replications
+-- the values of a pair are a token and a node
 abbrev pub IsPair : Pair → Type 0
 IsPair p = IsToken p.token × IsNode p.node
 
+-- the values of a registered node are a node and names
 abbrev pub IsNodeRow : NodeRow → Type 0
 IsNodeRow row = IsNode row.id × IsTrue (is_name row.name) × IsTrue (is_name row.dc) × IsTrue (is_name row.rack)
 
+-- the values of a keyspace are a name and a replication
 abbrev pub IsKeyspaceRow : KeyspaceRow → Type 0
 IsKeyspaceRow row = IsTrue (is_name row.name) × IsReplication row.replication
 
+-- the values of a movement are a node and pairs
 abbrev pub IsSeqRow : SeqRow → Type 0
 IsSeqRow s = IsNode s.node × AllByRecursion IsPair s.out_pairs × AllByRecursion IsPair s.in_pairs
 

@@ -1,4 +1,11 @@
--- The entry, the image or the header in a line of a file, or the first rule that the line breaks.
+-- The entry, the image or the header in a line of a file, or the first rule that the line breaks. The rules:
+-- 1. A line has at most 4,194,304 bytes.
+-- 2. It is a JSON text in UTF-8, nested at most 127 deep, without a number too large for a float.
+-- 3. It is an object with exactly the keys of an entry, of a snapshot line or of a header.
+-- 4. The id of an entry is a whole number below 2^64, and its epoch is one from 1 to 65,536.
+-- 5. The command of an entry has the word of a kind and exactly the keys of this kind, and each value has its form.
+-- 6. The value at `snapshot` is an image: it and its parts have exactly their keys, and each value has its form.
+-- 7. The cluster of a header is a name, and its format is the whole number 2.
 use Rattle.std.specs.Prelude.{ℕ, ◌≤◌, Bool, ◌&&◌, ◌==◌, if◌then◌else◌, List, [], ◌∷◌, length, Option, Some, None, Result, Ok, Err, option_and_then, ok_or, nat_le, codes, ⊤, IsTrue}
 use Rattle.std.specs.Str.{is_utf8}
 use Rattle.serde_json.specs.Data.{Data}
@@ -20,10 +27,11 @@ abbrev pub ◌>>=◌ : {A B : Type 0} → Result A ReadLineFault → (A → Resu
 Ok x >>= f = f x
 Err e >>= f = Err e
 
--- a rule that requires a test to hold, and a rule that requires a value
+-- a rule that requires a test to hold
 abbrev pub holds : ℕ → Bool → Result ⊤ ReadLineFault
 holds rule test = if test then Ok tt else Err (Bad rule)
 
+-- a rule that requires a value
 abbrev pub found : {A : Type 0} → ℕ → Option A → Result A ReadLineFault
 found rule o = ok_or o (Bad rule)
 
@@ -41,9 +49,9 @@ entry_keys = codes "command" ∷ codes "entry" ∷ codes "epoch" ∷ []
 
 -- the epoch of an entry: a whole number from 1 to 65,536
 abbrev pub epoch_at : List ℕ → Data → Option ℕ
-epoch_at key value = option_and_then (λ n. if nat_le 1 n && nat_le n 65536 then Some n else None) (number_at key value)
+epoch_at key value = option_and_then (λ n. if nat_le 1 n && nat_le n most_epochs then Some n else None) (number_at key value)
 
--- the entry in a JSON value, or the first rule that the value breaks
+-- the entry in a JSON value. `do` takes its lines in order: the first rule that fails is the answer
 unfoldable pub entry_of : Data → Result AnyEntry ReadLineFault
 entry_of value = do
   keys ← holds 3 (has_keys entry_keys value)
@@ -60,32 +68,33 @@ header_of value = do
   two ← holds 7 (format == 2)
   Ok cluster
 
--- the image of a snapshot line, or rule 6; a header, or rule 7; and an entry, or the first of rules 3 to 5 that the
--- value breaks
+-- the image of a snapshot line, or rule 6
 abbrev pub image_of_line : Data → Result Line ReadLineFault
 image_of_line value = do
   image ← found 6 (snapshot_at (codes "snapshot") value)
   Ok (Snapshot image)
 
+-- a header, or rule 7
 abbrev pub header_of_line : Data → Result Line ReadLineFault
 header_of_line value = do
   cluster ← header_of value
   Ok (Header cluster)
 
+-- an entry, or the first of rules 3 to 5 that the value breaks
 abbrev pub entry_of_line : Data → Result Line ReadLineFault
 entry_of_line value = do
   entry ← entry_of value
   Ok (Entry entry)
 
 -- what a JSON value says: an image, if its only key is `snapshot`, a header, if its keys are those of a header, and
--- otherwise an entry. An object with the keys of none breaks rule 3
+-- otherwise an entry. So a value that is no object, or has the keys of none, breaks rule 3
 unfoldable pub line_in : Data → Result Line ReadLineFault
 line_in value =
     if has_keys snapshot_keys value then image_of_line value
     else if has_keys header_keys value then header_of_line value
     else entry_of_line value
 
--- what a line says, or the first rule that the line breaks; the line comes without its line feed
+-- what a line says, or the first rule that the line breaks. The line comes without its line feed
 unfoldable pub reading : List ℕ → Result Line ReadLineFault
 reading bytes = do
   short ← holds 1 (nat_le (length bytes) most_bytes)

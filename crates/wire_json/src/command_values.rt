@@ -4,6 +4,7 @@ ghost use Rattle.std.specs.Prelude.{◌≡◌, ◌++◌, IfOk};
 ghost use Rattle.cluster_terms.specs.ReplicationText.{text_of};
 ghost use Rattle.serde_json.specs.Data.{string};
 ghost use Rattle.serde_json.specs.View.{view};
+ghost use Rattle.transformations.specs.Words.{goal_word, movement_word};
 ghost use Rattle.wire_json.specs.EntryTexts as spec;
 
 use crate::json_lists::list_value;
@@ -91,7 +92,7 @@ fn replace_value(alloc: Global, node: NodeId, gone: NodeId) -> Result<Value, Mem
 
 /// The word of a step, such as `start-join`.
 fn step_word(goal: Goal, kind: Kind) -> &'static str
-    ensures { result.now ≡ spec.goal_word goal ++ spec.movement_word kind }
+    ensures { result.now ≡ goal_word goal ++ movement_word kind }
 {
     match (goal, kind) {
         (Goal::Start, Kind::Join) => "start-join",

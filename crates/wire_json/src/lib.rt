@@ -16,5 +16,7 @@ mod writing;
 
 pub use line::{Line, ReadLineFault};
 pub use line_reading::read_line;
-pub use validity::{entries_read_back, headers_read_back, images_read_back, sound_images_fit};
+pub use validity::{
+    entries_read_back, entry_lines_fit, headers_read_back, images_read_back, sound_images_fit,
+};
 pub use writing::{entry_line, header_line, snapshot_line};

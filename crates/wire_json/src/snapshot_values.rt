@@ -2,8 +2,8 @@
 
 ghost use Rattle.std.specs.Prelude.{◌≡◌, IfOk};
 ghost use Rattle.serde_json.specs.View.{view};
+ghost use Rattle.transformations.specs.Words.{movement_word, phase_word};
 ghost use Rattle.wire_json.specs.SnapshotTexts as spec;
-ghost use Rattle.wire_json.specs.EntryTexts.{movement_word, phase_word};
 
 use crate::command_values::replication_value;
 use crate::json_lists::{Written, list_value};

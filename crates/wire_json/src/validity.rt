@@ -10,7 +10,7 @@ ghost use Rattle.wire_json.specs.Header.{header_text};
 ghost use Rattle.wire_json.specs.LineImages.{FitsLine};
 ghost use Rattle.wire_json.specs.Reading.{most_bytes, reading};
 ghost use Rattle.wire_json.specs.SnapshotTexts.{image_text};
-ghost use Rattle.wire_json.specs.EntryTexts.{entry_text};
+ghost use Rattle.wire_json.specs.EntryTexts.{entry_line, entry_text};
 ghost use Rattle.wire_json.specs.declared.line.Line.TheVariants as line;
 
 /// Reading the text of an entry gives the entry back, for each entry that a log may hold: its epoch is from 1 to
@@ -19,6 +19,14 @@ ghost use Rattle.wire_json.specs.declared.line.Line.TheVariants as line;
 pub fn entries_read_back()
     // Promise: the text of each entry that a log may hold is read as this entry. Guards: law.
     ensures { (entry : Entry) → IsEntry entry → reading (entry_text entry) ≡ Ok (line.Entry entry) }
+{}
+
+/// The line of an entry that a log may hold has at most 6,000 bytes, with its line feed. So the lines of a log, which
+/// has at most 65,536 entries, have at most 393,216,000 bytes.
+#[tactic(auto, using(crate::proofs::entries::EntrySizes::line_fits))]
+pub fn entry_lines_fit()
+    // Promise: the line of each entry that a log may hold has at most 6,000 bytes. Guards: law.
+    ensures { (entry : Entry) → IsEntry entry → length (entry_line entry) ≤ 6000 }
 {}
 
 /// Reading the text of a header gives the header back, for each name that a cluster may have.

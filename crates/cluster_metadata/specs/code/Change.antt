@@ -65,9 +65,8 @@ abbrev pub StandsBeforeMid : List SeqRow → ℕ → Type 0
 StandsBeforeMid rows at = option_map (λ s. is_mid s.phase) (slice_get rows at) ≡ Some false
 
 -- a change fits the movements in flight before it. New plans have their rows, in their order. The row of a new
--- movement's plan is inserted at its position. A
--- movement that takes a step is at the phase before; one that goes back or is finished is at MID, and one that is given
--- up isn't
+-- movement's plan is inserted at its position. A movement that takes a step is at the phase before; one that goes back
+-- or is finished is at MID, and one that is given up isn't
 abbrev pub Follows : List SeqRow → Change → Type 0
 Follows before (Keyspaces keyspaces renewed) = map (λ p. p.row) renewed.plans.items ≡ map (in_phase phase.Prepared) before
 Follows before (Begun at plan after) = (plan.row.phase ≡ phase.Prepared) × (at ≤ length before) × (after ≡ insert before at plan.row)
@@ -90,20 +89,21 @@ FitsNodes image _ = Unit {0}
 abbrev pub plan_lock : Plan → LockRow
 plan_lock plan = lock_row plan.row.node plan.ranges
 
--- plans and locks are those of the movements of an image; and the locks share no token
+-- plans and locks are those of the movements of an image
 pub record AreReplanned (image : Image) (renewed : Renewed) : Type 0 where
   pub rows : map (λ p. p.row) renewed.plans.items ≡ map (in_phase phase.Prepared) image.sequences
   pub deltas : AllByRecursion (HasDeltas image) renewed.plans.items
   pub locks : AreLocks image image.sequences renewed.locks
 
+-- plans and locks are those of the movements of an image, and no two locks share a token
 pub record AreRenewed (image : Image) (renewed : Renewed) : Type 0 where
   pub rows : map (λ p. p.row) renewed.plans.items ≡ map (in_phase phase.Prepared) image.sequences
   pub deltas : AllByRecursion (HasDeltas image) renewed.plans.items
   pub locks : AreLocksOf image image.sequences renewed.locks
   pub apart : AllPairs (λ one other. ShareNoToken one.ranges other.ranges) renewed.locks
 
--- the plan of a new movement has its deltas and its ranges, in the image that the change leads to; and so have the plans
--- that new keyspaces bring
+-- the plan of a new movement has its deltas and its ranges, in the image that the change leads to; and so have the
+-- plans that new keyspaces bring
 abbrev pub BringsPlan : Image → Change → Type 0
 BringsPlan image (Keyspaces keyspaces renewed) = AreRenewed (rekeyed image keyspaces) renewed
 BringsPlan image (Begun at plan after) =
@@ -140,19 +140,20 @@ pub record IsChange (image : Image) (command : Command) (change : Change) : Type
   pub plan : BringsPlan image change
   pub suits : Suits image command change
 
--- a change begins the movement of this row
+-- a change begins a movement with this row
 abbrev pub BeginsWith : SeqRow → Change → Type 0
 BeginsWith row (Begun at plan after) = plan.row ≡ row
 BeginsWith row _ = ⊥
 
+-- a change begins the movement of this row in an image, with its plan
 pub record Begins (image : Image) (row : SeqRow) (change : Change) : Type 0 where
   pub made : changed image change ≡ begun image row
   pub follows : Follows image.sequences change
   pub plan : BringsPlan image change
   pub begins : BeginsWith row change
 
--- a plan as its movement keeps it: without its ranges, which the lock takes, and without its cuts, which nothing needs
--- once the movement has begun
+-- a plan without its ranges, which the lock takes, and without its cuts, which nothing needs once its movement has
+-- begun
 abbrev pub kept_plan : Plan → Plan
 kept_plan plan = record plan { cuts = []; ranges = [] }
 
@@ -176,11 +177,12 @@ abbrev pub BringsKeyspaces : Image → List KeyspaceRow → Change → Type 0
 BringsKeyspaces image rows (Keyspaces keyspaces renewed) = (keyspaces ≡ rows) × AreRenewed (rekeyed image keyspaces) renewed
 BringsKeyspaces image rows _ = ⊥
 
--- a change leads to these keyspaces; and whether a command sets or drops one
+-- a change leads to these keyspaces
 abbrev pub ChangesTo : List KeyspaceRow → Change → Type 0
 ChangesTo rows (Keyspaces keyspaces renewed) = keyspaces ≡ rows
 ChangesTo rows _ = ⊥
 
+-- whether a command sets or drops a keyspace
 abbrev pub is_on_keyspaces : Command → Bool
 is_on_keyspaces (Keyspace name r) = true
 is_on_keyspaces (DropKeyspace name) = true

@@ -22,10 +22,11 @@ pub record IsNew (nodes : List NodeRow) (next : ℕ) (node : NewNode) : Type 0 w
   pub room : length nodes < node.nodes
   pub directory : IsRoomFor (length nodes) next node.entry.name node.directory
 
--- the node that leaves with a row, and the nodes after it; without a row they stay
+-- the node that leaves with a row
 abbrev pub left_node : Option LeftRow → Option ℕ
 left_node left = option_map (λ l. l.row.id) left
 
+-- the nodes after it has left; without a row they stay
 abbrev pub nodes_left : List NodeRow → Option LeftRow → List NodeRow
 nodes_left nodes left = with_left nodes (left_node left)
 
@@ -35,12 +36,14 @@ pub record IsLeftRow (nodes : List NodeRow) (left : LeftRow) : Type 0 where
   pub within : left.at < length nodes
   pub marks : slice_set nodes left.at left.row ≡ map (marked left.row.id) nodes
 
--- the image with a new node, and with a node that has left; the epoch is as before
+-- the image with one more row of nodes and this next id; the epoch is as before
 abbrev pub with_row : Image → NodeRow → ℕ → Image
 with_row image row next = record image { next = next; nodes = image.nodes ++ row ∷ [] }
 
+-- the image with a new node
 abbrev pub with_node : Image → NewNode → Image
 with_node image node = with_row image node.row node.next
 
+-- the image with a node that has left
 abbrev pub with_node_left : Image → Option LeftRow → Image
 with_node_left image left = record image { nodes = nodes_left image.nodes left }

@@ -1,5 +1,5 @@
 -- The movements in flight, each as a value of its phase.
--- Of the code: no promise rests on these, but the invariant of `Metadata` does.
+-- Of the code: the invariant of `Metadata` is made of these.
 use Rattle.std.specs.Prelude.{◌≡◌, ℕ, List, map}
 use Rattle.std.specs.List.{AllByRecursion}
 use Rattle.placement_deltas.specs.declared.plan.Plan.{Plan}
@@ -12,15 +12,17 @@ use Rattle.cluster_metadata.specs.code.Change.{in_phase}
 use Rattle.cluster_metadata.specs.declared.movements.running.Running.{Running}
 use Rattle.cluster_metadata.specs.declared.movements.running.Running.TheVariants.{Prepared, Started, Mid}
 
--- the plan of a movement in flight, its node, the phase of its type, and its row: the plan's row, at this phase
+-- the plan of a movement in flight
 abbrev pub plan_of : Running → Plan
 plan_of (Prepared s) = s
 plan_of (Started s) = s
 plan_of (Mid s) = s
 
+-- its node
 abbrev pub moving_node : Running → ℕ
 moving_node m = (plan_of m).row.node
 
+-- the phase of its type
 abbrev pub phase_of : Running → Phase
 phase_of (Prepared s) = phase.Prepared
 phase_of (Started s) = phase.Started
@@ -32,6 +34,7 @@ phase_after phase.Prepared = phase.Started
 phase_after phase.Started = phase.Mid
 phase_after phase.Mid = phase.Started
 
+-- its row: the plan's row, at its phase
 abbrev pub movement_row : Running → SeqRow
 movement_row m = in_phase (phase_of m) (plan_of m).row
 

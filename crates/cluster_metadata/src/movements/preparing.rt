@@ -45,9 +45,9 @@ fn place_for(sequences: &[SeqRow], node: NodeId) -> usize
     sequences.len()
 }
 
-/// A plan without the ranges of other movements, which nothing needs once they are compared. A plan is kept without its
-/// cuts too, and its own ranges go to the table of locks (`parted`). For m movements on n tokens this saves memory for
-/// m·m ranges and m·n tokens.
+/// A plan without the ranges of other movements, which nothing needs once they are compared. Once the movement begins,
+/// the plan is without its cuts too, and its own ranges are in the table of locks (`parted`). For m movements on n
+/// tokens this saves memory for m·m ranges and m·n tokens. A movement that comes with an image keeps its whole plan.
 fn without_others(alloc: Global, plan: Plan) -> Plan
     ensures { result ≡ record plan { wide = [] } }
 {

@@ -164,9 +164,9 @@ fn overlapping(node: NodeId) -> ImageFault
     })
 }
 
-/// Locks the ranges of a movement of an image, and returns its value, with the plan that it has there. The table has
-/// the locks of the movements of lesser nodes. Fails with `Bad` if the ranges share a token with a row of the table,
-/// and with `Memory` if memory runs out. After an error the table is unchanged.
+/// Locks the ranges of a movement of an image, and returns its value, with the whole plan that it has there. The table
+/// has the locks of the movements of lesser nodes. Fails with `Bad` if the ranges share a token with a row of the
+/// table, and with `Memory` if memory runs out. After an error the table is unchanged.
 fn resumed<L: Ledger>(
     alloc: Global,
     image: &Image,

@@ -1,5 +1,5 @@
 -- Where a token reaches: at nearer tokens too, and alike where no pair lies in between.
-use Rattle.std.proofs.Common.{◌≡◌, ℕ, ◌+◌, ◌≤◌, Bool, true, false, not, ◌&&◌, ◌||◌, if◌then◌else◌, nat_eq, nat_lt, ℤ, ◌≤ℤ◌, List, [], ◌∷◌, is_some, refl, sym, ap, ◌∙◌, arith}
+use Rattle.std.proofs.Common.{◌≡◌, ℕ, ◌+◌, ◌≤◌, min, Bool, true, false, not, ◌&&◌, ◌||◌, if◌then◌else◌, nat_eq, nat_lt, ℤ, ◌≤ℤ◌, List, [], ◌∷◌, is_some, refl, sym, ap, ◌∙◌, arith}
 use Rattle.std.proofs.lemmas.Bool.{and_parts, eq-eqb, or_right}
 use Rattle.std.proofs.lemmas.Bool.Decides.{nat_tests}
 use Rattle.std.proofs.lemmas.Int.{ints}
@@ -9,7 +9,7 @@ use Rattle.cluster_terms.proofs.placement.CountLemmas.{IsWithin, node_count-with
 use Rattle.cluster_terms.proofs.rows.PairLemmas.{ahead-within}
 use Rattle.cluster_terms.proofs.reach.SettledLemmas.{arc-through}
 use Rattle.cluster_terms.specs.Arc.{in_arc}
-use Rattle.cluster_terms.specs.Group.{Group, nodes_of, node_count, rack_count, wanted, spare, ahead_of}
+use Rattle.cluster_terms.specs.Group.{Group, nodes_of, node_count, rack_count, wanted, spare, taken, ahead_of}
 use Rattle.cluster_terms.specs.Reach.{same_shape, is_open, reaches, is_reached_in, is_reached}
 use Rattle.cluster_terms.specs.declared.token.Pair.{Pair}
 
@@ -31,7 +31,7 @@ ahead-between x w y le out (p ∷ ps) h =
 reaches-between : (g : Group) (fixed widest : List Pair) (x w y : ℤ) → x ≤ℤ w → in_arc x w y ≡ false → AllByRecursion (λ p. in_arc x w p.token ≡ false) fixed → reaches g fixed widest x y ≡ reaches g fixed widest w y
 unfolding reaches
 reaches-between g fixed widest x w y le out h =
-    ap (λ ahead. not (same_shape g fixed widest) || (nat_lt (node_count g (nodes_of ahead)) (wanted g (nodes_of fixed)) || nat_lt (rack_count g (nodes_of ahead) + spare g (nodes_of fixed)) (wanted g (nodes_of fixed)))) (ahead-between x w y le out fixed h)
+    ap (λ ahead. not (same_shape g fixed widest) || nat_lt (taken g (nodes_of fixed) (nodes_of ahead)) (wanted g (nodes_of fixed))) (ahead-between x w y le out fixed h)
 
 reached_in-between : (g : Group) (fixed widest : List Pair) (x w : ℤ) → x ≤ℤ w → AllByRecursion (λ p. in_arc x w p.token ≡ false) fixed
     → (moved : List Pair) → AllByRecursion (λ p. in_arc x w p.token ≡ false) moved → is_reached_in fixed widest moved x g ≡ is_reached_in fixed widest moved w g
@@ -51,7 +51,7 @@ reached-between gs fixed widest moved x w le h out = λ i. list_any (λ g. reach
 
 -- whether replicas are left to be found, by how many are wanted and spare, and how many nodes and racks are ahead
 abbrev is_open_by : ℕ → ℕ → ℕ → ℕ → Bool
-is_open_by w s d p = nat_lt d w || nat_lt (p + s) w
+is_open_by w s d p = nat_lt (min (p + s) d) w
 
 is_open-fewer : (w s d p w' s' d' p' : ℕ) → w' ≤ w → s ≤ s' → d ≤ d' → p ≤ p' → is_open_by w' s' d' p' ≡ true → is_open_by w s d p ≡ true
 is_open-fewer w s d p w' s' d' p' ww ss dd pp h = grind (arith, nat_tests)

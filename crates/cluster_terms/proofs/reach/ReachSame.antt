@@ -1,5 +1,5 @@
 -- Reach depends on which pairs there are.
-use Rattle.std.proofs.Common.{◌≡◌, ℕ, ◌+◌, Bool, true, false, not, ◌&&◌, ◌||◌, nat_eq, nat_lt, ◌==◌, ℤ, List, [], ◌∷◌, ◌++◌, is_some, refl, sym, ap, ◌∙◌}
+use Rattle.std.proofs.Common.{◌≡◌, ℕ, ◌+◌, min, Bool, true, false, not, ◌&&◌, ◌||◌, nat_eq, nat_lt, ◌==◌, ℤ, List, [], ◌∷◌, ◌++◌, is_some, refl, sym, ap, ◌∙◌}
 use Rattle.std.proofs.lemmas.List.Folds.{list_any-append}
 use Rattle.std.specs.Cmp.{both_ways}
 use Rattle.std.specs.List.{list_any}
@@ -15,7 +15,7 @@ use Rattle.cluster_terms.specs.declared.token.Pair.{Pair}
 -- whether a token reaches, by how many are wanted and spare among the fixed and the widest pairs, and how many nodes
 -- and racks are ahead
 abbrev pub reaches_by : ℕ → ℕ → ℕ → ℕ → ℕ → ℕ → Bool
-reaches_by wf ww sf sw d p = not ((wf == ww) && (sf == sw)) || (nat_lt d wf || nat_lt (p + sf) wf)
+reaches_by wf ww sf sw d p = not ((wf == ww) && (sf == sw)) || nat_lt (min (p + sf) d) wf
 
 pub reaches-by : (g : Group) (fixed widest : List Pair) (x y : ℤ) → reaches g fixed widest x y
     ≡ reaches_by (wanted g (nodes_of fixed)) (wanted g (nodes_of widest)) (spare g (nodes_of fixed)) (spare g (nodes_of widest)) (node_count g (nodes_of (ahead_of x y fixed))) (rack_count g (nodes_of (ahead_of x y fixed)))

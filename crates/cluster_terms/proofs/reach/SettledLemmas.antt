@@ -1,5 +1,5 @@
 -- Tokens that don't reach another, and rings between the fixed pairs and the widest set.
-use Rattle.std.proofs.Common.{◌≡◌, ℕ, ◌+◌, ◌≤◌, Bool, true, false, not, ◌&&◌, ◌||◌, nat_eq, nat_lt, ℤ, List, is_some, refl, sym, ◌∙◌, arith}
+use Rattle.std.proofs.Common.{◌≡◌, ℕ, ◌+◌, ◌≤◌, min, Bool, true, false, not, ◌&&◌, ◌||◌, nat_eq, nat_lt, ℤ, List, is_some, refl, sym, ◌∙◌, arith}
 use Rattle.std.proofs.lemmas.Bool.{false≢true}
 use Rattle.std.proofs.lemmas.Bool.Decides.{nat_tests}
 use Rattle.std.proofs.lemmas.Int.{ints}
@@ -22,7 +22,7 @@ pub record IsSettled (g : Group) (fixed widest : List Pair) (x y : ℤ) : Type 0
   pub nodes : wanted g (nodes_of fixed) ≤ node_count g (nodes_of (ahead_of x y fixed))
   pub racks : wanted g (nodes_of fixed) ≤ rack_count g (nodes_of (ahead_of x y fixed)) + spare g (nodes_of fixed)
 
-settled : (w z s t d p : ℕ) → (not (nat_eq w z && nat_eq s t) || (nat_lt d w || nat_lt (p + s) w)) ≡ false → (w ≡ z) × (s ≡ t) × (w ≤ d) × (w ≤ p + s)
+settled : (w z s t d p : ℕ) → (not (nat_eq w z && nat_eq s t) || nat_lt (min (p + s) d) w) ≡ false → (w ≡ z) × (s ≡ t) × (w ≤ d) × (w ≤ p + s)
 settled w z s t d p h = (grind (arith, nat_tests), grind (arith, nat_tests), grind (arith, nat_tests), grind (arith, nat_tests))
 
 pub IsSettled-from_reach : (g : Group) (fixed widest : List Pair) (x y : ℤ) → reaches g fixed widest x y ≡ false → IsSettled g fixed widest x y

@@ -11,6 +11,7 @@ pub record RowsSoFar : Type 0 where
   pub joined : List DeltaRow
   pub begun : Option DeltaRow
 
+-- these rows as joined so far: the last of them may be continued
 abbrev pub so_far : List DeltaRow → RowsSoFar
 so_far [] = record { joined = []; begun = None }
 so_far (row ∷ []) = record { joined = []; begun = Some row }

@@ -9,10 +9,11 @@ use Rattle.placement_deltas.specs.Deltas.{change_in, only}
 use Rattle.placement_deltas.specs.declared.delta_row.DeltaRow.{DeltaRow}
 use Rattle.placement_deltas.specs.declared.side.Side.{Side}
 
--- a row up to a right end, and a row for each range, with what changes there
+-- a row up to a right end, with what changes there
 abbrev pub change_row : RightEnd → List ℕ → List ℕ → DeltaRow
 change_row right before after = record { right = right; gained = without after before; lost = without before after }
 
+-- a row for each range, with what changes there
 abbrev pub change_rows : List TokenRange → List (List ℕ) → List (List ℕ) → List DeltaRow
 change_rows (range ∷ ranges) (b ∷ before) (a ∷ after) = change_row range.right b a ∷ change_rows ranges before after
 change_rows _ _ _ = []

@@ -1,5 +1,5 @@
 -- Books that keep maps of another book in a new order, beside new maps.
--- `BringsMaps` is made of `arranged`. Of the code: no promise rests on the others.
+-- `BringsMaps` is made of `arranged`.
 use Rattle.std.specs.Prelude.{List, [], ◌∷◌, ◌++◌, take, drop}
 use Rattle.std.specs.List.{remove}
 use Rattle.cluster_terms.specs.declared.replication.Replication.{Replication}

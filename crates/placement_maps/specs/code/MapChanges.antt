@@ -11,28 +11,31 @@ use Rattle.placement_maps.specs.declared.map_change.MapChange.{MapChange}
 use Rattle.placement_maps.specs.declared.map_change.MapChange.TheVariants.{Keep, Anew, Arranged, Sets, Rows}
 use Rattle.range_placements.specs.declared.map_row.MapRow.{MapRow}
 
--- a book with a change of the map at a position, and with a change of each map
+-- a book with a change of the map at a position
 abbrev pub revised_at : {C : Type 0} → (C → List PlacementRow → List PlacementRow) → ℕ → C → List MapRow → List MapRow
 revised_at made n change [] = []
 revised_at made zero change (row ∷ book) = record { replication = row.replication; map = made change row.map } ∷ book
 revised_at made (suc n) change (row ∷ book) = row ∷ revised_at made n change book
 
+-- a book with a change of each map
 abbrev pub each_revised : {C : Type 0} → (C → List PlacementRow → List PlacementRow) → List C → List MapRow → List MapRow
 each_revised made [] book = book
 each_revised made (change ∷ changes) [] = []
 each_revised made (change ∷ changes) (row ∷ book) = record { replication = row.replication; map = made change row.map } ∷ each_revised made changes book
 
--- new sets in the map at a position, and in each map
+-- new sets in the map at a position
 abbrev pub exchanged_at : ℕ → List RowChange → List MapRow → List MapRow
 exchanged_at n changes book = revised_at with_changes n changes book
 
+-- new sets in each map
 abbrev pub each_exchanged : List (List RowChange) → List MapRow → List MapRow
 each_exchanged all book = each_revised with_changes all book
 
--- rows kept and new ones put in, in the map at a position, and in each map
+-- rows kept and new ones put in, in the map at a position
 abbrev pub edited_at : ℕ → Edits → List MapRow → List MapRow
 edited_at n edits book = revised_at edited n edits book
 
+-- rows kept and new ones put in, in each map
 abbrev pub each_edited : List Edits → List MapRow → List MapRow
 each_edited all book = each_revised edited all book
 

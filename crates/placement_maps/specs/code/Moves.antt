@@ -15,17 +15,19 @@ pub record MovesBy (before after : Image) (delta : Replication → ℤ → Place
   pub keyspaces : after.keyspaces ≡ before.keyspaces
   pub changes : AllByRecursion (λ r. (x : ℤ) → IsToken x → AreChanged before after r x (delta r x)) (replications_of before.keyspaces)
 
--- no delta, and the deltas of a movement
+-- no delta
 abbrev pub no_deltas : Replication → ℤ → PlacementDelta
 no_deltas r x = no_changes
 
+-- the deltas of a movement
 abbrev pub deltas_of : (List ℕ → List ℕ → PlacementDelta) → Image → SeqRow → Replication → ℤ → PlacementDelta
 deltas_of delta image s r x = delta (gained_at image r s x) (lost_at image r s x)
 
--- reads and writes change by such deltas of the movement at this position; and the cuts stay as well
+-- reads and writes change by such deltas of the movement at this position
 abbrev pub MovesOf : Image → Image → ℕ → (SeqRow → List ℕ → List ℕ → PlacementDelta) → Type 0
 MovesOf before after at delta = (s : SeqRow) → slice_get before.sequences at ≡ Some s → MovesBy before after (deltas_of (delta s) before s)
 
+-- reads and writes change by such deltas of the movement at this position, and the cuts stay
 pub record MovesAt (before after : Image) (at : ℕ) (delta : List ℕ → List ℕ → PlacementDelta) : Type 0 where
   pub moves : MovesOf before after at (λ s. delta)
   pub cuts : cuts after ≡ cuts before

@@ -46,7 +46,7 @@ with_turned (Some nodes) row = with_nodes nodes row
 abbrev pub row_with : (ℤ → List ℕ × List ℕ) → TokenRange → PlacementRow
 row_with placement range = row_to range.right (placement (last_token range.right))
 
--- the rows of a map, changed by a delta; and those of other ranges, with the same changes at their last tokens
+-- the rows of a map, changed by a delta
 abbrev pub turned_rows : Turn → List PlacementRow → List DeltaRow → List PlacementRow
 turned_rows turn rows delta = rows_changed (turned turn) delta rows
 
@@ -67,9 +67,11 @@ abbrev pub AddsTurned : Turn → List DeltaRow → ℕ → PlacementRow → List
 AddsTurned turn delta at row before after =
     (done rest : List PlacementRow) → length done ≡ at → with_changes after (done ++ row ∷ rest) ≡ with_changes before (done ++ row_changed (turned turn) delta row ∷ rest)
 
+-- the reads and the writes of a map at a token, changed by a delta
 abbrev pub turned_at : Turn → List PlacementRow → List DeltaRow → ℤ → List ℕ × List ℕ
 turned_at turn rows delta x = turned turn (map_at rows x) (delta_at delta x)
 
+-- the rows of other ranges, with the same changes at their last tokens
 abbrev pub recut_rows : Turn → List TokenRange → List PlacementRow → List DeltaRow → List PlacementRow
 recut_rows turn ranges rows delta = map (row_with (turned_at turn rows delta)) ranges
 

@@ -12,5 +12,6 @@ row_changed change delta row =
     let placement = change (placement_in row) (delta_at delta (last_token row.right)) in
     record { right = row.right; reads = placement.0; writes = placement.1 }
 
+-- each row changed by the delta so
 abbrev pub rows_changed : (List ℕ × List ℕ → List ℕ × List ℕ → List ℕ × List ℕ) → List DeltaRow → List PlacementRow → List PlacementRow
 rows_changed change delta rows = map (row_changed change delta) rows

@@ -5,10 +5,11 @@ use Rattle.cluster_terms.specs.Pair.{tokens_of}
 use Rattle.cluster_terms.specs.Reach.{is_reached, is_reached_in}
 use Rattle.ring_reach.specs.declared.ring_change.RingChange.{RingChange}
 
--- whether a change reaches a token in a group, and whether it reaches a token in any of several groups
+-- whether a change reaches a token in a group
 abbrev pub reaches_in : RingChange → Group → ℤ → Bool
 reaches_in change g = λ x. is_reached_in change.fixed.now change.widest.now change.moved.now x g
 
+-- whether a change reaches a token in any of several groups
 abbrev pub reaches_any : RingChange → List Group → ℤ → Bool
 reaches_any change gs = λ x. is_reached gs change.fixed.now change.widest.now change.moved.now x
 

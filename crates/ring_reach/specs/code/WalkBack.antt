@@ -38,6 +38,7 @@ met_back c (p ∷ ps) tally = met c.group p.node (met_back c ps tally)
 abbrev pub stop_at : Window → Pair → Tallied → Option ℤ
 stop_at span p tally = if is_inside p.token span then (if lacks tally then None else Some p.token) else Some span.left
 
+-- the first of two, if there is one, otherwise the second
 abbrev pub first_some : Option ℤ → Option ℤ → Option ℤ
 first_some None other = other
 first_some (Some t) other = Some t

@@ -12,10 +12,11 @@ window left right = record { left = left; right = right }
 abbrev pub is_inside : ℤ → Window → Bool
 is_inside t w = not (in_arc t w.right w.left)
 
--- the tokens at which windows end, and all at which they begin or end
+-- the tokens at which windows end
 abbrev pub rights_of : List Window → List ℤ
 rights_of ws = map (λ w. w.right) ws
 
+-- the tokens at which windows begin or end
 abbrev pub window_bounds : List Window → List ℤ
 window_bounds [] = []
 window_bounds (w ∷ ws) = w.left ∷ w.right ∷ window_bounds ws

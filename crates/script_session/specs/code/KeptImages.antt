@@ -6,6 +6,7 @@ use Rattle.transformations.specs.declared.entry.Entry.{Entry}
 use Rattle.transformations.specs.declared.image.Image.{Image}
 use Rattle.snapshot_store.specs.Images.{AreOf}
 
+-- the epochs of images
 abbrev pub epochs_of : List Image → List ℕ
 epochs_of images = map (λ image. image.epoch) images
 

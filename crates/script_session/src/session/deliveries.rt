@@ -17,7 +17,7 @@ use transformations::Image;
 
 impl Session {
     /// Makes a follower at epoch 0, unless its name is taken or there are 16 followers.
-    pub fn make_follower(&mut self, name: Name, out: &mut ByteText) -> Result<(), StepFault>
+    pub(crate) fn make_follower(&mut self, name: Name, out: &mut ByteText) -> Result<(), StepFault>
         ensures steps { Alone None (follower_reply self.old name) self.old self.new out.old out.new result }
     {
         if is_taken(&self.followers, name.as_str()) {
@@ -35,7 +35,12 @@ impl Session {
     /// Hands the log's entry of an epoch to the follower with this name, and answers what became of it. The answer is
     /// made after the follower acted. Without memory the follower is where the line led it, or on the way, and the run
     /// ends; `LeavesSession` has both.
-    pub fn deliver(&mut self, name: &Name, epoch: u64, out: &mut ByteText) -> Result<(), StepFault>
+    pub(crate) fn deliver(
+        &mut self,
+        name: &Name,
+        epoch: u64,
+        out: &mut ByteText,
+    ) -> Result<(), StepFault>
         ensures steps { Alone (follower_named self.old.followers name.now)
             (on_follower self.old name.now
             (λ f. deliver_to self.old name.now f (entry_at self.old.log epoch)))
@@ -56,7 +61,12 @@ impl Session {
 
     /// Hands the image of an epoch to the follower with this name, and answers what became of it. The follower acts
     /// before the answer is made, as in `deliver`.
-    pub fn snapshot(&mut self, name: &Name, epoch: u64, out: &mut ByteText) -> Result<(), StepFault>
+    pub(crate) fn snapshot(
+        &mut self,
+        name: &Name,
+        epoch: u64,
+        out: &mut ByteText,
+    ) -> Result<(), StepFault>
         ensures steps { Alone (follower_named self.old.followers name.now)
             (on_follower self.old name.now
             (λ f. snapshot_to self.old name.now f (image_at (commands_of self.old.log) epoch)))

@@ -17,7 +17,7 @@ use script_lang::{Target, no_epoch_text, no_text};
 
 impl Session {
     /// Answers a query, as `step` does.
-    pub fn answer_query(
+    pub(crate) fn answer_query(
         &self,
         target: Target,
         query: Query,

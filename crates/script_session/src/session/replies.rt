@@ -60,7 +60,7 @@ fn past_last_reply(last: u64, out: &mut ByteText) -> Result<(), StepFault>
 impl Session {
     /// Makes the reply to the follower with this name, which asks for at most `max` entries, 1 to 1,024, and keeps it
     /// as the last reply, unless there are 64 replies.
-    pub fn ask(&mut self, name: &Name, max: u64, out: &mut ByteText) -> Result<(), StepFault>
+    pub(crate) fn ask(&mut self, name: &Name, max: u64, out: &mut ByteText) -> Result<(), StepFault>
         requires { (1 ≤ max) × (max ≤ 1024) }
         ensures steps { Alone None (on_follower self.old name.now (ask_of self.old max))
             self.old self.new out.old out.new result }
@@ -97,7 +97,12 @@ impl Session {
     /// Gives the reply with a number to the follower with this name, and answers with the epoch that the follower
     /// reaches. The reply is handed over as `snapshot` and `deliver` do it. The answer is the epoch alone, as the
     /// follower asks again from it.
-    pub fn give(&mut self, name: &Name, number: u64, out: &mut ByteText) -> Result<(), StepFault>
+    pub(crate) fn give(
+        &mut self,
+        name: &Name,
+        number: u64,
+        out: &mut ByteText,
+    ) -> Result<(), StepFault>
         ensures steps { Alone (machine.follower_named self.old.followers name.now)
             (on_follower self.old name.now
             (λ f. give_to self.old name.now f (machine.reply_numbered self.old.replies number)))

@@ -13,9 +13,10 @@ is_from (Some left) t = int_le left t
 abbrev pub touches : TokenRange → ℤ → Bool
 touches range t = is_from range.left t && int_le t (last_token range.right)
 
--- whether one of the ranges does; and the cuts of which this is so
+-- whether one of the ranges contains a token or begins at it
 abbrev pub is_near : List TokenRange → ℤ → Bool
 is_near ranges t = list_any (λ range. touches range t) ranges
 
+-- the cuts that one of the ranges contains or begins at
 abbrev pub near_cuts : List ℤ → List TokenRange → List ℤ
 near_cuts cuts ranges = filter (is_near ranges) cuts

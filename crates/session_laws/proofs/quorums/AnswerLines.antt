@@ -15,6 +15,7 @@ use Rattle.transformations.specs.Same.{same_command}
 use Rattle.transformations.specs.Meeting.{datacenters_of, local_sets_at}
 use Rattle.transformations.specs.Rings.{cuts, reads_at, writes_at}
 use Rattle.transformations.specs.States.{node_tokens, state_of_row}
+use Rattle.transformations.specs.Words.{movement_word, phase_word}
 use Rattle.transformations.specs.declared.command.Command.{Command}
 use Rattle.transformations.specs.declared.entry.Entry.{Entry}
 use Rattle.transformations.specs.declared.image.Image.{Image}
@@ -25,7 +26,7 @@ use Rattle.transformations.specs.declared.sequence.SeqRow.{SeqRow}
 use Rattle.placement_maps.specs.Served.{keyspace_of}
 use Rattle.script_lang.proofs.SaidLemmas.{IsFormed, IsSaid, said_by}
 use Rattle.script_lang.specs.Grammar.{line_of}
-use Rattle.script_lang.specs.AnswerTexts.{epoch_text, kind_text, left_text, line, list_text, named_text, no_text, node_text, nodes_head, nodes_text, ok_text, pairs_text, phase_text, place_head, place_text, placed_text, refusal_text, right_text, placed_row_text, sequence_text, sets_text, state_text, tokens_text}
+use Rattle.script_lang.specs.AnswerTexts.{epoch_text, left_text, line, list_text, named_text, no_text, node_text, nodes_head, nodes_text, ok_text, pairs_text, place_head, place_text, placed_text, refusal_text, right_text, placed_row_text, sequence_text, sets_text, state_text, tokens_text}
 use Rattle.script_lang.specs.declared.script_line.ScriptLine.{ScriptLine}
 use Rattle.script_lang.specs.declared.script_line.ScriptLine.TheVariants.{Commit, Follower, Deliver, Snapshot, Ask, Give, Place, Nodes, Quorum, Local}
 use Rattle.script_lang.specs.declared.script_line.Target.{Target}
@@ -34,7 +35,7 @@ use Rattle.catch_up.specs.Replies.{catch_up_reply, start_epoch}
 use Rattle.catch_up.specs.declared.message.Reply.{Reply as CatchUpReply}
 use Rattle.catch_up_laws.specs.Given.{given_reply}
 use Rattle.epoch_log.specs.Epochs.{entry_at}
-use Rattle.follower_log.specs.Follower.{FollowerState, hand_entry, hand_image}
+use Rattle.follower_log.specs.Follower.{FollowerState, hand_entry, hand_valid}
 use Rattle.follower_log.specs.declared.fault.FollowerFault.{FollowerFault}
 use Rattle.follower_log.specs.declared.took.Took.{Took}
 use Rattle.follower_log.specs.declared.took.Took.TheVariants.{At, Old, Held, Full}
@@ -44,8 +45,8 @@ use Rattle.script_session.specs.declared.session.query.Query.TheVariants as quer
 use Rattle.session_laws.specs.Shown.{IsOfNoQuorum, Shown, sets_in, shown_by, shown_from, shown_text, word_of}
 use Rattle.session_laws.proofs.texts.PlainImages.{IsPlainImage, IsPlainRow, commit_plain, plain_at}
 use Rattle.session_laws.proofs.texts.PlainTexts.{HasPlainNames, decimal_all, first_digit, is_plain, plain_decimal, plain_joined, plain_kind, plain_left, plain_list, plain_pairs, plain_phase, plain_refusal, plain_right, plain_state, plain_tokens}
-use Rattle.script_session.proofs.SessionLemmas.{IsSession, image_of_target}
-use Rattle.script_session.proofs.TakenLemmas.{follower_cases}
+use Rattle.script_session.proofs.steps.SessionLemmas.{IsSession, image_of_target}
+use Rattle.script_session.proofs.followers.TakenLemmas.{follower_cases}
 use Rattle.session_laws.proofs.quorums.ShownAnswers.{by_first, shown_as}
 use Rattle.session_laws.proofs.texts.WholeLines.{AreLines, AreLines-append, AreLines-flat_map, AreLines-line, AreLines-nil}
 
@@ -108,13 +109,13 @@ node_lines image row is =
 sequence_lines : (s : SeqRow) → AreLines IsOfNoQuorum (sequence_text s)
 unfolding sequence_text
 sequence_lines s =
-    let progress : is_plain (decimal s.node ++ codes " " ++ kind_text s.kind ++ codes " " ++ phase_text s.phase) ≡ true =
-    plain_joined (decimal s.node ++ codes " " ++ kind_text s.kind) (codes " ") (phase_text s.phase)
-    (plain_joined (decimal s.node) (codes " ") (kind_text s.kind) (plain_decimal s.node) refl (plain_kind s.kind)) refl (plain_phase s.phase) in
-    let out : is_plain (decimal s.node ++ codes " " ++ kind_text s.kind ++ codes " " ++ phase_text s.phase ++ codes " out " ++ pairs_text s.out_pairs) ≡ true =
-    plain_joined (decimal s.node ++ codes " " ++ kind_text s.kind ++ codes " " ++ phase_text s.phase) (codes " out ") (pairs_text s.out_pairs) progress refl (plain_pairs s.out_pairs) in
-    other_line (codes "SEQ " ++ decimal s.node ++ codes " " ++ kind_text s.kind ++ codes " " ++ phase_text s.phase ++ codes " out " ++ pairs_text s.out_pairs ++ codes " in " ++ pairs_text s.in_pairs)
-    (plain_joined (decimal s.node ++ codes " " ++ kind_text s.kind ++ codes " " ++ phase_text s.phase ++ codes " out " ++ pairs_text s.out_pairs) (codes " in ") (pairs_text s.in_pairs) out refl (plain_pairs s.in_pairs))
+    let progress : is_plain (decimal s.node ++ codes " " ++ movement_word s.kind ++ codes " " ++ phase_word s.phase) ≡ true =
+    plain_joined (decimal s.node ++ codes " " ++ movement_word s.kind) (codes " ") (phase_word s.phase)
+    (plain_joined (decimal s.node) (codes " ") (movement_word s.kind) (plain_decimal s.node) refl (plain_kind s.kind)) refl (plain_phase s.phase) in
+    let out : is_plain (decimal s.node ++ codes " " ++ movement_word s.kind ++ codes " " ++ phase_word s.phase ++ codes " out " ++ pairs_text s.out_pairs) ≡ true =
+    plain_joined (decimal s.node ++ codes " " ++ movement_word s.kind ++ codes " " ++ phase_word s.phase) (codes " out ") (pairs_text s.out_pairs) progress refl (plain_pairs s.out_pairs) in
+    other_line (codes "SEQ " ++ decimal s.node ++ codes " " ++ movement_word s.kind ++ codes " " ++ phase_word s.phase ++ codes " out " ++ pairs_text s.out_pairs ++ codes " in " ++ pairs_text s.in_pairs)
+    (plain_joined (decimal s.node ++ codes " " ++ movement_word s.kind ++ codes " " ++ phase_word s.phase ++ codes " out " ++ pairs_text s.out_pairs) (codes " in ") (pairs_text s.in_pairs) out refl (plain_pairs s.in_pairs))
     (λ e. omega arith) (λ e. omega arith)
 
 pub nodes_lines : (image : Image) → IsPlainImage image → AreLines IsOfNoQuorum (nodes_text image)
@@ -184,7 +185,7 @@ snapshot_lines : (session : SessionState) (name : List ℕ) (f : FollowerState) 
 snapshot_lines session name f e = by (nat_le e (length (commands_of session.log)))
   where
     by : (b : Bool) → AreLines IsOfNoQuorum (snapshot_to session name f (if b then Ok (state_after (commands_of session.log) e) else Err (no_epoch (commands_of session.log)))).text
-    by true = handed_lines (hand_image f (state_after (commands_of session.log) e)).answer
+    by true = handed_lines (hand_valid f (state_after (commands_of session.log) e)).answer
     by false = no_lines (no_epoch (commands_of session.log)) (epoch_plain (commands_of session.log))
 
 ask_lines : (session : SessionState) (max : ℕ) (f : FollowerState) → AreLines IsOfNoQuorum (ask_of session max f).text

@@ -8,7 +8,7 @@ use Rattle.script_session.specs.Lines.{open_line}
 use Rattle.script_session.specs.Machine.{SessionState, answers, reply, session_next}
 use Rattle.session_laws.specs.Shown.{BeginsWithWord, IsOfNoQuorum, IsShownLine, LinesAreShown, Shown, and_shown, shown, shown_by, shown_text}
 use Rattle.session_laws.proofs.quorums.AnswerLines.{other_lines, shown_lines}
-use Rattle.script_session.proofs.SessionLemmas.{IsSession, after_reply}
+use Rattle.script_session.proofs.steps.SessionLemmas.{IsSession, after_reply}
 use Rattle.session_laws.proofs.quorums.ShownAnswers.{texts}
 use Rattle.session_laws.proofs.texts.WholeLines.{AreLines, AreLines-append, AreLines-front, AreLines-nil, AreLines-weaker}
 

@@ -20,7 +20,7 @@ use Rattle.catch_up.specs.Replies.{catch_up_reply}
 use Rattle.catch_up.specs.declared.message.Reply.{Reply as CatchUpReply}
 use Rattle.catch_up_laws.specs.Given.{given_reply}
 use Rattle.epoch_log.specs.Epochs.{entry_at}
-use Rattle.follower_log.specs.Follower.{FollowerState, hand_entry, hand_image}
+use Rattle.follower_log.specs.Follower.{FollowerState, hand_entry, hand_valid}
 use Rattle.follower_log.specs.Prefix.{IsImageOf}
 use Rattle.follower_log.specs.declared.fault.FollowerFault.{FollowerFault}
 use Rattle.follower_log.specs.declared.took.Took.{Took}
@@ -33,8 +33,8 @@ use Rattle.script_lang.specs.AnswerTexts.{epoch_text, no_text, nodes_text, ok_te
 use Rattle.script_lang.specs.declared.script_line.ScriptLine.{ScriptLine}
 use Rattle.script_lang.specs.declared.script_line.Target.{Target}
 use Rattle.script_lang.specs.declared.script_line.ScriptLine.TheVariants.{Commit, Follower, Deliver, Snapshot, Ask, Give, Place, Nodes, Quorum, Local}
-use Rattle.script_session.proofs.SessionLemmas.{IsSession, image_of_target}
-use Rattle.script_session.proofs.TakenLemmas.{follower_cases}
+use Rattle.script_session.proofs.steps.SessionLemmas.{IsSession, image_of_target}
+use Rattle.script_session.proofs.followers.TakenLemmas.{follower_cases}
 
 -- what an image shows of some sets
 abbrev pub shown_as : Image → List ℕ → Option (List ℕ) → ℤ → Sets → Shown
@@ -204,7 +204,7 @@ deliver_others session name f (Some entry) = handed_others (hand_entry f entry).
 
 snapshot_others : (session : SessionState) (name : List ℕ) (f : FollowerState) (r : Result Image (List ℕ)) → IsOfNoQuorum (snapshot_to session name f r).text
 snapshot_others session name f (Err reason) = no_answer reason
-snapshot_others session name f (Ok image) = handed_others (hand_image f image).answer
+snapshot_others session name f (Ok image) = handed_others (hand_valid f image).answer
 
 ask_others : (session : SessionState) (max : ℕ) (f : FollowerState) → IsOfNoQuorum (ask_of session max f).text
 ask_others session max f = by (nat_le most_replies (length session.replies))

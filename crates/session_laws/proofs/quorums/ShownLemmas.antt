@@ -20,7 +20,7 @@ use Rattle.transformations.specs.declared.keyspace.KeyspaceRow.{KeyspaceRow}
 use Rattle.placement_maps.specs.Served.{keyspace_of}
 use Rattle.script_lang.proofs.SaidLemmas.{IsFormed, formed_replication, said_by}
 use Rattle.script_lang.specs.Grammar.{line_of}
-use Rattle.script_session.proofs.SessionLemmas.{GoesOnAs, IsFormedHistory, IsSession, after_lines, after_reply}
+use Rattle.script_session.proofs.steps.SessionLemmas.{GoesOnAs, IsFormedHistory, IsSession, after_lines, after_reply}
 use Rattle.session_laws.proofs.quorums.NamedKeyspaces.{contained_found, found_named}
 use Rattle.session_laws.proofs.quorums.ShownAnswers.{IsShownIn, found_sets, is_shown}
 use Rattle.script_session.specs.Machine.{SessionState, session_after, session_next}

@@ -9,6 +9,7 @@ use Rattle.cluster_terms.specs.Name.{is_name, is_name_byte}
 use Rattle.cluster_terms.specs.declared.token.Pair.{Pair}
 use Rattle.cluster_terms.specs.declared.token.RightEnd.{RightEnd}
 use Rattle.cluster_terms.specs.declared.token.RightEnd.TheVariants.{At, Max}
+use Rattle.transformations.specs.Words.{movement_word, phase_word}
 use Rattle.transformations.specs.declared.refusal.Refusal.{Refusal}
 use Rattle.transformations.specs.declared.refusal.Refusal.TheVariants.{NameTaken, NodesFull, NoNode, WrongState, InSequence, NoSequence, WrongStep, TokenTaken, NoTokens, TokensFull, NotOneToken, OtherRack, NotIdle, NoKeyspace, KeyspacesFull, TooFewNodes, Locked, IdReused, EpochsFull, KeyspaceLocked}
 use Rattle.transformations.specs.declared.sequence.Kind.{Kind}
@@ -17,7 +18,7 @@ use Rattle.transformations.specs.declared.sequence.Phase.{Phase}
 use Rattle.transformations.specs.declared.sequence.Phase.TheVariants as phase
 use Rattle.transformations.specs.declared.state.NodeState.{NodeState}
 use Rattle.transformations.specs.declared.state.NodeState.TheVariants as state
-use Rattle.script_lang.specs.AnswerTexts.{kind_text, left_text, list_text, listed, pair_text, pairs_text, phase_text, refusal_text, right_text, state_text, tokens_text}
+use Rattle.script_lang.specs.AnswerTexts.{left_text, list_text, listed, pair_text, pairs_text, refusal_text, right_text, state_text, tokens_text}
 use Rattle.script_session.specs.Lines.{HasNoFeed}
 
 -- whether no byte is a line feed
@@ -126,13 +127,13 @@ plain_state state.BootReplacing = refl
 plain_state state.Joined = refl
 plain_state state.Registered = refl
 
-pub plain_kind : (k : Kind) → is_plain (kind_text k) ≡ true
+pub plain_kind : (k : Kind) → is_plain (movement_word k) ≡ true
 plain_kind kind.Join = refl
 plain_kind kind.Move = refl
 plain_kind kind.Leave = refl
 plain_kind kind.Replace = refl
 
-pub plain_phase : (p : Phase) → is_plain (phase_text p) ≡ true
+pub plain_phase : (p : Phase) → is_plain (phase_word p) ≡ true
 plain_phase phase.Prepared = refl
 plain_phase phase.Started = refl
 plain_phase phase.Mid = refl
@@ -161,7 +162,7 @@ plain_refusal NoNode names = refl
 plain_refusal (WrongState s) names = plain_state s
 plain_refusal (InSequence n) names = plain_decimal n
 plain_refusal NoSequence names = refl
-plain_refusal (WrongStep k p) names = plain_joined (kind_text k) (codes " ") (phase_text p) (plain_kind k) refl (plain_phase p)
+plain_refusal (WrongStep k p) names = plain_joined (movement_word k) (codes " ") (phase_word p) (plain_kind k) refl (plain_phase p)
 plain_refusal (TokenTaken t) names = plain_signed t
 plain_refusal NoTokens names = refl
 plain_refusal TokensFull names = refl

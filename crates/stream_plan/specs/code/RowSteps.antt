@@ -20,12 +20,13 @@ abbrev pub left_after : RightEnd → Option ℤ
 left_after (At t) = Some t
 left_after Max = None
 
--- the rows of one row of a placement map, and those of all rows from a left end on
+-- the rows of one row of a placement map, which begins at a left end
 abbrev pub rows_at : List Group → Bool → List DeltaRow → Option ℤ → PlacementRow → List StreamRow
 rows_at gs is_read delta left row =
     let change = delta_at delta (last_token row.right) in
     rows_in gs (record { left = left; right = row.right }) (placed_first is_read row.reads change.0 change.1) change.0 change.1
 
+-- the rows of all rows of a placement map from a left end on
 abbrev pub rows_by : List Group → Bool → List DeltaRow → Option ℤ → List PlacementRow → List StreamRow
 rows_by gs is_read delta left [] = []
 rows_by gs is_read delta left (row ∷ rows) = rows_at gs is_read delta left row ++ rows_by gs is_read delta (left_after row.right) rows

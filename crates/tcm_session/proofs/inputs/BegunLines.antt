@@ -10,7 +10,7 @@ use Rattle.script_lang.specs.declared.script_line.ScriptLine.{ScriptLine}
 use Rattle.script_session.specs.Lines.{HasNoFeed, if_any, open_line, whole_lines}
 use Rattle.script_session.specs.Machine.{SessionState, answers, entries_added, reply, reply_to, session_after}
 use Rattle.tcm_session.specs.code.Runs.{IsBegun, kept_of, most_kept}
-use Rattle.script_session.proofs.AnswersLemmas.{answers-same, entries_added-same, session_after-same}
+use Rattle.script_session.proofs.answers.AnswersLemmas.{answers-same, entries_added-same, session_after-same}
 use Rattle.session_laws.proofs.LinesLemmas.{HasNoFeed-append, open_line-line, open_line-none, whole_lines-line, whole_lines-none}
 
 -- ---- what is kept

@@ -9,8 +9,8 @@ use Rattle.script_session.specs.LogFiles.{Gains, entry_lines}
 use Rattle.script_session.specs.Machine.{Reply, answers, entries_added, replied, reply, session_after}
 use Rattle.tcm_session.specs.code.Runs.{IsBegun, Standing, Takes, kept_of, lines_ended}
 use Rattle.tcm_session.specs.code.Stops.{Stopped}
-use Rattle.script_session.proofs.AnswersLemmas.{answers-append, entries_added-append, session_after-append}
-use Rattle.script_session.proofs.GainLemmas.{Gains-append, Gains-nil}
+use Rattle.script_session.proofs.answers.AnswersLemmas.{answers-append, entries_added-append, session_after-append}
+use Rattle.script_session.proofs.steps.GainLemmas.{Gains-append, Gains-nil}
 use Rattle.tcm_session.proofs.inputs.BegunLines.{IsBegun-nil, one_begun, one_line, reply-kept}
 use Rattle.session_laws.proofs.LinesLemmas.{HasNoFeed-append, open_line-none, whole_lines-none}
 use Rattle.tcm_session.proofs.runs.StopLemmas.{Adds-of_gains, Stopped-after, Stopped-none, StopsIn-lines, StopsIn-next, StopsIn-none, StopsIn-then, entry_lines-append}

@@ -15,8 +15,8 @@ use Rattle.tcm_session.specs.code.Stops.{Stopped, StopsThere}
 use Rattle.tcm_session.specs.declared.run_fault.RunFault.{RunFault}
 use Rattle.tcm_session.specs.declared.run_fault.RunFault.TheVariants as fault
 use Rattle.tcm_session.specs.declared.scripts.pieces.ReadEnd.TheVariants as end
-use Rattle.script_session.proofs.AnswersLemmas.{answers-append, entries_added-append, session_after-append}
-use Rattle.script_session.proofs.GainLemmas.{Gains-append, Gains-nil}
+use Rattle.script_session.proofs.answers.AnswersLemmas.{answers-append, entries_added-append, session_after-append}
+use Rattle.script_session.proofs.steps.GainLemmas.{Gains-append, Gains-nil}
 use Rattle.tcm_session.proofs.inputs.BegunLines.{IsBegun-kept, answers-kept, lines-carried, entries_added-kept, kept_of-short, session_after-kept, open_line-kept}
 use Rattle.tcm_session.proofs.runs.RunCauses.{not_source}
 use Rattle.tcm_session.proofs.runs.StopLemmas.{Adds-of_gains, Stopped-after, Stopped-map, Stopped-none, StopsIn-none, StopsThere-lines, StopsThere-same, StopsThere-session, StopsThere-then, entry_lines-append}

@@ -22,7 +22,7 @@ use Rattle.script_session.specs.declared.refused_line.Cause.{Cause}
 use Rattle.script_session.specs.declared.refused_line.Cause.TheVariants as cause
 use Rattle.tcm_session.specs.Outcome.{Outcome}
 use Rattle.tcm_session.specs.SentAgain.{AreAccepted, GoesOn, file_after, log_at}
-use Rattle.script_session.proofs.AnswersLemmas.{entries_added-append}
+use Rattle.script_session.proofs.answers.AnswersLemmas.{entries_added-append}
 use Rattle.session_laws.proofs.FileLogs.{session_for}
 use Rattle.tcm_session.proofs.inputs.BegunLines.{HasNoFeed-take}
 use Rattle.session_laws.proofs.LinesLemmas.{HasNoFeed-lines, whole_lines-none}
@@ -170,7 +170,7 @@ next_part s (bytes ∷ rest) part starts = by (reply s bytes).added (fit_reply s
 goes_on_from : (cluster file : List ℕ) (log : List Entry) → IsTrue (is_name cluster) → log_for (Some cluster) file ≡ Ok log → (lines : List (List ℕ)) (last printed added : List ℕ) → StopsIn (session_over log) lines last printed added
     → GoesOn cluster log lines file (base_of cluster file ++ added)
 goes_on_from cluster file log named is lines last printed added s =
-    subst (λ t. GoesOn cluster log lines file (base_of cluster file ++ t)) (sym s.adds) (by s.rest s.split (next_part (session_after (session_over log) s.done) s.rest s.part s.next.of_entry))
+    subst (λ t. GoesOn cluster log lines file (base_of cluster file ++ t)) (sym s.adds) (by s.rest s.split (next_part (session_after (session_over log) s.done) s.rest s.entry_part s.next.of_entry))
   where
     es : List Entry
     es = entries_added (session_over log) s.done
@@ -178,12 +178,12 @@ goes_on_from cluster file log named is lines last printed added s =
     here : SessionState
     here = session_after (session_over log) s.done
 
-    by : (rest : List (List ℕ)) → lines ≡ s.done ++ rest → HasNoFeed s.part ⊎ (s.part ≡ next_added here rest) → GoesOn cluster log lines file (base_of cluster file ++ (entry_lines es ++ s.part))
-    by rest split (inl plain) = goes_on_at cluster file log named is lines s.done rest s.part split plain
-    by [] split (inr all) = goes_on_at cluster file log named is lines s.done [] s.part split (subst HasNoFeed (sym all) tt)
+    by : (rest : List (List ℕ)) → lines ≡ s.done ++ rest → HasNoFeed s.entry_part ⊎ (s.entry_part ≡ next_added here rest) → GoesOn cluster log lines file (base_of cluster file ++ (entry_lines es ++ s.entry_part))
+    by rest split (inl plain) = goes_on_at cluster file log named is lines s.done rest s.entry_part split plain
+    by [] split (inr all) = goes_on_at cluster file log named is lines s.done [] s.entry_part split (subst HasNoFeed (sym all) tt)
     by (bytes ∷ rest) split (inr all) =
         let added' = (reply here bytes).added in
-        let grown : entry_lines es ++ s.part ≡ entry_lines (entries_added (session_over log) (s.done ++ bytes ∷ [])) ++ [] =
+        let grown : entry_lines es ++ s.entry_part ≡ entry_lines (entries_added (session_over log) (s.done ++ bytes ∷ [])) ++ [] =
         ap (λ t. entry_lines es ++ t) all ∙ sym (entry_lines-append es added') ∙ ap (λ t. entry_lines (es ++ t)) (sym (append-nil added'))
         ∙ ap entry_lines (sym (entries_added-append (session_over log) s.done (bytes ∷ []))) ∙ sym (append-nil _) in
         subst (λ t. GoesOn cluster log lines file (base_of cluster file ++ t)) (sym grown)

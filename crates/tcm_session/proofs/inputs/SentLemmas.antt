@@ -24,7 +24,7 @@ use Rattle.script_session.specs.Machine.{Reply, SessionState, asked_reply, commi
 use Rattle.tcm_session.specs.SentAgain.{AreAccepted, ComesToSame, IsAccepted, answer_of_commit, commit_answers, log_at}
 use Rattle.script_session.specs.declared.session.followers.NamedFollower.{NamedFollower}
 use Rattle.session_laws.proofs.AskedReplies.{log_grows}
-use Rattle.script_session.proofs.TakenLemmas.{follower_cases}
+use Rattle.script_session.proofs.followers.TakenLemmas.{follower_cases}
 
 -- ---- an entry that is in the log
 

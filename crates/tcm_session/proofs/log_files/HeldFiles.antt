@@ -9,7 +9,7 @@ use Rattle.tcm_edges.specs.declared.store.Loaded.TheVariants as loaded
 use Rattle.tcm_edges.proofs.FileLemmas.{file_of-put}
 use Rattle.tcm_session.specs.code.Loading.{HoldsFile, IsWritten}
 use Rattle.tcm_session.specs.code.Runs.{MayHold}
-use Rattle.script_session.proofs.GainLemmas.{changed_is}
+use Rattle.script_session.proofs.steps.GainLemmas.{changed_is}
 
 -- ---- a file that is written
 

@@ -33,7 +33,7 @@ use Rattle.session_laws.proofs.texts.PlainEntries.{plain_data}
 use Rattle.session_laws.proofs.texts.PlainTexts.{HasNoFeed-plain}
 use Rattle.session_laws.proofs.texts.SaidValues.{FitsEntry, fits_by}
 use Rattle.tcm_session.proofs.inputs.SentLemmas.{none_added}
-use Rattle.script_session.proofs.SessionLemmas.{IsSession, after_reply}
+use Rattle.script_session.proofs.steps.SessionLemmas.{IsSession, after_reply}
 
 -- ---- the next entry of a log
 
@@ -94,6 +94,20 @@ fit_said s (Some (Local target name dc t)) right fits = tt
 pub fit_reply : (s : SessionState) (bytes : List ℕ) → FitAdded s.log (reply s bytes).added
 unfolding reply
 fit_reply s bytes = fit_said s (line_of bytes) (in_range_by bytes) (fits_by bytes)
+
+-- ---- the entries of a log stay such
+
+all_with_one : (log : List Entry) (entry : Entry) → AllByRecursion IsEntry log → IsEntry entry → AllByRecursion IsEntry (log ++ entry ∷ [])
+all_with_one [] entry all is = (is, tt)
+all_with_one (first ∷ log) entry all is = (all.0, all_with_one log entry all.1 is)
+
+all_with_added : (log added : List Entry) → FitAdded log added → AllByRecursion IsEntry log → AllByRecursion IsEntry (log ++ added)
+all_with_added log [] fit all = subst (AllByRecursion IsEntry) (sym (append-nil log)) all
+all_with_added log (entry ∷ more) fit all = subst (λ m. AllByRecursion IsEntry (log ++ entry ∷ m)) (sym fit.1) (all_with_one log entry all fit.0.entry_is)
+
+pub entries_stay : (s : SessionState) (lines : List (List ℕ)) → AllByRecursion IsEntry s.log → AllByRecursion IsEntry (session_after s lines).log
+entries_stay s [] all = all
+entries_stay s (bytes ∷ lines) all = entries_stay (session_next s bytes) lines (all_with_added s.log (reply s bytes).added (fit_reply s bytes) all)
 
 -- ---- its line
 

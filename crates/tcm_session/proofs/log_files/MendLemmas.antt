@@ -1,8 +1,8 @@
 -- The log file that is made: its lines, and what the store holds once it is made.
-use Rattle.std.proofs.Common.{◌≡◌, inl, inr, ℕ, ◌+◌, ◌<◌, List, [], ◌∷◌, ◌++◌, length, take, Option, None, Some, option_map, IfSome, Result, Ok, Err, IfOk, OnErr, refl, sym, ap, ◌∙◌, subst}
+use Rattle.std.proofs.Common.{◌≡◌, inl, inr, ℕ, ◌+◌, ◌<◌, List, [], ◌∷◌, ◌++◌, length, take, Option, None, Some, option_map, IfSome, Result, Ok, Err, IfOk, refl, sym, ap, ◌∙◌, subst}
 use Rattle.std.proofs.lemmas.List.{flat_map_more, take_more}
 use Rattle.std.proofs.lemmas.Option.{get_or_from_slice_get}
-use Rattle.tcm_edges.specs.Files.{Files, IsLoad, IsOldOrNew, file_of, loaded_of}
+use Rattle.tcm_edges.specs.Files.{Files, IsLoad, IsOldOrNew, file_of}
 use Rattle.tcm_edges.proofs.FileLemmas.{file_of-put, file_of-put_other}
 use Rattle.tcm_edges.specs.declared.store.Loaded.{Loaded}
 use Rattle.tcm_edges.specs.declared.store.Loaded.TheVariants as loaded
@@ -73,16 +73,6 @@ makes_none_by new by ending files files' found told is same =
 pub makes_none : (new : List ℕ) (by : Option (List ℕ) → Mending) (ending end : Ending) (files files' : Option Files) → ending ≡ end → ((found : Option (List ℕ)) → by found ≡ makes_nothing end) → files' ≡ files → Makes new by ending files files'
 makes_none new by ending end files files' ends is same =
     makes_none_by new by ending files files' (found_in files new) (found_told files new) (is (found_in files new) ∙ ap makes_nothing (sym ends)) same
-
--- a file is there
-pub file_found : (new cluster : List ℕ) (log : List Entry) (ending end : Ending) (files files' : Option Files) (limit : ℕ) (it : Loaded) → IsLoad files new limit it → (it ≡ loaded.Absent → ⊥) → ending ≡ end → ((file : List ℕ) → mending_to new cluster log (Some file) ≡ makes_nothing end)
-    → files' ≡ files → Makes new (mending_to new cluster log) ending files files'
-file_found new cluster log ending end files files' limit it load some ends is same =
-    makes_none_by new (mending_to new cluster log) ending files files' load.file load.told (by load.file load.answer) same
-  where
-    by : (file : Option (List ℕ)) → it ≡ loaded_of file limit → mending_to new cluster log file ≡ makes_nothing ending
-    by None answer = absurd (some answer)
-    by (Some file) answer = is file ∙ ap makes_nothing (sym ends)
 
 -- ---- where no file is there
 
@@ -170,10 +160,6 @@ module _ (old new cluster : List ℕ) (files mid files' : Option Files) (it : Lo
   pub mends_by : (r : Result Ending RunFault) → IfOk r (λ ending. Makes new (mending_loaded old new cluster it) ending mid files') → IfOk r (λ ending. Mends old new cluster ending files files')
   mends_by (Ok ending) m = mends ending m
   mends_by (Err e) m = tt
-
-  pub stops_by : (r : Result Ending RunFault) → OnErr r (StopsMaking new (mending_loaded old new cluster it) mid files') → OnErr r (StopsMending old new cluster files files')
-  stops_by (Ok ending) m = tt
-  stops_by (Err e) m = stops m
 
 -- a fault came before the file was loaded
 pub stops_loading : (old new cluster : List ℕ) (files files' : Option Files) → files' ≡ files → StopsMending old new cluster files files'

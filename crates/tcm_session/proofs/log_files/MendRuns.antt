@@ -8,7 +8,7 @@ use Rattle.transformations.specs.declared.entry.Entry.{Entry}
 use Rattle.script_session.specs.LogFiles.{old_log_of}
 use Rattle.script_session.specs.declared.refused_line.RefusedLine.{RefusedLine}
 use Rattle.tcm_session.specs.Counts.{Counts}
-use Rattle.tcm_session.specs.Left.{LeavesFiles, LeavesNew}
+use Rattle.tcm_session.specs.Left.{LeavesFiles}
 use Rattle.tcm_session.specs.Limits.{input_limit}
 use Rattle.tcm_session.specs.Mend.{Mending, made_outcome, mend_outcome, mending, mending_from, mending_loaded, mending_to, with_made}
 use Rattle.tcm_session.specs.Outcome.{Outcome, ended_outcome}
@@ -43,16 +43,17 @@ mending_ends old new cluster seen = by (loaded_of (file_of (seen 0) old) input_l
 
 -- ---- what it leaves
 
-left_new : (old new cluster : List ℕ) (m : Mending) (all : Files) (files files' : Option Files) (printed : List ℕ) (ended : ℕ) → LeavesMade new m files files' → LeavesFiles (Some (Mend old new cluster)) files files' (made_outcome new m all) printed ended
-left_new old new cluster m all None files' printed ended left = (tt, tt)
-left_new old new cluster m all (Some x) None printed ended left = absurd left.0
-left_new old new cluster m all (Some x) (Some y) printed ended left = (by left.0, left.1)
+left_new : (old new cluster : List ℕ) (m : Mending) (all : Files) (files files' : Option Files) (printed : List ℕ) (ended : ℕ) → LeavesMade new m files files' → (printed ≢ [] → MayHold files' (with_made new m.made all))
+    → LeavesFiles (Some (Mend old new cluster)) files files' (made_outcome new m all) printed ended
+left_new old new cluster m all None files' printed ended left held = (tt, tt)
+left_new old new cluster m all (Some x) None printed ended left held = absurd left.0
+left_new old new cluster m all (Some x) (Some y) printed ended left held = (record { whole = by left.0; order = λ some. ap (λ f. file_of f new) (held some) }, left.1)
   where
     made : (o : Option (List ℕ)) → file_of x new ≡ None → file_of y new ≡ o → (file_of y new ≡ file_of x new) ⊎ ((file_of x new ≡ None) × (file_of y new ≡ file_of (with_made new o all) new))
     made None absent is = inl (is ∙ sym absent)
     made (Some bytes) absent is = inr (absent, is ∙ sym (file_of-put all new bytes))
 
-    by : IsKeptOrMade m.made (file_of x new) (file_of y new) → LeavesNew new (made_outcome new m all) (file_of x new) (file_of y new)
+    by : IsKeptOrMade m.made (file_of x new) (file_of y new) → (file_of y new ≡ file_of x new) ⊎ ((file_of x new ≡ None) × (file_of y new ≡ file_of (with_made new m.made all) new))
     by (inl same) = inl same
     by (inr is) = made m.made is.0 is.1
 
@@ -72,7 +73,7 @@ module _ (old new cluster : List ℕ) (files files' : Option Files) where
         held = stops.held;
         runs = runs_err (λ _. mend_outcome old new cluster stops.seen) (LeavesFiles (Some (Mend old new cluster)) files files') left input input w w files' r e is
             (runs_early (LeavesFiles (Some (Mend old new cluster)) files files') left input w (λ _. mend_outcome old new cluster stops.seen) files' e other
-            (λ given ended. left_new old new cluster (mending old new cluster stops.seen) (stops.seen 0) files files' [] ended stops.left));
+            (λ given ended. left_new old new cluster (mending old new cluster stops.seen) (stops.seen 0) files files' [] ended stops.left (λ some. absurd (some refl))));
       }
 
   module _ (ending : Ending) (m : Mends old new cluster ending files files') (r : Result Status RunFault) (status : IfOk r (λ s. s.0 ≡ ending.status)) where
@@ -99,5 +100,5 @@ module _ (old new cluster : List ℕ) (files files' : Option Files) where
           held = m.held;
           runs = subst (λ (o : Outcome). RunsFor (λ _. o) (LeavesFiles (Some (Mend old new cluster)) files files') left input input w w' files' (status_by r)) same
               (runs_unread ending.status ending.text all (LeavesFiles (Some (Mend old new cluster)) files files') left input w w' files' before after none none' r final (held_made new made.made files files' m.seen m.held m.made) writes status
-              (λ printed ended. subst (λ (o : Outcome). LeavesFiles (Some (Mend old new cluster)) files files' o printed ended) (sym same) (left_new old new cluster made (m.seen 0) files files' printed ended m.left)));
+              (λ printed ended. subst (λ (o : Outcome). LeavesFiles (Some (Mend old new cluster)) files files' o printed ended) (sym same) (left_new old new cluster made (m.seen 0) files files' printed ended m.left (λ some. held_made new made.made files files' m.seen m.held m.made))));
         }

@@ -23,7 +23,7 @@ use Rattle.wire_json.specs.declared.line.Line.{Line}
 use Rattle.wire_json.specs.declared.line.ReadLineFault.{ReadLineFault}
 use Rattle.wire_json.specs.declared.line.ReadLineFault.TheVariants as read
 use Rattle.session_laws.proofs.LinesLemmas.{whole_lines-line, whole_lines-none}
-use Rattle.script_session.proofs.StepEndLemmas.{read_bad, read_there, unread}
+use Rattle.script_session.proofs.steps.StepEndLemmas.{read_bad, read_there, unread}
 
 -- ---- a line
 

@@ -10,9 +10,9 @@ use Rattle.tcm_edges.specs.declared.store.Loaded.{Loaded}
 use Rattle.tcm_edges.specs.declared.store.Loaded.TheVariants as loaded
 use Rattle.transformations.specs.Log.{IsLog}
 use Rattle.transformations.specs.declared.entry.Entry.{Entry}
-use Rattle.follower_log.proofs.ShowsLemmas.{empty_stands, prefix_ends}
-use Rattle.follower_log.specs.Follower.{FollowerState, hand_entry, hand_image}
-use Rattle.follower_log.specs.Prefix.{Taken}
+use Rattle.follower_log.proofs.ShowsLemmas.{as_valid, empty_stands, prefix_ends}
+use Rattle.follower_log.specs.Follower.{FollowerState, Handed, hand_entry, hand_image}
+use Rattle.follower_log.specs.Prefix.{Taken, with_image}
 use Rattle.follower_log.specs.declared.fault.FollowerFault.{FollowerFault}
 use Rattle.follower_log.specs.declared.took.Took.{Took}
 use Rattle.wire_json.specs.Reading.{reading}
@@ -24,13 +24,13 @@ use Rattle.script_session.specs.Lines.{whole_lines}
 use Rattle.script_session.specs.LogFiles.{goes_on, other_cluster}
 use Rattle.tcm_session.specs.files.Replay.{answered, files_replayed, headed, header_replayed, line_replayed, lines_replayed, loaded_replayed, nothing_replayed, read_replayed, then_replayed, unless_ended}
 use Rattle.tcm_session.specs.files.ReplayPrefix.{AreFilesOf, AreHeaded, AreHeadedFiles, AreLinesOf, IsNoHeader, MayHead, ReadsAsPart, Taking, entry_taken, files_taken, image_taken, lines_taken, loaded_lines, nothing_yet, read_taken, taken_of_files}
-use Rattle.script_session.specs.Taken.{ShowsPrefix}
+use Rattle.script_session.specs.Taken.{ShowsPrefix, unless_full}
 use Rattle.tcm_session.specs.declared.ending.Ending.{Ending}
 use Rattle.script_session.specs.declared.refused_line.Cause.{Cause}
 use Rattle.script_session.specs.declared.refused_line.Cause.TheVariants as cause
 use Rattle.script_session.specs.declared.refused_line.RefusedLine.{RefusedLine}
 use Rattle.tcm_session.specs.declared.files.replay.Replay.{Replay}
-use Rattle.script_session.proofs.TakenLemmas.{entry_ok, entry_shown, image_ok, image_shown}
+use Rattle.script_session.proofs.followers.TakenLemmas.{entry_ok, entry_shown, image_ok, image_shown}
 
 -- files of a log, of which `Headed` may say that headers stand only on first lines and name one cluster
 module _ (log : List Entry) (is : IsLog log) (cluster : List ℕ) (Headed : Type 0) where
@@ -93,7 +93,8 @@ module _ (log : List Entry) (is : IsLog log) (cluster : List ℕ) (Headed : Type
       by (Ok (line.Snapshot image)) of placed =
           subst (λ (f : FollowerState). ShowsNext (image_taken so_far image) (answered replay (hand_image f image).after (hand_image f image).answer)) (sym showing.same)
           (shows_answered replay (image_taken so_far image).taken (hand_image so_far.follower image).answer (hand_image so_far.follower image).after
-          (image_ok log so_far.taken so_far.follower image is of showing.shows.stands) (image_shown log so_far.taken so_far.follower image is of showing.shows) showing.named)
+          (subst (λ (h : Handed). IsOk h.answer) (sym (as_valid log so_far.follower image is of)) (image_ok log so_far.taken so_far.follower image is of showing.shows.stands))
+          (subst (λ (h : Handed). ShowsPrefix log (unless_full h.answer so_far.taken (with_image so_far.taken image.epoch)) h.after) (sym (as_valid log so_far.follower image is of)) (image_shown log so_far.taken so_far.follower image is of showing.shows)) showing.named)
       by (Ok (line.Entry entry)) of placed =
           subst (λ (f : FollowerState). ShowsNext (entry_taken so_far entry) (answered replay (hand_entry f entry).after (hand_entry f entry).answer)) (sym showing.same)
           (shows_answered replay (entry_taken so_far entry).taken (hand_entry so_far.follower entry).answer (hand_entry so_far.follower entry).after

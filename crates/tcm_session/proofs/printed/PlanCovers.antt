@@ -5,7 +5,7 @@ use Rattle.transformation_laws.proofs.histories.HistoryMeetings.{replications_at
 use Rattle.transformations.specs.Log.{commands_of}
 use Rattle.transformations.specs.declared.entry.Entry.{Entry}
 use Rattle.transformations.specs.declared.image.Image.{Image}
-use Rattle.stream_plan.proofs.StreamedLemmas.{AreStreamed, any_streamed}
+use Rattle.stream_plan.proofs.coverage.StreamedLemmas.{AreStreamed, any_streamed}
 use Rattle.stream_plan.specs.Readable.{KeepReadable}
 use Rattle.stream_plan.specs.Streams.{CoverGains, OfMovement, streams}
 use Rattle.stream_plan.specs.declared.stream_row.StreamRow.{StreamRow}

@@ -22,7 +22,7 @@ use Rattle.session_laws.specs.Shown.{IsOfNoQuorum, PrintsMeeting, shown}
 use Rattle.script_session.specs.declared.refused_line.RefusedLine.{RefusedLine}
 use Rattle.session_laws.proofs.quorums.AnswerLines.{other_line}
 use Rattle.session_laws.proofs.FileLogs.{old_refused_lines, refused_lines, session_for}
-use Rattle.script_session.proofs.SessionLemmas.{IsSession, session_empty}
+use Rattle.script_session.proofs.steps.SessionLemmas.{IsSession, session_empty}
 use Rattle.tcm_session.specs.files.MemberRoute.{IsSafeRoute, route_ending}
 use Rattle.tcm_session.specs.files.Replay.{replay_ending}
 use Rattle.tcm_session.specs.files.StateLine.{snapshot_ending}

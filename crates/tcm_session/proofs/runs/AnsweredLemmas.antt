@@ -6,7 +6,9 @@ use Rattle.std.proofs.Transfers.{starts_with_length, starts_with_of_append, star
 use Rattle.std.proofs.lemmas.List.{append_cancel_left}
 use Rattle.script_session.specs.LogFiles.{entry_lines}
 use Rattle.script_session.specs.Machine.{SessionState, answers, entries_added, replied, reply, session_after}
-use Rattle.script_session.proofs.AnswersLemmas.{answers-append}
+use Rattle.script_session.proofs.answers.AnswersLemmas.{answers-append}
+use Rattle.script_session.proofs.steps.SessionLemmas.{IsSession, after_lines}
+use Rattle.session_laws.proofs.AnsweredLines.{line_answered}
 use Rattle.tcm_session.specs.Left.{HoldsAnswered, StopsIn, StopsNext, next_added, next_text}
 use Rattle.tcm_session.proofs.runs.StopLemmas.{entry_lines-append, starts-after}
 
@@ -73,8 +75,9 @@ module _ (last : List ℕ) where
       (subst (StartsWith (entry_lines added ++ (entry_lines (entries_added later done) ++ part))) (sym (entry_lines-append added all)) (starts-after (entry_lines added) _ _ it)) in
       subst (λ (x : List ℕ). StartsWith (entry_lines (added ++ entries_added later done) ++ part) (entry_lines ((reply session x).added ++ entries_added (replied session (reply session x)) (before ++ bytes ∷ [])))) same whole
 
-pub holds_answered : (session : SessionState) (lines : List (List ℕ)) (last printed added : List ℕ) → StopsIn session lines last printed added → HoldsAnswered session lines printed added
-holds_answered session lines last printed added s before bytes after split some starts =
+pub holds_answered : (session : SessionState) (lines : List (List ℕ)) (last printed added : List ℕ) → IsSession session → StopsIn session lines last printed added → HoldsAnswered session lines printed added
+holds_answered session lines last printed added is s before bytes after split starts =
+    let some : (reply (session_after session before) bytes).text ≢ [] = line_answered (session_after session before) bytes (after_lines session before is).is in
     subst (λ t. StartsWith t (entry_lines (entries_added session (before ++ bytes ∷ [])))) (sym s.adds)
-    (holds last session s.done s.rest before bytes after s.front s.part (sym s.split ∙ split) s.next some
+    (holds last session s.done s.rest before bytes after s.answer_part s.entry_part (sym s.split ∙ split) s.next some
     (subst (λ t. StartsWith t (answers session (before ++ bytes ∷ []))) s.prints starts))

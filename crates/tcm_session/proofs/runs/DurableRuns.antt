@@ -5,7 +5,7 @@ use Rattle.tcm_edges.specs.Files.{Files}
 use Rattle.durable_log.specs.Disk.{Changes, Passes}
 use Rattle.durable_log.specs.Images.{SameFiles, Shows, Stands, told_files}
 use Rattle.durable_log.specs.Records.{files}
-use Rattle.durable_log.proofs.Moments.{from_start}
+use Rattle.durable_log.proofs.disks.Moments.{from_start}
 use Rattle.tcm_session.specs.Counts.{Counts}
 use Rattle.tcm_session.specs.Left.{LeavesFiles}
 use Rattle.tcm_session.specs.Outcomes.{outcome}
@@ -46,7 +46,7 @@ unopened words left input w f f' same =
       seen = seen;
       held = seen_any f;
       runs = runs_early (LeavesFiles request f f') left input w (outcome request seen) f' fault.Store not_source
-          (λ given ended. files_same request f f' (outcome request seen given) [] ended same (λ _. refl));
+          (λ given ended. files_same request f f' (outcome request seen given) ended same);
     })
 
 -- ---- the images

@@ -17,25 +17,29 @@ use Rattle.tcm_session.proofs.runs.StopLemmas.{StopsIn-none}
 
 -- ---- before the first line
 
--- no file changed, and no line was done
-pub files_same : (request : Option Request) (files files' : Option Files) (o : Outcome) (printed : List ℕ) (ended : ℕ) → files' ≡ files → (o.reads ≡ true → printed ≡ []) → LeavesFiles request files files' o printed ended
-files_same None files files' o printed ended same none = same
-files_same (Some Commit) files files' o printed ended same none = same
-files_same (Some (Replay names)) files files' o printed ended same none = same
-files_same (Some (Snapshot log epoch)) files files' o printed ended same none = same
-files_same (Some (Gen start rounds)) files files' o printed ended same none = same
-files_same (Some (Plan log node keyspace)) files files' o printed ended same none = same
-files_same (Some (Cms log from to)) files files' o printed ended same none = same
-files_same (Some (CommitTo log cluster)) files files' o printed ended same none = subst (λ f. LeavesFiles (Some (CommitTo log cluster)) files f o printed ended) (sym same) (by files)
+-- the log file is as before, and no line was done
+pub log_same : (log cluster : List ℕ) (files files' : Option Files) (o : Outcome) (printed : List ℕ) (ended : ℕ) → files' ≡ files → (o.reads ≡ true → printed ≡ []) → LeavesFiles (Some (CommitTo log cluster)) files files' o printed ended
+log_same log cluster files files' o printed ended same none = subst (λ f. LeavesFiles (Some (CommitTo log cluster)) files f o printed ended) (sym same) (by files)
   where
     by : (files : Option Files) → LeavesFiles (Some (CommitTo log cluster)) files files o printed ended
     by None = (tt, tt)
     by (Some all) = (inl (refl, none), λ other apart. refl)
-files_same (Some (Mend old new cluster)) files files' o printed ended same none = subst (λ f. LeavesFiles (Some (Mend old new cluster)) files f o printed ended) (sym same) (by files)
+
+-- no file changed, and nothing was printed
+pub files_same : (request : Option Request) (files files' : Option Files) (o : Outcome) (ended : ℕ) → files' ≡ files → LeavesFiles request files files' o [] ended
+files_same None files files' o ended same = same
+files_same (Some Commit) files files' o ended same = same
+files_same (Some (Replay names)) files files' o ended same = same
+files_same (Some (Snapshot log epoch)) files files' o ended same = same
+files_same (Some (Gen start rounds)) files files' o ended same = same
+files_same (Some (Plan log node keyspace)) files files' o ended same = same
+files_same (Some (Cms log from to)) files files' o ended same = same
+files_same (Some (CommitTo log cluster)) files files' o ended same = log_same log cluster files files' o [] ended same (λ _. refl)
+files_same (Some (Mend old new cluster)) files files' o ended same = subst (λ f. LeavesFiles (Some (Mend old new cluster)) files f o [] ended) (sym same) (by files)
   where
-    by : (files : Option Files) → LeavesFiles (Some (Mend old new cluster)) files files o printed ended
+    by : (files : Option Files) → LeavesFiles (Some (Mend old new cluster)) files files o [] ended
     by None = (tt, tt)
-    by (Some all) = (inl refl, λ other apart. refl)
+    by (Some all) = (record { whole = inl refl; order = λ some. absurd (some refl) }, λ other apart. refl)
 
 -- from a log that was found good the input is read
 pub good_reads : (name cluster : List ℕ) (all : Files) (file input : List ℕ) (log : List Entry) → log_for (Some cluster) file ≡ Ok log → (outcome_in name cluster all file input).reads ≡ true

@@ -40,7 +40,7 @@ module _ {S : Type 0} (left : S → Option (List ℕ)) (input input' : S) (w w' 
         };
       }
 
-  prints_end : (ending : Ending) (all all' : Files) → ComesTo (record (ended_outcome ending all) { files = all' }) w w' f' status → PrintsEnd ending w w' status
+  abbrev prints_end : (ending : Ending) (all all' : Files) → ComesTo (record (ended_outcome ending all) { files = all' }) w w' f' status → PrintsEnd ending w w' status
   prints_end ending all all' comes =
       record { printed = comes.printed; wrote = comes.wrote; prefix = comes.prefix; status = comes.status; whole = comes.whole }
 

@@ -18,8 +18,8 @@ use Rattle.tcm_session.specs.declared.run_fault.RunFault.{RunFault}
 use Rattle.tcm_session.specs.declared.run_fault.RunFault.TheVariants as fault
 use Rattle.tcm_session.specs.declared.scripts.pieces.ReadEnd.{ReadEnd}
 use Rattle.tcm_session.specs.declared.scripts.pieces.ReadEnd.TheVariants as end
-use Rattle.script_session.proofs.AnswersLemmas.{answers-append, entries_added-append}
-use Rattle.script_session.proofs.GainLemmas.{with_added-append, with_added-nil}
+use Rattle.script_session.proofs.answers.AnswersLemmas.{answers-append, entries_added-append}
+use Rattle.script_session.proofs.steps.GainLemmas.{with_added-append, with_added-nil}
 use Rattle.tcm_session.proofs.inputs.BegunLines.{answers-any_kept, entries_added-any_kept}
 use Rattle.session_laws.proofs.LinesLemmas.{whole_lines-append}
 use Rattle.tcm_session.proofs.runs.StopLemmas.{Adds-of_gains, Stopped-after, Stopped-map, StopsIn-lines, StopsIn-more, StopsIn-next, StopsIn-session, StopsIn-then, all_done, entry_lines-append}
@@ -116,7 +116,7 @@ outcome_begins start front rest fits = by (leb (length (front ++ rest)) input_li
 -- a run stopped within the lines of an outcome; where P holds, no part of what is next is printed or added
 pub record StopsOn (P : Type 0) (o : Outcome) (printed added : List ℕ) : Type 0 where
   pub stops : StopsIn (session_over o.log) o.lines o.last printed added
-  pub none : P → (stops.front ≡ []) × (stops.part ≡ [])
+  pub none : P → (stops.answer_part ≡ []) × (stops.entry_part ≡ [])
 
 -- there is an input, within whose outcome a run stopped
 pub record Begins_outcome (P : Type 0) (start : Start) (l w w' : Option (List ℕ)) (f f' : Option Files) : Type 0 where

@@ -17,7 +17,7 @@ use Rattle.script_session.specs.StepEnds.{Leaves}
 use Rattle.tcm_session.specs.code.Stops.{Adds, GainsThese, Stopped, StopsThere}
 use Rattle.script_session.specs.declared.fault.StepFault.{StepFault}
 use Rattle.script_session.specs.declared.fault.StepFault.TheVariants as fault
-use Rattle.script_session.proofs.AnswersLemmas.{answers-append, answers-same, entries_added-append, entries_added-same, session_after-append, session_after-same}
+use Rattle.script_session.proofs.answers.AnswersLemmas.{answers-append, answers-same, entries_added-append, entries_added-same, session_after-append, session_after-same}
 
 pub entry_lines-append : (a b : List Entry) → entry_lines (a ++ b) ≡ entry_lines a ++ entry_lines b
 entry_lines-append a b = flat_map-append entry_line a b
@@ -161,9 +161,9 @@ module _ (session : SessionState) where
         done = [];
         rest = lines;
         split = refl;
-        front = [];
+        answer_part = [];
         prints = refl;
-        part = [];
+        entry_part = [];
         adds = refl;
         next = StopsNext-none (next_text session lines last) (next_added session lines);
       }
@@ -171,7 +171,7 @@ module _ (session : SessionState) where
   -- at the first of them, or at the last text
   pub StopsIn-next : (lines : List (List ℕ)) (last printed added : List ℕ) → StopsNext (next_text session lines last) (next_added session lines) printed added → StopsIn session lines last printed added
   StopsIn-next lines last printed added next =
-      record { done = []; rest = lines; split = refl; front = printed; prints = refl; part = added; adds = refl; next = next }
+      record { done = []; rest = lines; split = refl; answer_part = printed; prints = refl; entry_part = added; adds = refl; next = next }
 
   -- after some other lines
   abbrev pub StopsIn-then : (first lines : List (List ℕ)) (last printed added : List ℕ) → StopsIn (session_after session first) lines last printed added
@@ -182,20 +182,20 @@ module _ (session : SessionState) where
         done = first ++ s.done;
         rest = s.rest;
         split = ap (λ l. first ++ l) s.split ∙ sym (append_assoc first s.done s.rest);
-        front = s.front;
-        prints = ap (λ t. answers session first ++ t) s.prints ∙ sym (append_assoc (answers session first) (answers later s.done) s.front)
-            ∙ ap (λ t. t ++ s.front) (sym (answers-append session first s.done));
-        part = s.part;
+        answer_part = s.answer_part;
+        prints = ap (λ t. answers session first ++ t) s.prints ∙ sym (append_assoc (answers session first) (answers later s.done) s.answer_part)
+            ∙ ap (λ t. t ++ s.answer_part) (sym (answers-append session first s.done));
+        entry_part = s.entry_part;
         adds = ap (λ t. entry_lines (entries_added session first) ++ t) s.adds
-            ∙ sym (append_assoc (entry_lines (entries_added session first)) (entry_lines (entries_added later s.done)) s.part)
-            ∙ ap (λ t. t ++ s.part) (sym (entry_lines-append (entries_added session first) (entries_added later s.done)) ∙ ap entry_lines (sym (entries_added-append session first s.done)));
-        next = subst (λ at. StopsNext (next_text at s.rest last) (next_added at s.rest) s.front s.part) (sym (session_after-append session first s.done)) s.next;
+            ∙ sym (append_assoc (entry_lines (entries_added session first)) (entry_lines (entries_added later s.done)) s.entry_part)
+            ∙ ap (λ t. t ++ s.entry_part) (sym (entry_lines-append (entries_added session first) (entries_added later s.done)) ∙ ap entry_lines (sym (entries_added-append session first s.done)));
+        next = subst (λ at. StopsNext (next_text at s.rest last) (next_added at s.rest) s.answer_part s.entry_part) (sym (session_after-append session first s.done)) s.next;
       }
 
   -- the lines are given otherwise; or the session
   abbrev pub StopsIn-lines : (lines lines' : List (List ℕ)) (last printed added : List ℕ) → lines' ≡ lines → StopsIn session lines last printed added → StopsIn session lines' last printed added
   StopsIn-lines lines lines' last printed added same s =
-      record { done = s.done; rest = s.rest; split = same ∙ s.split; front = s.front; prints = s.prints; part = s.part; adds = s.adds; next = s.next }
+      record { done = s.done; rest = s.rest; split = same ∙ s.split; answer_part = s.answer_part; prints = s.prints; entry_part = s.entry_part; adds = s.adds; next = s.next }
 
   abbrev pub StopsIn-session : (session' : SessionState) (lines : List (List ℕ)) (last printed added : List ℕ) → session' ≡ session → StopsIn session lines last printed added → StopsIn session' lines last printed added
   StopsIn-session session' lines last printed added same s =
@@ -203,11 +203,11 @@ module _ (session : SessionState) where
         done = s.done;
         rest = s.rest;
         split = s.split;
-        front = s.front;
-        prints = s.prints ∙ ap (λ x. answers x s.done ++ s.front) (sym same);
-        part = s.part;
-        adds = s.adds ∙ ap (λ x. entry_lines (entries_added x s.done) ++ s.part) (sym same);
-        next = subst (λ x. StopsNext (next_text (session_after x s.done) s.rest last) (next_added (session_after x s.done) s.rest) s.front s.part) (sym same) s.next;
+        answer_part = s.answer_part;
+        prints = s.prints ∙ ap (λ x. answers x s.done ++ s.answer_part) (sym same);
+        entry_part = s.entry_part;
+        adds = s.adds ∙ ap (λ x. entry_lines (entries_added x s.done) ++ s.entry_part) (sym same);
+        next = subst (λ x. StopsNext (next_text (session_after x s.done) s.rest last) (next_added (session_after x s.done) s.rest) s.answer_part s.entry_part) (sym same) s.next;
       }
 
   -- all lines are done: all their answers are printed, and nothing more
@@ -216,16 +216,16 @@ module _ (session : SessionState) where
     pub front_is : front ≡ []
     pub part_is : part ≡ []
 
-  pub all_done : (lines : List (List ℕ)) (printed added : List ℕ) (s : StopsIn session lines [] printed added) → s.rest ≡ [] → IsAllDone lines printed s.front s.part
+  pub all_done : (lines : List (List ℕ)) (printed added : List ℕ) (s : StopsIn session lines [] printed added) → s.rest ≡ [] → IsAllDone lines printed s.answer_part s.entry_part
   all_done lines printed added s none =
       let at = session_after session s.done in
-      let next : StopsNext (next_text at [] []) (next_added at []) s.front s.part = subst (λ r. StopsNext (next_text at r []) (next_added at r) s.front s.part) none s.next in
-      let front : s.front ≡ [] = front_of_nothing s.front next.of_text in
+      let next : StopsNext (next_text at [] []) (next_added at []) s.answer_part s.entry_part = subst (λ r. StopsNext (next_text at r []) (next_added at r) s.answer_part s.entry_part) none s.next in
+      let front : s.answer_part ≡ [] = front_of_nothing s.answer_part next.of_text in
       let all : lines ≡ s.done = s.split ∙ ap (λ r. s.done ++ r) none ∙ append-nil s.done in
       record {
         printed_is = s.prints ∙ ap (λ t. answers session s.done ++ t) front ∙ append-nil (answers session s.done) ∙ ap (answers session) (sym all);
         front_is = front;
-        part_is = front_of_nothing s.part next.of_entry;
+        part_is = front_of_nothing s.entry_part next.of_entry;
       }
 
   -- more lines follow
@@ -247,19 +247,19 @@ StopsIn-more session lines more last printed added s =
       done = s.done;
       rest = s.rest ++ more;
       split = ap (λ l. l ++ more) s.split ∙ append_assoc s.done s.rest more;
-      front = s.front;
+      answer_part = s.answer_part;
       prints = s.prints;
-      part = s.part;
+      entry_part = s.entry_part;
       adds = s.adds;
-      next = more_next (session_after session s.done) s.rest more last s.front s.part s.next;
+      next = more_next (session_after session s.done) s.rest more last s.answer_part s.entry_part s.next;
     }
 
 -- what is printed begins all that these lines print
 pub stops_begin : (session : SessionState) (lines : List (List ℕ)) (last printed added : List ℕ) → StopsIn session lines last printed added → StartsWith (answers session lines ++ last) printed
 stops_begin session lines last printed added s =
     subst (StartsWith (answers session lines ++ last)) (sym s.prints)
-    (subst (λ t. StartsWith t (answers session s.done ++ s.front)) (sym whole)
-    (starts-after (answers session s.done) (answers later s.rest ++ last) s.front (by later s.rest s.next.of_text)))
+    (subst (λ t. StartsWith t (answers session s.done ++ s.answer_part)) (sym whole)
+    (starts-after (answers session s.done) (answers later s.rest ++ last) s.answer_part (by later s.rest s.next.of_text)))
   where
     later : SessionState
     later = session_after session s.done
@@ -267,12 +267,12 @@ stops_begin session lines last printed added s =
     whole : answers session lines ++ last ≡ answers session s.done ++ (answers later s.rest ++ last)
     whole = ap (λ l. answers session l ++ last) s.split ∙ ap (λ t. t ++ last) (answers-append session s.done s.rest) ∙ append_assoc (answers session s.done) (answers later s.rest) last
 
-    by : (at : SessionState) (rest : List (List ℕ)) → StartsWith (next_text at rest last) s.front → StartsWith (answers at rest ++ last) s.front
+    by : (at : SessionState) (rest : List (List ℕ)) → StartsWith (next_text at rest last) s.answer_part → StartsWith (answers at rest ++ last) s.answer_part
     by at [] starts = starts
     by at (bytes ∷ rest) starts =
         let text = (reply at bytes).text in
         let more = answers (replied at (reply at bytes)) rest in
-        subst (λ t. StartsWith t s.front) (sym (append_assoc text more last)) (starts-more text s.front (more ++ last) starts)
+        subst (λ t. StartsWith t s.answer_part) (sym (append_assoc text more last)) (starts-more text s.answer_part (more ++ last) starts)
 
 -- ---- with all lines done for some causes
 
@@ -292,13 +292,13 @@ module _ (P : Type 0) (session : SessionState) where
   StopsThere-same printed added x y lines same s = by s.stops.done s.stops.rest s.stops.split s.stops.prints s.stops.adds s.stops.next s.all
     where
       front : List ℕ
-      front = s.stops.front
+      front = s.stops.answer_part
 
       part : List ℕ
-      part = s.stops.part
+      part = s.stops.entry_part
 
-      by : (done rest : List (List ℕ)) → x ∷ lines ≡ done ++ rest → printed ≡ answers session done ++ s.stops.front → added ≡ entry_lines (entries_added session done) ++ s.stops.part
-          → StopsNext (next_text (session_after session done) rest []) (next_added (session_after session done) rest) s.stops.front s.stops.part → (P → rest ≡ []) → StopsThere P session (y ∷ lines) printed added
+      by : (done rest : List (List ℕ)) → x ∷ lines ≡ done ++ rest → printed ≡ answers session done ++ s.stops.answer_part → added ≡ entry_lines (entries_added session done) ++ s.stops.entry_part
+          → StopsNext (next_text (session_after session done) rest []) (next_added (session_after session done) rest) s.stops.answer_part s.stops.entry_part → (P → rest ≡ []) → StopsThere P session (y ∷ lines) printed added
       by [] rest split prints adds next all =
           let here : StopsNext (reply session x).text (entry_lines (reply session x).added) front part = subst (λ r. StopsNext (next_text session r []) (next_added session r) front part) (sym split) next in
           record {
@@ -306,9 +306,9 @@ module _ (P : Type 0) (session : SessionState) where
               done = [];
               rest = y ∷ lines;
               split = refl;
-              front = front;
+              answer_part = front;
               prints = prints;
-              part = part;
+              entry_part = part;
               adds = adds;
               next = subst (λ (r : Reply). StopsNext r.text (entry_lines r.added) front part) same here;
             };
@@ -326,9 +326,9 @@ module _ (P : Type 0) (session : SessionState) where
               done = y ∷ done;
               rest = rest;
               split = ap (λ l. y ∷ l) tail;
-              front = front;
+              answer_part = front;
               prints = prints ∙ ap (λ t. t ++ front) (answers-same session d y done alike);
-              part = part;
+              entry_part = part;
               adds = adds ∙ ap (λ es. entry_lines es ++ part) (entries_added-same session d y done alike);
               next = subst (λ at. StopsNext (next_text at rest []) (next_added at rest) front part) (session_after-same session d y done alike) next;
             };

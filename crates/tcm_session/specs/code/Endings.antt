@@ -9,16 +9,19 @@ use Rattle.tcm_session.specs.declared.scripts.pieces.ReadEnd.TheVariants as end
 use Rattle.tcm_session.specs.declared.run_fault.RunFault.{RunFault}
 use Rattle.tcm_session.specs.declared.run_fault.RunFault.TheVariants as fault
 
--- at the end of the input a line that has begun is answered; past the limit the text for an input that is too large is
--- written
+-- the line that is answered after the input was read: at its end the one that has begun, if there is one; past the
+-- limit none
 abbrev pub ending_lines : ReadEnd → List ℕ → List (List ℕ)
 ending_lines end.AtEnd begun = if_any begun
 ending_lines end.PastLimit begun = []
 
+-- the text that is written after the input was read: the answer to this line; past the limit that for an input that is
+-- too large
 abbrev pub ending_text : ReadEnd → SessionState → List ℕ → List ℕ
 ending_text end.AtEnd session begun = answers session (if_any begun)
 ending_text end.PastLimit session begun = too_large_text
 
+-- the status of a script that no fault ends
 abbrev pub ending_status : ReadEnd → ℕ
 ending_status end.AtEnd = 0
 ending_status end.PastLimit = 8

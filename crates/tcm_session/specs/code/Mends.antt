@@ -9,6 +9,7 @@ use Rattle.tcm_session.specs.declared.ending.Ending.{Ending}
 abbrev pub IsKeptOrMade : Option (List ℕ) → Option (List ℕ) → Option (List ℕ) → Type 0
 IsKeptOrMade made old new = (new ≡ old) ⊎ ((old ≡ None) × (new ≡ made))
 
+-- the file NEW is left so, and every other file is as before
 abbrev pub LeavesMade : List ℕ → Mending → Option Files → Option Files → Type 0
 LeavesMade new mending files files' = ChangesFile (IsKeptOrMade mending.made) files files' new × OthersKept files files' new
 
@@ -20,13 +21,13 @@ pub record Makes (new : List ℕ) (by : Option (List ℕ) → Mending) (ending :
   pub made : files' ≡ option_map (with_made new (by found).made) files
   pub left : LeavesMade new (by found) files files'
 
--- what a fault leaves of it
+-- what a fault leaves of a run, by the file that it finds as NEW
 pub record StopsMaking (new : List ℕ) (by : Option (List ℕ) → Mending) (files files' : Option Files) : Type 0 where
   pub found : Option (List ℕ)
   pub told : IfSome files (λ all. found ≡ file_of all new)
   pub left : LeavesMade new (by found) files files'
 
--- both by the files that the loads of OLD and of NEW find
+-- what a run comes to by the files that the loads of OLD and of NEW find
 pub record Mends (old new cluster : List ℕ) (ending : Ending) (files files' : Option Files) : Type 0 where
   pub seen : ℕ → Files
   pub held : AreSeen files seen
@@ -34,6 +35,7 @@ pub record Mends (old new cluster : List ℕ) (ending : Ending) (files files' : 
   pub made : files' ≡ option_map (with_made new (mending old new cluster seen).made) files
   pub left : LeavesMade new (mending old new cluster seen) files files'
 
+-- what a fault leaves of a run, by the files that the loads of OLD and of NEW find
 pub record StopsMending (old new cluster : List ℕ) (files files' : Option Files) : Type 0 where
   pub seen : ℕ → Files
   pub held : AreSeen files seen

@@ -9,12 +9,13 @@ use Rattle.tcm_session.specs.files.MemberRoute.{log_route}
 use Rattle.tcm_session.specs.files.StateLine.{state_ending}
 use Rattle.tcm_session.specs.files.StreamPlan.{log_plan}
 
--- what is said of a log, and that lists of nodes have 1 to 16 that ascend
+-- what is said of a log
 abbrev pub said : Question → List Entry → Ending
 said (State epoch) log = state_ending epoch log
 said (Plan node keyspace) log = log_plan node keyspace log
 said (Route from to) log = log_route from to log
 
+-- lists of nodes have 1 to 16 that ascend
 abbrev pub IsAsked : Question → Type 0
 IsAsked (Route from to) = IsTrue (are_nodes from) × IsTrue (are_nodes to)
 IsAsked _ = Unit {0}

@@ -26,13 +26,14 @@ abbrev pub of_load : LoadFault → RunFault
 of_load load.Failed = run.Store
 of_load load.Memory = run.Memory
 
--- the counts after a run, or a part of one: one more if a fault of the source, the sink or the store ended it
+-- the counts after a fault ended a run, or a part of one: one more if the source, the sink or the store failed
 abbrev pub counts_after : RunFault → Counts → Counts
 counts_after run.Memory before = before
 counts_after run.Source before = record before { source = one_more before.source }
 counts_after run.Sink before = record before { sink = one_more before.sink }
 counts_after run.Store before = record before { store = one_more before.store }
 
+-- the counts after a run, or a part of one, that came to this result
 abbrev pub counts_by : {T : Type 0} → Result T RunFault → Counts → Counts
 counts_by (Ok _) before = before
 counts_by (Err fault) before = counts_after fault before

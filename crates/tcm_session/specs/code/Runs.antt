@@ -16,10 +16,11 @@ use Rattle.tcm_session.specs.declared.run_fault.RunFault.TheVariants as fault
 use Rattle.tcm_session.specs.declared.scripts.pieces.ReadEnd.{ReadEnd}
 use Rattle.tcm_session.specs.declared.scripts.pieces.ReadEnd.TheVariants as end
 
--- the bytes that are kept of a line: at most one more than a line may have, so a line that is too long stays too long
+-- the most bytes that are kept of a line: one more than a line may have, so a line that is too long stays too long
 abbrev pub most_kept : ℕ
 most_kept = 16385
 
+-- the bytes that are kept of a line
 abbrev pub kept_of : List ℕ → List ℕ
 kept_of bytes = take most_kept bytes
 
@@ -35,6 +36,7 @@ pub record Standing : Type 0 where
   pub written : Option (List ℕ)
   pub files : Option Files
 
+-- where a run stands, as a record
 abbrev pub standing : SessionState → List ℕ → Option (List ℕ) → Option Files → Standing
 standing session begun written files = record { session = session; begun = begun; written = written; files = files }
 

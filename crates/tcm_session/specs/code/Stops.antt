@@ -34,4 +34,4 @@ pub record LeavesScript (name : Option (List ℕ)) (files files' : Option Files)
   pub added : List ℕ
   pub stops : StopsIn (session_over o.log) o.lines o.last printed added
   pub adds : Adds name added files files'
-  pub read_fault : status ≡ 4 → (stops.front ≡ []) × (stops.part ≡ [])
+  pub read_fault : status ≡ 4 → (stops.answer_part ≡ []) × (stops.entry_part ≡ [])

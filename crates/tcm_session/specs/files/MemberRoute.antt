@@ -55,10 +55,11 @@ change_lines service [] = []
 change_lines service (change ∷ changes) =
     line_and_more change (service_after service change) (λ after. change_lines after changes)
 
--- the number of changes of the route, and their lines
+-- the line with the number of changes of a route
 abbrev pub route_head : List Change → List ℕ
 route_head changes = line (codes "CMS " ++ decimal (length changes))
 
+-- the text of the route: the number of its changes, and their lines
 unfoldable pub route_text : List ℕ → List ℕ → List ℕ
 route_text from to = route_head (route_of from to) ++ change_lines (service_of from) (route_of from to)
 
@@ -89,7 +90,7 @@ route_unless from to image (Some n) = record { status = 7; text = unjoined_text 
 abbrev pub route_in : List ℕ → List ℕ → Image → Ending
 route_in from to image = route_unless from to image (first_unjoined image (without to from))
 
--- in the last state of a log
+-- the end of `cms` in the last state of a log
 abbrev pub log_route : List ℕ → List ℕ → List Entry → Ending
 log_route from to log = route_in from to (state_after (commands_of log) (length log))
 

@@ -1,4 +1,5 @@
--- The replay of files: their lines are handed to one follower, one after another.
+-- The replay of files: their lines are handed to one follower, one after another. `cause.Line 0` stands where a case
+-- never comes.
 use Rattle.std.specs.Prelude.{ℕ, suc, ◌+◌, ◌==◌, if◌then◌else◌, List, [], ◌∷◌, ◌++◌, flat_map, length, Option, Some, None, Result, Ok, Err, codes, decimal}
 use Rattle.tcm_edges.specs.Files.{Files, file_of, loaded_of}
 use Rattle.tcm_edges.specs.declared.store.Loaded.{Loaded}
@@ -48,14 +49,16 @@ answered replay after (Err (fault.BadImage bad)) = Err (cause.Image bad)
 answered replay after (Err fault.Memory) = Err (cause.Line 0)
 answered replay after (Err (fault.MemoryAt epoch)) = Err (cause.Line 0)
 
--- an entry is handed to the follower; or an image
+-- an entry is handed to the follower
 abbrev pub entry_replayed : Replay → Entry → Result Replay Cause
 entry_replayed replay entry = (let step = hand_entry replay.follower entry in answered replay step.after step.answer)
 
+-- an image is handed to the follower
 abbrev pub image_replayed : Replay → Image → Result Replay Cause
 image_replayed replay image = (let step = hand_image replay.follower image in answered replay step.after step.answer)
 
--- a header, unless there is a cause to refuse it: it counts as a line, and changes no follower
+-- a header, unless there is a cause to refuse it: it counts as a line, names the cluster of later headers, and changes
+-- no follower
 abbrev pub headed : Replay → List ℕ → Option Cause → Result Replay Cause
 headed replay came None = Ok (record replay { lines = replay.lines + 1; cluster = Some came })
 headed replay came (Some cause) = Err cause
@@ -65,8 +68,8 @@ abbrev pub header_replayed : ℕ → Replay → List ℕ → Result Replay Cause
 header_replayed number replay came =
     if number == 1 then headed replay came (other_cluster replay.cluster came) else Err cause.Header
 
--- what was read as the line with this number of its file; a line that breaks a rule is refused (a reading is never
--- without memory)
+-- what was read as the line with this number of its file; a line that breaks a rule is refused, and `reading` never
+-- gives Memory
 abbrev pub read_replayed : ℕ → Replay → Result Line ReadLineFault → Result Replay Cause
 read_replayed number replay (Ok (line.Header came)) = header_replayed number replay came
 read_replayed number replay (Ok (line.Entry entry)) = entry_replayed replay entry

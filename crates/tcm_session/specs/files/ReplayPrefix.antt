@@ -25,36 +25,40 @@ pub record Taking : Type 0 where
   pub follower : FollowerState
   pub taken : Taken
 
+-- the follower before the first line, and nothing taken
 abbrev pub nothing_yet : Taking
 nothing_yet = record { follower = empty_follower; taken = nothing_taken }
 
--- an entry is handed over; or an image
+-- an entry is handed over
 abbrev pub entry_taken : Taking → Entry → Taking
 entry_taken so_far entry =
     let step = hand_entry so_far.follower entry in
     record { follower = step.after; taken = unless_full step.answer so_far.taken (with_entry so_far.taken entry.epoch) }
 
+-- an image is handed over
 abbrev pub image_taken : Taking → Image → Taking
 image_taken so_far image =
     let step = hand_image so_far.follower image in
     record { follower = step.after; taken = unless_full step.answer so_far.taken (with_image so_far.taken image.epoch) }
 
--- a line is handed over, and lines, one after another
+-- what was read as a line is handed over
 abbrev pub read_taken : Taking → Result Line ReadLineFault → Taking
 read_taken so_far (Ok (line.Header cluster)) = so_far
 read_taken so_far (Ok (line.Entry entry)) = entry_taken so_far entry
 read_taken so_far (Ok (line.Snapshot image)) = image_taken so_far image
 read_taken so_far (Err fault) = so_far
 
+-- lines are handed over, one after another
 abbrev pub lines_taken : Taking → List (List ℕ) → Taking
 lines_taken so_far [] = so_far
 lines_taken so_far (bytes ∷ lines) = lines_taken (read_taken so_far (reading bytes)) lines
 
--- files are replayed, one after another
+-- the whole lines of a file that was loaded; none, if it is absent or too large
 abbrev pub loaded_lines : Loaded → List (List ℕ)
 loaded_lines (loaded.Bytes bytes) = whole_lines bytes
 loaded_lines _ = []
 
+-- the lines of files are handed over, one file after another
 abbrev pub files_taken : Taking → List (List ℕ) → (ℕ → Files) → Taking
 files_taken so_far [] seen = so_far
 files_taken so_far (name ∷ names) seen =
@@ -73,6 +77,7 @@ ReadsAsPart log (Ok (line.Entry entry)) = IsEntryOf log entry
 ReadsAsPart log (Ok (line.Snapshot image)) = IsImageOf log image
 ReadsAsPart log (Err fault) = ⊥
 
+-- each of some lines reads so
 abbrev pub AreLinesOf : List Entry → List (List ℕ) → Type 0
 AreLinesOf log lines = AllByRecursion (λ bytes. ReadsAsPart log (reading bytes)) lines
 
@@ -84,11 +89,12 @@ AreFilesOf log (name ∷ names) seen =
 
 -- ---- headers
 
--- a line that is a header names this cluster; and a line isn't a header
+-- a line that is a header names this cluster
 abbrev pub MayHead : List ℕ → Result Line ReadLineFault → Type 0
 MayHead cluster (Ok (line.Header came)) = came ≡ cluster
 MayHead cluster read = Unit {0}
 
+-- a line isn't a header
 abbrev pub IsNoHeader : Result Line ReadLineFault → Type 0
 IsNoHeader (Ok (line.Header came)) = ⊥
 IsNoHeader read = Unit {0}
@@ -98,6 +104,7 @@ abbrev pub AreHeaded : List ℕ → List (List ℕ) → Type 0
 AreHeaded cluster [] = Unit {0}
 AreHeaded cluster (bytes ∷ lines) = MayHead cluster (reading bytes) × AllByRecursion (λ later. IsNoHeader (reading later)) lines
 
+-- each of some files has such lines
 abbrev pub AreHeadedFiles : List ℕ → List (List ℕ) → (ℕ → Files) → Type 0
 AreHeadedFiles cluster [] seen = Unit {0}
 AreHeadedFiles cluster (name ∷ names) seen =
@@ -106,7 +113,7 @@ AreHeadedFiles cluster (name ∷ names) seen =
 
 -- ---- the report
 
--- the printed bytes are the report of a replay whose follower shows the longest gapless prefix
+-- the printed bytes are the report, with some counts, of a follower that shows the longest gapless prefix
 pub record ReportsPrefix (log : List Entry) (taken : Taken) (printed : List ℕ) : Type 0 where
   pub replay : Replay
   pub shows : ShowsPrefix log taken replay.follower

@@ -19,8 +19,8 @@ use Rattle.tcm_session.specs.files.LookedEnds.{looked_end}
 
 -- ---- the plan and its text
 
--- the plan of the movement of a node under a keyspace covers what the movement adds, and keeps quorums readable, if there
--- is a plan
+-- the plan of the movement of a node under a keyspace covers what the movement adds, and keeps quorums readable, if
+-- there is a plan
 pub record IsCoveringPlan (image : Image) (n : ℕ) (keyspace : List ℕ) : Type 0 where
   pub covers : IfSome (streams image n keyspace) (λ rows. OfMovement image n keyspace (CoverGains image rows))
   pub readable : IfSome (streams image n keyspace) (λ rows. OfMovement image n keyspace (KeepReadable image rows))
@@ -59,13 +59,15 @@ abbrev pub plan_unless : Image → ℕ → List ℕ → Option (List StreamRow) 
 plan_unless image n keyspace None = record { status = 7; text = missing_text (movement_of image n) }
 plan_unless image n keyspace (Some rows) = record { status = 0; text = plan_text image.epoch n keyspace rows }
 
+-- the end of `plan` in an image
 abbrev pub plan_in : ℕ → List ℕ → Image → Ending
 plan_in n keyspace image = plan_unless image n keyspace (streams image n keyspace)
 
--- in the last state of a log
+-- the last state of a log
 abbrev pub last_state : List Entry → Image
 last_state log = state_after (commands_of log) (length log)
 
+-- the end of `plan` in the last state of a log
 abbrev pub log_plan : ℕ → List ℕ → List Entry → Ending
 log_plan n keyspace log = plan_in n keyspace (last_state log)
 

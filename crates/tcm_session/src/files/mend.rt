@@ -50,8 +50,8 @@ fn log_text(alloc: Global, cluster: &Name, log: &Log) -> Result<ByteText, Memory
     Ok(text)
 }
 
-/// Makes the log file of a cluster with the entries of a log, if no file of its name is there, and returns the end. After
-/// a fault, the file is as before, or it was absent and is whole.
+/// Makes the log file of a cluster with the entries of a log, if no file of its name is there, and returns the end.
+/// After a fault, the file is as before, or it was absent and is whole.
 fn make_new<D: Store>(
     alloc: Global,
     new: &LogFile<'_>,

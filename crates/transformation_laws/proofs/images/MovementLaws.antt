@@ -60,9 +60,6 @@ is_shared q s apart = rw (own, any_false (λ (p : Pair). takes_part p.node q) s.
     own : takes_part s.node q ≡ false
     own = and_left (takes_part s.node q) (takes_part s.node s) (apart s.node) (own_takes s)
 
-    here_true : (n : ℕ) (b : Bool) → (b || (n == n)) ≡ true
-    here_true n b = grind (arith, nat_tests)
-
     out : (ps : List Pair) → ((n : ℕ) → list_any (λ (p : Pair). p.node == n) ps ≡ true → list_any (λ (p : Pair). p.node == n) s.out_pairs ≡ true) → AllByRecursion (λ p. takes_part p.node q ≡ false) ps
     out [] part = tt
     out (p ∷ ps) part = (

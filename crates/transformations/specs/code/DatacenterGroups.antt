@@ -11,11 +11,11 @@ abbrev pub group_at : List NodeRow → Option (List ℕ) → ℕ → Group
 group_at nodes None rf = whole_group rf
 group_at nodes (Some dc) rf = datacenter_group nodes (dc, rf)
 
--- whether a node is in this group, and how many distinct nodes of the group are among some nodes; its factor is of no
--- matter to either
+-- whether a node is in this group, whatever the group's factor
 abbrev pub is_in_group : List NodeRow → Option (List ℕ) → ℕ → Bool
 is_in_group nodes dc n = is_some ((group_at nodes dc 0).rack_of n)
 
+-- how many distinct nodes of this group are among some nodes, whatever the group's factor
 abbrev pub different_in : List NodeRow → Option (List ℕ) → List ℕ → ℕ
 different_in nodes dc ns = node_count (group_at nodes dc 0) ns
 

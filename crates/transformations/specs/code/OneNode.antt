@@ -13,10 +13,10 @@ abbrev pub passes : (ℕ → Bool) → Option ℕ → Bool
 passes test None = false
 passes test (Some n) = test n
 
--- whether a node is the node of a movement, or of the first pair that the movement takes out; and whether a node of a
--- movement is so in another movement
+-- whether a node is the node of a movement, or of the first pair that the movement takes out
 abbrev pub is_in : SeqRow → ℕ → Bool
 is_in s n = (s.node == n) || passes (λ gone. gone == n) (first_node s.out_pairs)
 
+-- whether the node of a movement, or of the first pair that it takes out, is so in another movement
 abbrev pub meets : SeqRow → SeqRow → Bool
 meets s q = is_in q s.node || passes (is_in q) (first_node s.out_pairs)

@@ -11,6 +11,7 @@ use Rattle.serde_json.specs.Data.{Data, depth, items_depth}
 use Rattle.serde_json.specs.Find.{of_integer}
 use Rattle.serde_json.specs.Written.{compact_text}
 use Rattle.transformations.specs.History.{are_tokens, is_command}
+use Rattle.transformations.specs.Words.{goal_word, movement_word}
 use Rattle.transformations.specs.declared.command.Command.{Command}
 use Rattle.transformations.specs.declared.command.Command.TheVariants.{Register, Unregister, UnsafeJoin, Keyspace, DropKeyspace, PrepareJoin, PrepareMove, PrepareLeave, PrepareReplace, Step, Cancel}
 use Rattle.transformations.specs.declared.entry.Entry.{Entry}
@@ -21,7 +22,7 @@ use Rattle.transformations.specs.declared.sequence.Kind.TheVariants as kind
 use Rattle.wire_json.specs.Entries.{HasValues, IsEntry, IsNode}
 use Rattle.wire_json.specs.Kinds as spec
 use Rattle.wire_json.specs.Reading.{entry_of, line_in, most_bytes, reading}
-use Rattle.wire_json.specs.EntryTexts.{command_data, entry_data, goal_word, movement_word, node_data, entry_text, list_items, token_data, tokens_data}
+use Rattle.wire_json.specs.EntryTexts.{command_data, entry_data, node_data, entry_text, list_items, token_data, tokens_data}
 use Rattle.wire_json.specs.Values.{list_of, token_of}
 use Rattle.wire_json.specs.declared.line.Line.TheVariants as line
 use Rattle.wire_json.proofs.json_values.ListItems.{each_there, AreWhole-list, depth-list}
@@ -121,7 +122,7 @@ few tokens is = grind (arith, nat_tests)
 -- the data of a command: it is whole, short and flat
 pub record IsFine (value : Data) : Type 0 where
   pub whole : IsWhole value
-  pub short : most value ≤ 10000
+  pub short : most value ≤ 5840
   pub flat : depth value ≤ 2
 
 fine_node : (word : List ℕ) (node : ℕ) → IsUtf8 word → length word ≤ 20 → IsNode node → IsFine (node_data word node)
@@ -131,7 +132,7 @@ fine_node word node utf8 short h = record {
   flat = omega arith;
 }
 
-fine_tokens : (word : List ℕ) (node : ℕ) (tokens : List ℤ) → IsUtf8 word → length word ≤ 20 → IsNode node → AllByRecursion IsToken tokens → are_tokens tokens ≡ true → IsFine (tokens_data word node tokens)
+fine_tokens : (word : List ℕ) (node : ℕ) (tokens : List ℤ) → IsUtf8 word → length word ≤ 12 → IsNode node → AllByRecursion IsToken tokens → are_tokens tokens ≡ true → IsFine (tokens_data word node tokens)
 fine_tokens word node tokens utf8 short h all are = record {
   whole = ((IsUtf8-tested (codes "kind") refl, utf8, (IsUtf8-tested (codes "node") refl, omega arith, (IsUtf8-tested (codes "tokens") refl, whole_tokens tokens all, tt))), refl);
   short = omega (arith, most-tokens tokens, few tokens are);
@@ -232,14 +233,14 @@ fine_command (PrepareReplace node gone) h is = record {
 fine_command (Step g k node) h is = fine_step g k node h
 fine_command (Cancel node) h is = fine_node (codes "cancel") node (IsUtf8-tested (codes "cancel") refl) (omega arith) h
 
-whole_entry : (entry : Entry) → IsEntry entry → IsWhole (entry_data entry)
+pub whole_entry : (entry : Entry) → IsEntry entry → IsWhole (entry_data entry)
 whole_entry entry is =
     let command = fine_command entry.cmd is.values is.tokens in (
       (IsUtf8-tested (codes "command") refl, command.whole, (IsUtf8-tested (codes "entry") refl, is.id, (IsUtf8-tested (codes "epoch") refl, omega (arith, is.last), tt))),
       refl,
     )
 
-short_entry : (entry : Entry) → IsEntry entry → most (entry_data entry) ≤ most_bytes
+pub short_entry : (entry : Entry) → IsEntry entry → most (entry_data entry) ≤ 5999
 short_entry entry is = (let command = fine_command entry.cmd is.values is.tokens in omega (arith, command.short))
 
 flat_entry : (entry : Entry) → IsEntry entry → depth (entry_data entry) ≤ 127

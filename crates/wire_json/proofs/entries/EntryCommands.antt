@@ -9,6 +9,7 @@ use Rattle.cluster_terms.specs.declared.replication.Replication.{Replication}
 use Rattle.serde_json.specs.Data.{Data}
 use Rattle.serde_json.specs.Find.{as_array, get}
 use Rattle.transformations.specs.History.{are_tokens}
+use Rattle.transformations.specs.Words.{node_commands}
 use Rattle.transformations.specs.declared.command.Command.{Command}
 use Rattle.transformations.specs.declared.command.Command.TheVariants.{Register, UnsafeJoin, Keyspace, DropKeyspace, PrepareJoin, PrepareMove, PrepareReplace}
 use Rattle.transformations.specs.declared.entry.Entry.{Entry}
@@ -74,7 +75,7 @@ pub record HoldsOfKinds (Q : Command → Type 0) : Type 0 where
   pub prepare_join : (node : ℕ) (tokens : List ℤ) → AreTokens tokens → Q (PrepareJoin node tokens)
   pub prepare_move : (node : ℕ) (token : ℤ) → Q (PrepareMove node token)
   pub prepare_replace : (node gone : ℕ) → Q (PrepareReplace node gone)
-  pub of_node : (n : ℕ) → AllByRecursion (λ row. Q (row.1 n)) spec.node_commands
+  pub of_node : (n : ℕ) → AllByRecursion (λ row. Q (row.1 n)) node_commands
 
 module _ (Q : Command → Type 0) (of : HoldsOfKinds Q) where
   of_register : (value : Data) → IfSome (spec.register_of value) Q
@@ -132,7 +133,7 @@ module _ (Q : Command → Type 0) (of : HoldsOfKinds Q) where
       by false here found = found
 
   of_command_on : (word : List ℕ) (n : ℕ) → IfSome (code.command_on word n) Q
-  of_command_on word n = of_rows (λ row. bytes_eq word row.0) n spec.node_commands (of.of_node n)
+  of_command_on word n = of_rows (λ row. bytes_eq word row.0) n node_commands (of.of_node n)
 
   of_node_kinds : (word : List ℕ) (value : Data) → IfSome (spec.command_named spec.node_kinds word value) Q
   of_node_kinds word value = by (has_keys spec.node_keys value) refl

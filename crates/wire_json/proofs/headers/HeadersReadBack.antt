@@ -14,7 +14,7 @@ line_there : (cluster : List ℕ) → IsTrue (is_name cluster) → line_in (head
 unfolding line_in header_of
 line_there cluster is = (let name = name_there cluster is in rw name)
 
-whole_header : (cluster : List ℕ) → IsTrue (is_name cluster) → IsWhole (header_data cluster)
+pub whole_header : (cluster : List ℕ) → IsTrue (is_name cluster) → IsWhole (header_data cluster)
 whole_header cluster is =
     ((IsUtf8-tested (codes "cluster") refl, IsUtf8-name cluster is, (IsUtf8-tested (codes "format") refl, omega arith, tt)), refl)
 

@@ -5,6 +5,7 @@ use Rattle.cluster_terms.specs.declared.node.NodeRow.{NodeRow}
 use Rattle.cluster_terms.specs.declared.token.Pair.{Pair}
 use Rattle.transformations.specs.Rings.{incoming, outgoing}
 use Rattle.transformations.specs.Valid.{IsSound}
+use Rattle.transformations.specs.Words.{movement_word, phase_word}
 use Rattle.transformations.specs.declared.image.Image.{Image}
 use Rattle.transformations.specs.declared.keyspace.KeyspaceRow.{KeyspaceRow}
 use Rattle.transformations.specs.declared.sequence.Kind.{Kind}
@@ -15,7 +16,7 @@ use Rattle.transformations.specs.declared.sequence.SeqRow.{SeqRow}
 use Rattle.wire_json.specs.LineImages.{FitsLine, IsKeyspaceRow, IsNodeRow}
 use Rattle.wire_json.specs.Reading.{most_bytes}
 use Rattle.wire_json.specs.SnapshotTexts.{image_text, keyspace_row_data, movement_data, node_row_data, pair_data, snapshot_data}
-use Rattle.wire_json.specs.EntryTexts.{list_items, movement_word, phase_word}
+use Rattle.wire_json.specs.EntryTexts.{list_items}
 use Rattle.wire_json.proofs.images.ImagesReadBack.{whole_snapshot}
 use Rattle.wire_json.proofs.images.SoundCounts.{HasFew, sound_few}
 use Rattle.wire_json.proofs.json_values.TextBytes.{IsShort-name, IsShort-replication}

@@ -4,6 +4,7 @@ use Rattle.cluster_terms.proofs.texts.RoundTrip.{round_trip}
 use Rattle.cluster_terms.specs.declared.node.NodeRow.{NodeRow}
 use Rattle.cluster_terms.specs.declared.token.Pair.{Pair}
 use Rattle.serde_json.specs.Data.{depth, items_depth}
+use Rattle.transformations.specs.Words.{movement_word, phase_word}
 use Rattle.transformations.specs.declared.image.Image.{Image}
 use Rattle.transformations.specs.declared.keyspace.KeyspaceRow.{KeyspaceRow}
 use Rattle.transformations.specs.declared.sequence.Kind.{Kind}
@@ -15,7 +16,7 @@ use Rattle.wire_json.specs.LineImages.{FitsLine, IsKeyspaceRow, IsNodeRow, IsPai
 use Rattle.wire_json.specs.Reading.{line_in, most_bytes, reading}
 use Rattle.wire_json.specs.SnapshotTexts.{image_data, image_text, keyspace_row_data, movement_data, node_row_data, pair_data, snapshot_data}
 use Rattle.wire_json.specs.Snapshots.{image_in, keyspace_row_in, kind_named, movement_in, node_row_in, pair_in, phase_named}
-use Rattle.wire_json.specs.EntryTexts.{list_items, movement_word, phase_word}
+use Rattle.wire_json.specs.EntryTexts.{list_items}
 use Rattle.wire_json.specs.declared.line.Line.TheVariants as line
 use Rattle.wire_json.proofs.entries.EntriesReadBack.{name_there, node_there, token_there, whole_token}
 use Rattle.wire_json.proofs.json_values.ListItems.{AreWhole-list, depth-list, each_there}

@@ -3,8 +3,9 @@ use Rattle.std.proofs.Common.{◌≡◌, ℕ, Bool, true, false, cond, List, [],
 use Rattle.std.specs.List.{find}
 use Rattle.std.specs.Str.{bytes_eq}
 use Rattle.serde_json.specs.Data.{Data}
+use Rattle.transformations.specs.Words.{node_commands}
 use Rattle.transformations.specs.declared.command.Command.{Command}
-use Rattle.wire_json.specs.Kinds.{command_by, command_named, node_keys, of_node, node_kinds, node_commands}
+use Rattle.wire_json.specs.Kinds.{command_by, command_named, node_keys, of_node, node_kinds}
 use Rattle.wire_json.specs.code.NodeCommands.{command_on}
 use Rattle.wire_json.specs.Values.{has_keys, node_at}
 

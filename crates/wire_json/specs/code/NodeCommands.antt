@@ -1,8 +1,8 @@
 -- Commands with a node alone.
 use Rattle.std.specs.Prelude.{ℕ, List, find, Option, option_map}
 use Rattle.std.specs.Str.{bytes_eq}
+use Rattle.transformations.specs.Words.{node_commands}
 use Rattle.transformations.specs.declared.command.Command.{Command}
-use Rattle.wire_json.specs.Kinds.{node_commands}
 
 -- the command with this word and this node, if its only argument is a node
 abbrev pub command_on : List ℕ → ℕ → Option Command

@@ -3,8 +3,8 @@ use Rattle.std.specs.Int.{w64, to_be_bytes}
 use Rattle.durable_log.specs.Disk.{Changes, Written}
 use Rattle.durable_log.specs.Records.{body}
 use Rattle.durable_log.specs.code.Ends.{change_by}
-use Rattle.durable_log.proofs.AddSteps.{gate_adds, gate_err, gate_ok, gate_passes, may_from, put_err, put_passes, put_synced, same_passes, settles}
-use Rattle.durable_log.proofs.Results.{at_err}
+use Rattle.durable_log.proofs.steps.AddSteps.{gate_adds, gate_err, gate_ok, gate_passes, may_from, put_err, put_passes, put_synced, same_passes, settles}
+use Rattle.durable_log.proofs.steps.Results.{at_err}
 use Rattle.durable_log.proofs.adding.add_record.Goals as goal
 
 -- the pieces that are put down are the record behind its gate, and a closed gate

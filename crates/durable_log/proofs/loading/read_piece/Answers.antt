@@ -1,5 +1,5 @@
 use Rattle.std.proofs.Common.{◌≡◌, ◌+◌, ◌-◌, ◌++◌, true, not, ap, arith, is_ok, length, length-drop, replicate, sym, take, vec_len, ◌∙◌}
-use Rattle.durable_log.proofs.LoadSteps.{behind, longer, piece_added}
+use Rattle.durable_log.proofs.steps.LoadSteps.{behind, longer, piece_added}
 use Rattle.durable_log.proofs.loading.read_piece.Goals as goal
 
 pub returns-in-Ok-clause-added : goal.returns-in-Ok-clause-added

@@ -2,9 +2,9 @@ use Rattle.std.proofs.Common.{◌≡◌, ℕ, ◌+◌, ◌≤◌, List, drop, Op
 use Rattle.durable_log.specs.declared.scan.RecordHeader.{RecordHeader}
 use Rattle.durable_log.specs.Ends.{IsFront}
 use Rattle.durable_log.specs.code.Headers.{header_len, whole_header}
-use Rattle.durable_log.proofs.Fronts.{front_more}
-use Rattle.durable_log.proofs.Headers.{whole_some}
-use Rattle.durable_log.proofs.Moments.{same_again}
+use Rattle.durable_log.proofs.records.Fronts.{front_more}
+use Rattle.durable_log.proofs.records.Headers.{whole_some}
+use Rattle.durable_log.proofs.disks.Moments.{same_again}
 use Rattle.durable_log.proofs.scan.find_end.Goals as goal
 
 front_next : (told told' : Option (List ℕ)) (at : ℕ) (header : RecordHeader) → told' ≡ told → IfSome told (IsFront at) → IfSome told' (λ bytes. Some header ≡ whole_header (drop at bytes)) → IfSome told (IsFront (at + header_len header))

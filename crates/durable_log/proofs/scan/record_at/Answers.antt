@@ -1,5 +1,5 @@
 use Rattle.std.proofs.Common.{◌+◌, ◌-◌, ◌<◌, arith}
-use Rattle.durable_log.proofs.Headers.{none_at, some_at}
+use Rattle.durable_log.proofs.records.Headers.{none_at, some_at}
 use Rattle.durable_log.proofs.scan.record_at.Goals as goal
 use Rattle.durable_log.proofs.scan.record_at.Goals.{then-name_len-rest-via-then-name_len-rest, then-name_len-rest-via-else-name_len-rest+then-bytes_len-rest, then-name_len-rest-via-else-name_len-rest+else-bytes_len-rest+then-name_len-bytes_len}
 

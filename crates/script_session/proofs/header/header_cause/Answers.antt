@@ -1,5 +1,5 @@
 use Rattle.std.proofs.Common.{sym}
-use Rattle.script_session.proofs.StepEndLemmas.{header_cause-bad, header_cause-read}
+use Rattle.script_session.proofs.steps.StepEndLemmas.{header_cause-bad, header_cause-read}
 use Rattle.script_session.proofs.header.header_cause.Goals as goal
 
 pub returns-in-Ok : goal.returns-in-Ok

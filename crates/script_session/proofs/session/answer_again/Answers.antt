@@ -1,5 +1,5 @@
 use Rattle.std.proofs.Common.{true≢false, sym, ◌∙◌}
-use Rattle.script_session.proofs.StepEndLemmas.{repeated_other, repeated_same}
+use Rattle.script_session.proofs.steps.StepEndLemmas.{repeated_other, repeated_same}
 use Rattle.script_session.proofs.session.answer_again.Goals as goal
 
 pub returns-then-same : goal.returns-then-same

@@ -1,7 +1,7 @@
 use Rattle.script_session.specs.Machine.{session_after, session_over}
 use Rattle.session_laws.proofs.FileLogs.{session_file}
-use Rattle.script_session.proofs.SessionLemmas.{after_lines}
-use Rattle.script_session.proofs.TakenLemmas.{entry_at_epoch, image_at_epoch}
+use Rattle.script_session.proofs.steps.SessionLemmas.{after_lines}
+use Rattle.script_session.proofs.followers.TakenLemmas.{entry_at_epoch, image_at_epoch}
 use Rattle.session_laws.proofs.TakenLines.{answer_as_log, followers_show}
 use Rattle.session_laws.proofs.validity.followers_show_prefixes.Goals as goal
 

@@ -7,7 +7,7 @@ use Rattle.cluster_terms.specs.Row.{last_token}
 use Rattle.placement_maps.specs.Maps.{placement_rows}
 use Rattle.placement_maps.specs.Served.{keyspace_of}
 use Rattle.range_placements.specs.declared.placement_row.PlacementRow.{PlacementRow}
-use Rattle.stream_plan.proofs.StreamLemmas.{copied_some, delta_under, given_rows, has_delta, if_made}
+use Rattle.stream_plan.proofs.planned_rows.StreamLemmas.{copied_some, delta_under, given_rows, has_delta, if_made}
 use Rattle.stream_plan.specs.code.Plans.{IsPlanOf}
 use Rattle.stream_plan.specs.code.RowSteps.{rows_by}
 use Rattle.stream_plan.specs.Streams.{stream_rows}

@@ -1,4 +1,4 @@
-use Rattle.stream_plan.proofs.StreamedLemmas.{AreStreamed, IsPlanned, plan_in, planned, streamed}
+use Rattle.stream_plan.proofs.coverage.StreamedLemmas.{AreStreamed, IsPlanned, plan_in, planned, streamed}
 use Rattle.stream_plan.proofs.movement_streams.streams.Goals as goal
 
 pub rows_under-requires-clause-plan : goal.rows_under-requires-clause-plan

@@ -2,7 +2,7 @@ use Rattle.std.proofs.Common.{◌≡◌, ℕ, List, find, Some, None, is_some, s
 use Rattle.cluster_terms.specs.NodeRow.{row_of}
 use Rattle.cluster_terms.specs.Quorum.{within}
 use Rattle.cluster_terms.specs.Replication.{rack_within}
-use Rattle.stream_plan.proofs.SourceSteps.{source_found, source_in}
+use Rattle.stream_plan.proofs.pairing.SourceSteps.{source_found, source_in}
 use Rattle.stream_plan.specs.Sources.{paired}
 use Rattle.stream_plan.proofs.sources.local_source.Goals as goal
 

@@ -1,6 +1,6 @@
 use Rattle.std.proofs.Common.{ap, sym, ◌∙◌}
 use Rattle.cluster_terms.specs.Replication.{groups_of}
-use Rattle.stream_plan.proofs.SourceSteps.{simple_source}
+use Rattle.stream_plan.proofs.pairing.SourceSteps.{simple_source}
 use Rattle.stream_plan.specs.Sources.{paired, strict_source}
 use Rattle.stream_plan.proofs.sources.strict_source.Goals as goal
 

@@ -1,5 +1,5 @@
 use Rattle.cluster_terms.specs.Replication.{groups_of}
-use Rattle.stream_plan.proofs.RowStepLemmas.{one_more, token_more}
+use Rattle.stream_plan.proofs.planned_rows.RowStepLemmas.{one_more, token_more}
 use Rattle.stream_plan.proofs.stream_rows.rows_by.Goals as goal
 
 pub loop-row-preserved : goal.loop-row-preserved

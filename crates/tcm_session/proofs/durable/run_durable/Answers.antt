@@ -1,6 +1,6 @@
 use Rattle.std.proofs.Common.{map, string_bytes, inl, inr, refl, sym, ◌∙◌, arith}
 use Rattle.durable_log.specs.Records.{files}
-use Rattle.durable_log.proofs.ShownFiles.{only_told}
+use Rattle.durable_log.proofs.records.ShownFiles.{only_told}
 use Rattle.tcm_session.proofs.runs.DurableRuns.{image_kept, is_shown, told_same, uncounted_6, unopened}
 use Rattle.tcm_session.proofs.runs.RequestRuns.{run_of_each}
 use Rattle.tcm_session.specs.Request.{request_of}
@@ -45,7 +45,7 @@ returns-in-Err-clause-outcome g c = unopened (map string_bytes c.args.words.now)
 pub returns-in-Err-clause-crash : goal.returns-in-Err-clause-crash
 returns-in-Err-clause-crash g c = λ stood image here.
     unopened (map string_bytes c.args.words.now) g.S.Source.left c.args.input.now _ _ _
-    (image_kept g.D.Disk.moment g.D.Disk.image c.args.disk c.in-Err.disk (g.D.Disk.content c.args.disk) (g.D.Disk.content c.in-Err.disk) c.in-Err.ensures.files c.in-Err.ensures.images stood (g.met.D.Disk.imageless c.in-Err.disk) image here)
+    (image_kept g.D.Disk.moment g.D.Disk.image c.args.disk c.in-Err.disk (g.D.Disk.content c.args.disk) (g.D.Disk.content c.in-Err.disk) c.in-Err.ensures.files c.in-Err.ensures.images (stood refl refl) (g.met.D.Disk.imageless c.in-Err.disk) image here)
 
 pub returns-in-Err-clause-status : goal.returns-in-Err-clause-status
 returns-in-Err-clause-status g c = record { is = omega arith; source = refl; sink = refl; store = c.in-Err.ensures.cause }

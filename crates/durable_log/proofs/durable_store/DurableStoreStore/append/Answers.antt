@@ -1,5 +1,5 @@
-use Rattle.durable_log.proofs.FileSteps.{add_ok, append_err, append_ok, others_of}
-use Rattle.durable_log.proofs.ShownFiles.{append_crash}
+use Rattle.durable_log.proofs.steps.FileSteps.{add_ok, append_err, append_ok, others_of}
+use Rattle.durable_log.proofs.records.ShownFiles.{append_crash}
 use Rattle.durable_log.proofs.durable_store.DurableStoreStore.append.Goals as goal
 
 pub returns-clause-ok : goal.returns-clause-ok

@@ -1,4 +1,4 @@
-use Rattle.durable_log.proofs.ShownFiles.{no_more}
+use Rattle.durable_log.proofs.records.ShownFiles.{no_more}
 use Rattle.durable_log.proofs.durable_store.DurableStoreStore.load.Goals as goal
 
 pub returns-clause-crash : goal.returns-clause-crash

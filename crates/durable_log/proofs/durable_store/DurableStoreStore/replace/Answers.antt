@@ -1,5 +1,5 @@
-use Rattle.durable_log.proofs.FileSteps.{add_ok, replace_err, replace_ok, others_of}
-use Rattle.durable_log.proofs.ShownFiles.{replace_crash}
+use Rattle.durable_log.proofs.steps.FileSteps.{add_ok, replace_err, replace_ok, others_of}
+use Rattle.durable_log.proofs.records.ShownFiles.{replace_crash}
 use Rattle.durable_log.proofs.durable_store.DurableStoreStore.replace.Goals as goal
 
 pub returns-clause-ok : goal.returns-clause-ok

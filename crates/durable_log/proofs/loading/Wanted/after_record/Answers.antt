@@ -1,6 +1,6 @@
 use Rattle.std.proofs.Common.{◌≡◌, ◌≢◌, ◌+◌}
 use Rattle.durable_log.specs.code.Loads.{bytes_at}
-use Rattle.durable_log.proofs.LoadSteps.{is_other, is_same, other_told, taken_ok}
+use Rattle.durable_log.proofs.steps.LoadSteps.{is_other, is_same, other_told, taken_ok}
 use Rattle.durable_log.proofs.loading.Wanted.after_record.Goals as goal
 
 pub returns-then-not-branch-clause-told : goal.returns-then-not-branch-clause-told

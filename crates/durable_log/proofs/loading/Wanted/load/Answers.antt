@@ -3,8 +3,8 @@ use Rattle.durable_log.specs.declared.scan.RecordHeader.{RecordHeader}
 use Rattle.durable_log.specs.Ends.{IsFront}
 use Rattle.durable_log.specs.code.Headers.{header_len, whole_header}
 use Rattle.durable_log.specs.code.Loads.{size_of}
-use Rattle.durable_log.proofs.LoadSteps.{LoadedSoFar, front_begins, load_begins, load_ends, load_goes_on}
-use Rattle.durable_log.proofs.Moments.{same_again}
+use Rattle.durable_log.proofs.steps.LoadSteps.{LoadedSoFar, front_begins, load_begins, load_ends, load_goes_on}
+use Rattle.durable_log.proofs.disks.Moments.{same_again}
 use Rattle.durable_log.proofs.loading.Wanted.load.Goals as goal
 
 pub records-init : goal.records-init

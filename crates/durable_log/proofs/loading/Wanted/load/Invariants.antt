@@ -2,7 +2,7 @@ use Rattle.std.proofs.Common.{◌≡◌, ◌-◌, ◌≤◌, ◌^◌, length, If
 use Rattle.durable_log.specs.Disk.{Passes, Same}
 use Rattle.durable_log.specs.Ends.{IsFront}
 use Rattle.durable_log.specs.code.Loads.{FitsLimit, size_of}
-use Rattle.durable_log.proofs.LoadSteps.{LoadedSoFar}
+use Rattle.durable_log.proofs.steps.LoadSteps.{LoadedSoFar}
 use Rattle.durable_log.proofs.loading.Wanted.load.Given as goal
 
 abbrev pub invariant-records : goal.invariant-records

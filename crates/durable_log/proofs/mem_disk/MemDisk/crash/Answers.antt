@@ -1,5 +1,5 @@
 use Rattle.durable_log.specs.MemDisk.{bytes_on}
-use Rattle.durable_log.proofs.MemSteps.{crash_left}
+use Rattle.durable_log.proofs.disks.MemSteps.{crash_left}
 use Rattle.durable_log.proofs.mem_disk.MemDisk.crash.Goals as goal
 
 pub returns-clause-image : goal.returns-clause-image

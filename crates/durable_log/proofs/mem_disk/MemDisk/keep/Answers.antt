@@ -1,7 +1,7 @@
 use Rattle.std.proofs.Common.{◌≡◌, sym, ◌∙◌}
 use Rattle.durable_log.specs.MemDisk.{bytes_on}
 use Rattle.durable_log.specs.declared.mem_disk.Done.TheVariants.{Synced}
-use Rattle.durable_log.proofs.MemSteps.{among_kept}
+use Rattle.durable_log.proofs.disks.MemSteps.{among_kept}
 use Rattle.durable_log.proofs.mem_disk.MemDisk.keep.Goals as goal
 
 pub invariant_of-self : goal.invariant_of-self

@@ -2,7 +2,7 @@ use Rattle.std.proofs.Common.{◌≡◌, ℕ, List, sym, ◌∙◌, subst}
 use Rattle.durable_log.specs.Disk.{Written}
 use Rattle.durable_log.specs.MemDisk.{bytes_on}
 use Rattle.durable_log.specs.declared.mem_disk.Done.TheVariants.{Wrote}
-use Rattle.durable_log.proofs.MemSteps.{among_wrote, noted}
+use Rattle.durable_log.proofs.disks.MemSteps.{among_wrote, noted}
 use Rattle.durable_log.proofs.mem_disk.MemDisk.put.Goals as goal
 
 pub invariant_of-self-2 : goal.invariant_of-self-2

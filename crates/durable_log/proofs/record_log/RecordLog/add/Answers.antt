@@ -1,5 +1,5 @@
 use Rattle.durable_log.specs.code.Ends.{change_by}
-use Rattle.durable_log.proofs.EndSteps.{adds, either, promised}
+use Rattle.durable_log.proofs.steps.EndSteps.{adds, either, promised}
 use Rattle.durable_log.proofs.record_log.RecordLog.add.Goals as goal
 
 pub returns-in_err-end-clause-images : goal.returns-in_err-end-clause-images

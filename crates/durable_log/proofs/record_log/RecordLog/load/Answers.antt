@@ -1,4 +1,4 @@
-use Rattle.durable_log.proofs.EndSteps.{files_same}
+use Rattle.durable_log.proofs.steps.EndSteps.{files_same}
 use Rattle.durable_log.proofs.record_log.RecordLog.load.Goals as goal
 
 pub returns-clause-images : goal.returns-clause-images

@@ -2,7 +2,7 @@ use Rattle.std.proofs.Common.{sym, ap, subst}
 use Rattle.cluster_metadata.specs.Permission.{Permission}
 use Rattle.script_session.specs.Machine.{SessionState}
 use Rattle.script_session.specs.code.StepParts.{IsNextEntry}
-use Rattle.script_session.proofs.StepEndLemmas.{session_kept}
+use Rattle.script_session.proofs.steps.StepEndLemmas.{session_kept}
 use Rattle.script_session.proofs.session.Session.accept.Goals as goal
 
 pub invariant_of-self-in-Ok : goal.invariant_of-self-in-Ok

@@ -1,9 +1,9 @@
 use Rattle.std.proofs.Common.{◌≤◌, length, sym, ap, ◌∙◌, subst, arith}
 use Rattle.catch_up.specs.Replies.{catch_up_reply}
 use Rattle.script_session.specs.Machine.{SessionState, follower_named}
-use Rattle.script_session.proofs.FollowerLemmas.{named_within}
-use Rattle.script_session.proofs.KeptReplyLemmas.{all_from_kept}
-use Rattle.script_session.proofs.ReplyLines.{ask_refused, asked_full, asked_none}
+use Rattle.script_session.proofs.followers.FollowerLemmas.{named_within}
+use Rattle.script_session.proofs.replies.KeptReplyLemmas.{all_from_kept}
+use Rattle.script_session.proofs.replies.ReplyLines.{ask_refused, asked_full, asked_none}
 use Rattle.script_session.proofs.session.Session.ask.Goals as goal
 
 pub returns-in_default : goal.returns-in_default

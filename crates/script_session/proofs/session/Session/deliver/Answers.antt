@@ -3,7 +3,7 @@ use Rattle.epoch_log.specs.Epochs.{entry_at}
 use Rattle.follower_log.proofs.StepsCutShort.{entry_from}
 use Rattle.follower_log.specs.Follower.{FollowerState}
 use Rattle.script_session.specs.Machine.{Reply, SessionState, deliver_to}
-use Rattle.script_session.proofs.HandedLemmas.{IsHanded, IsLogEntry, alone_missing, alone_moved, alone_past, entry_handed, entry_of, has_follower}
+use Rattle.script_session.proofs.followers.HandedLemmas.{IsHanded, IsLogEntry, alone_missing, alone_moved, alone_past, entry_handed, entry_of, has_follower}
 use Rattle.script_session.proofs.session.Session.deliver.Goals as goal
 use Rattle.script_session.proofs.session.Session.deliver.Goals.{After-hand_over, In-Some-entry}
 

@@ -3,9 +3,9 @@ use Rattle.std.proofs.lemmas.List.{take_all}
 use Rattle.follower_log.specs.Follower.{FollowerState}
 use Rattle.script_lang.specs.AnswerTexts.{epoch_text}
 use Rattle.script_session.specs.Machine.{SessionState, reply_numbered}
-use Rattle.script_session.proofs.HandedLemmas.{alone_missing}
-use Rattle.script_session.proofs.KeptReplyLemmas.{numbered_from}
-use Rattle.script_session.proofs.ReplyLines.{give, give_past, give_there, never, only_failed}
+use Rattle.script_session.proofs.followers.HandedLemmas.{alone_missing}
+use Rattle.script_session.proofs.replies.KeptReplyLemmas.{numbered_from}
+use Rattle.script_session.proofs.replies.ReplyLines.{give, give_past, give_there, never, only_failed}
 use Rattle.script_session.proofs.session.Session.give.Goals as goal
 
 pub returns-in_default : goal.returns-in_default

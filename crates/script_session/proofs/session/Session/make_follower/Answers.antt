@@ -1,6 +1,6 @@
 use Rattle.std.proofs.Common.{◌≡◌, is_some, sym, ◌∙◌, arith}
 use Rattle.script_session.specs.Machine.{SessionState, follower_named}
-use Rattle.script_session.proofs.HandedLemmas.{alone_made, alone_unmade, made_follows, reply_full, reply_made, reply_taken}
+use Rattle.script_session.proofs.followers.HandedLemmas.{alone_made, alone_unmade, made_follows, reply_full, reply_made, reply_taken}
 use Rattle.script_session.proofs.session.Session.make_follower.Goals as goal
 use Rattle.script_session.proofs.session.Session.make_follower.Goals.{After-is_taken}
 

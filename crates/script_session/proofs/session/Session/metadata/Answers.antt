@@ -2,7 +2,7 @@ use Rattle.std.proofs.Common.{◌≡◌, length, subst}
 use Rattle.transformations.specs.History.{state_after}
 use Rattle.transformations.specs.Log.{commands_of}
 use Rattle.script_session.specs.Machine.{SessionState}
-use Rattle.script_session.proofs.KeptImageLemmas.{at_end}
+use Rattle.script_session.proofs.steps.KeptImageLemmas.{at_end}
 use Rattle.script_session.proofs.session.Session.metadata.Goals as goal
 
 pub returns : goal.returns

@@ -1,10 +1,11 @@
-use Rattle.std.proofs.Common.{◌≡◌, ℕ, ◌≤◌, List, length, sym, ◌∙◌, ap, arith}
+use Rattle.std.proofs.Common.{◌≡◌, ℕ, ◌≤◌, List, length, sym, ◌∙◌, ap, subst, arith}
 use Rattle.transformations.specs.History.{state_after}
 use Rattle.transformations.specs.Log.{commands_of}
-use Rattle.follower_log.proofs.StepsCutShort.{image_from}
-use Rattle.follower_log.specs.Follower.{FollowerState}
+use Rattle.follower_log.proofs.ShowsLemmas.{as_valid}
+use Rattle.follower_log.proofs.StepsCutShort.{valid_from}
+use Rattle.follower_log.specs.Follower.{FollowerState, Performs}
 use Rattle.script_session.specs.Machine.{Reply, SessionState, image_at, snapshot_to}
-use Rattle.script_session.proofs.HandedLemmas.{IsHanded, alone_missing, alone_moved, alone_past, alone_unhanded, image_come, image_handed, image_of_log, image_past}
+use Rattle.script_session.proofs.followers.HandedLemmas.{IsHanded, alone_missing, alone_moved, alone_past, alone_unhanded, image_come, image_handed, image_of_log, image_past}
 use Rattle.script_session.proofs.session.Session.snapshot.Goals as goal
 use Rattle.script_session.proofs.session.Session.snapshot.Goals.{After-snapshot}
 
@@ -54,5 +55,6 @@ returns c =
     let there = (goal.at.returns c).After-snapshot in
     record {
       steps = alone_moved (reply c.args.name.now c.args.epoch) s _ c.args.name.now _ _ c.answer_handed.result c.self.view_is c.in-Some.place f _ _ c.snapshot.result (handed there)
-          (ap (snapshot_to s c.args.name.now f.follower) (image_come s.log c.args.epoch c.in_ok-image.image (within there) (is_state there))) (image_from f.follower c.in_ok-image.image) c.snapshot.ensures.step c.answer_handed.ensures;
+          (ap (snapshot_to s c.args.name.now f.follower) (image_come s.log c.args.epoch c.in_ok-image.image (within there) (is_state there))) (valid_from f.follower c.in_ok-image.image)
+          (subst (λ h. Performs f.follower h c.snapshot.result c.snapshot.new.self) (as_valid c.self.inside.log f.follower c.in_ok-image.image c.self.invariant.1 (image_of_log c.self.inside.log c.args.epoch c.in_ok-image.image (within there) (is_state there))) c.snapshot.ensures.step) c.answer_handed.ensures;
     }

@@ -2,8 +2,8 @@ use Rattle.std.proofs.Common.{subst}
 use Rattle.script_session.specs.Machine.{SessionState}
 use Rattle.script_session.specs.code.StepParts.{AllFollow}
 use Rattle.script_session.specs.declared.fault.StepFault.TheVariants as fault
-use Rattle.script_session.proofs.AnswersLemmas.{at_fault, reply-said}
-use Rattle.script_session.proofs.HandedLemmas.{stops_unread}
+use Rattle.script_session.proofs.answers.AnswersLemmas.{at_fault, reply-said}
+use Rattle.script_session.proofs.followers.HandedLemmas.{stops_unread}
 use Rattle.script_session.proofs.session.Session.step.Goals as goal
 
 pub returns-clause-text : goal.returns-clause-text

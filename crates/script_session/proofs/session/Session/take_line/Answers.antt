@@ -1,5 +1,5 @@
 use Rattle.std.proofs.Common.{refl}
-use Rattle.script_session.proofs.StepEndLemmas.{next_entry-bad, next_entry-read}
+use Rattle.script_session.proofs.steps.StepEndLemmas.{next_entry-bad, next_entry-read}
 use Rattle.script_session.proofs.session.Session.take_line.Goals as goal
 
 pub returns-in-Ok-clause-ok : goal.returns-in-Ok-clause-ok

@@ -3,7 +3,7 @@ use Rattle.std.specs.List.{Contains}
 use Rattle.transformations.specs.declared.entry.Entry.{Entry}
 use Rattle.catch_up_laws.proofs.PartLemmas.{part_of}
 use Rattle.catch_up_laws.specs.Given.{given_entries, given_reply}
-use Rattle.script_session.proofs.WayLemmas.{hands_err, image_stops, image_then, ok_of}
+use Rattle.script_session.proofs.followers.WayLemmas.{hands_err, image_stops, image_then, ok_of}
 use Rattle.script_session.specs.code.StepParts.{Hands}
 use Rattle.script_session.proofs.session.handing_over.give_reply.Goals as goal
 

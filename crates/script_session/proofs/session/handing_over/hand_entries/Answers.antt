@@ -1,5 +1,5 @@
 use Rattle.catch_up_laws.specs.Given.{given_entries}
-use Rattle.script_session.proofs.WayLemmas.{hands_err, ok_of, one_more, stops_at}
+use Rattle.script_session.proofs.followers.WayLemmas.{hands_err, ok_of, one_more, stops_at}
 use Rattle.script_session.proofs.session.handing_over.hand_entries.Goals as goal
 
 pub returns-in_err-hand_next : goal.returns-in_err-hand_next

@@ -1,4 +1,4 @@
-use Rattle.script_session.proofs.WayLemmas.{Handing}
+use Rattle.script_session.proofs.followers.WayLemmas.{Handing}
 use Rattle.script_session.proofs.session.handing_over.hand_entries.Given as goal
 
 abbrev pub invariant-loop-entry : goal.invariant-loop-entry

@@ -1,5 +1,5 @@
 use Rattle.follower_log.specs.Follower.{hand_entry}
-use Rattle.script_session.proofs.WayLemmas.{entry_fits, entry_of_log, entry_way, hands_err, hands_ok}
+use Rattle.script_session.proofs.followers.WayLemmas.{entry_fits, entry_of_log, entry_way, hands_err, hands_ok}
 use Rattle.script_session.proofs.session.handing_over.hand_next.Goals as goal
 
 pub hand_over-requires-clause-formed : goal.hand_over-requires-clause-formed

@@ -3,7 +3,7 @@ use Rattle.follower_log.proofs.ShowsLemmas.{entry_shows}
 use Rattle.follower_log.specs.Follower.{Performs, hand_entry}
 use Rattle.follower_log.specs.Prefix.{StandsFor, Taken}
 use Rattle.follower_log.specs.declared.took.Took.TheVariants.{At}
-use Rattle.script_session.proofs.KeptImageLemmas.{at_end}
+use Rattle.script_session.proofs.steps.KeptImageLemmas.{at_end}
 use Rattle.script_session.proofs.session.handing_over.hand_over.Goals as goal
 
 -- a follower that came to the end performed the step

@@ -5,7 +5,7 @@ use Rattle.transformations.specs.History.{empty_image, image_after}
 use Rattle.transformations.specs.Log.{commands_of}
 use Rattle.snapshot_store.specs.Images.{epoch_of}
 use Rattle.script_session.specs.code.KeptImages.{AreKept}
-use Rattle.script_session.proofs.KeptImageLemmas.{above_last, kept_already, kept_between, kept_with}
+use Rattle.script_session.proofs.steps.KeptImageLemmas.{above_last, kept_already, kept_between, kept_with}
 use Rattle.script_session.proofs.session.kept_images.keep_image.Goals as goal
 use Rattle.script_session.proofs.session.kept_images.keep_image.Goals.{then-epoch-ne0-via-then-epoch-ne0, then-epoch-ne0-via-else-epoch-ne0+then-epoch-last_epoch}
 

@@ -1,5 +1,5 @@
 use Rattle.std.proofs.Common.{◌∙◌}
-use Rattle.script_session.proofs.StepEndLemmas.{gained_line}
+use Rattle.script_session.proofs.steps.StepEndLemmas.{gained_line}
 use Rattle.script_session.proofs.session.log_entries.keep_in_file.Goals as goal
 
 pub returns-in-Ok-clause-file : goal.returns-in-Ok-clause-file

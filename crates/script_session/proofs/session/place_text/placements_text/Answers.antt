@@ -2,7 +2,7 @@ use Rattle.std.proofs.Common.{◌≡◌, ◌++◌, OnOk, Some, option_map}
 use Rattle.transformations.specs.declared.keyspace.KeyspaceRow.{KeyspaceRow}
 use Rattle.placement_maps.specs.Maps.{placement_rows}
 use Rattle.placement_maps.specs.Served.{keyspace_of}
-use Rattle.script_session.proofs.KeyspacePlacements.{place_answered}
+use Rattle.script_session.proofs.answers.KeyspacePlacements.{place_answered}
 use Rattle.script_session.proofs.session.place_text.placements_text.Goals as goal
 
 pub returns-in-Some-clause-added : goal.returns-in-Some-clause-added

@@ -2,7 +2,7 @@ use Rattle.std.proofs.Common.{◌≡◌, ◌++◌, ℕ, List, IfSome, OnOk, ap, 
 use Rattle.cluster_terms.specs.Quorum.{Sets, datacenter_of, local_sets, read_need, write_need}
 use Rattle.cluster_terms.specs.declared.node.NodeRow.{NodeRow}
 use Rattle.node_directory.specs.Directory.{Registry}
-use Rattle.script_session.proofs.LocalLemmas.{local_shown}
+use Rattle.script_session.proofs.answers.LocalLemmas.{local_shown}
 use Rattle.script_session.proofs.session.quorum_text.local_sets_text.Goals as goal
 
 -- the needs are those of the rows of the directory, which are the image's nodes

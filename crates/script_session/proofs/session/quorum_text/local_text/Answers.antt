@@ -1,7 +1,7 @@
 use Rattle.std.proofs.Common.{◌≡◌, ◌++◌, OnOk, Some, option_map, sym}
 use Rattle.transformations.specs.declared.keyspace.KeyspaceRow.{KeyspaceRow}
 use Rattle.placement_maps.specs.Served.{keyspace_of, served}
-use Rattle.script_session.proofs.LocalLemmas.{local_answered}
+use Rattle.script_session.proofs.answers.LocalLemmas.{local_answered}
 use Rattle.script_session.proofs.session.quorum_text.local_text.Goals as goal
 
 pub returns-clause-added : goal.returns-clause-added

@@ -4,7 +4,7 @@ use Rattle.transformations.specs.declared.image.Image.{Image}
 use Rattle.transformations.specs.declared.keyspace.KeyspaceRow.{KeyspaceRow}
 use Rattle.placement_maps.specs.Served.{keyspace_of}
 use Rattle.script_session.specs.Machine.{placements}
-use Rattle.script_session.proofs.KeyspacePlacements.{places_answered}
+use Rattle.script_session.proofs.answers.KeyspacePlacements.{places_answered}
 use Rattle.tcm_session.proofs.files.report.places_text.Goals as goal
 
 pub returns : goal.returns

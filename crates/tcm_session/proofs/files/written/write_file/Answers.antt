@@ -1,4 +1,4 @@
-use Rattle.script_session.proofs.GainLemmas.{replaced_is}
+use Rattle.script_session.proofs.steps.GainLemmas.{replaced_is}
 use Rattle.tcm_session.proofs.files.written.write_file.Goals as goal
 
 pub returns-in-Ok-clause-written : goal.returns-in-Ok-clause-written

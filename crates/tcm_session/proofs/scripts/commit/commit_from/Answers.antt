@@ -1,11 +1,10 @@
-use Rattle.std.proofs.Common.{Some, refl, sym, subst, true≢false}
+use Rattle.std.proofs.Common.{refl, sym, subst, true≢false}
 use Rattle.std.specs.FinMap as map
 use Rattle.tcm_edges.proofs.ShownLemmas.{left_after, left_same}
 use Rattle.script_session.specs.LogFiles.{base_of}
-use Rattle.tcm_session.specs.Request.{CommitTo}
 use Rattle.tcm_session.specs.code.Loading.{IsUnopened}
 use Rattle.tcm_session.proofs.log_files.HeldFiles.{held_written}
-use Rattle.tcm_session.proofs.runs.LeftLemmas.{files_same, good_reads, left_script, left_settled}
+use Rattle.tcm_session.proofs.runs.LeftLemmas.{good_reads, left_script, left_settled, log_same}
 use Rattle.tcm_session.proofs.runs.RunCauses.{not_source}
 use Rattle.tcm_session.proofs.runs.RunLemmas.{final_end, memory_not_source, runs_early, runs_left, runs_refused, runs_resumed, runs_unread}
 use Rattle.tcm_session.proofs.scripts.commit.commit_from.Goals as goal
@@ -32,9 +31,9 @@ returns-in-Err-Refused-clause-runs g c = λ left may all held.
     (runs_refused _ _ c.args.input.now _ _ _ c.args.log.now.name.now c.args.log.now.cluster all c.args.file c.in-Err-Refused.refused _ _
     (subst (IsUnopened _) c.in-Err-Refused.field-0-is (rw c.as_slice.ensures at c.in-Err-Refused.ensures.fault))
     (runs_unread 3 _ all _ _ c.args.input.now _ _ _ _ _ refl refl c.refuse_log.result (final_end 3 refl).1 held
-    c.refuse_log.ensures.writes c.refuse_log.ensures.status (λ printed ended. files_same (Some (CommitTo _ _)) _ _ _ printed ended refl (λ reads. absurd (true≢false (sym reads))))))
+    c.refuse_log.ensures.writes c.refuse_log.ensures.status (λ printed ended. log_same _ _ _ _ _ printed ended refl (λ reads. absurd (true≢false (sym reads))))))
 
 pub returns-clause-runs : goal.returns-clause-runs
 returns-clause-runs g c = λ left may all held.
     runs_early _ _ c.args.input.now _ _ left _ memory_not_source
-    (λ given ended. files_same (Some (CommitTo _ _)) _ left _ _ ended (left_same g.D.Store.files g.D.Store.shows c.args.store.now c.args.store.now left refl may) (λ _. refl))
+    (λ given ended. log_same _ _ _ left _ _ ended (left_same g.D.Store.files g.D.Store.shows c.args.store.now c.args.store.now left refl may) (λ _. refl))

@@ -1,6 +1,6 @@
 use Rattle.std.proofs.Common.{length-take, refl, arith}
 use Rattle.tcm_edges.proofs.ShownLemmas.{left_same}
-use Rattle.script_session.proofs.AnswersLemmas.{at_fault}
+use Rattle.script_session.proofs.answers.AnswersLemmas.{at_fault}
 use Rattle.tcm_session.proofs.inputs.ReadLemmas.{StopsAt-none, StopsAt-piece, StopsAt-told}
 use Rattle.tcm_session.proofs.scripts.pieces.read_piece.Goals as goal
 

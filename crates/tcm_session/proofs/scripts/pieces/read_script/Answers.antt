@@ -3,7 +3,7 @@ use Rattle.std.proofs.KnownBytes.{Keeps-refl}
 use Rattle.tcm_edges.proofs.ShownLemmas.{left_after, left_only, left_same}
 use Rattle.tcm_session.specs.Outcome.{input_limit}
 use Rattle.tcm_session.proofs.runs.RunCauses.{counts_passed}
-use Rattle.script_session.proofs.AnswersLemmas.{at_fault}
+use Rattle.script_session.proofs.answers.AnswersLemmas.{at_fault}
 use Rattle.tcm_session.proofs.inputs.ReadLemmas.{ReadsSoFar-begun, ReadsSoFar-more, ReadsSoFar-none, ReadsSoFar-none_more, ReadsSoFar-stop, ReadsTo-end, StopsAt-none, StopsAt-told}
 use Rattle.tcm_session.proofs.scripts.pieces.read_script.Goals as goal
 

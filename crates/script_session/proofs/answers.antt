@@ -1,0 +1,4 @@
+-- What lines are answered.
+pub mod AnswersLemmas
+pub mod KeyspacePlacements
+pub mod LocalLemmas
