@@ -34,9 +34,11 @@ use crate::changes::next_image::empty_image;
 use crate::image_fault::ImageFault;
 use crate::image_numbers::differs_in_numbers;
 use crate::metadata_parts::parts_of;
-use crate::movements::running::{Running, close_all, find_running};
-use crate::permit::{Permit, first_refusal, grown_to, room_for};
-use cluster_terms::{Memory, Name, NodeId, Replication, Room, Steps, Token, TryCopy};
+use crate::movements::in_flight::InFlight;
+use crate::movements::running::{close_all, find_running};
+use crate::movements::spare::Spare;
+use crate::permit::{Permit, first_refusal, grown_to};
+use cluster_terms::{Memory, Name, NodeId, Replication, Steps, Token, TryCopy};
 use locked_ranges::LockTable;
 use node_directory::Directory;
 use node_sets::NodeSet;
@@ -70,8 +72,7 @@ pub struct Metadata {
     image: Image,
     directory: Directory,
     maps: MapBook,
-    running: Vec<Running>,
-    locks: LockTable,
+    in_flight: InFlight,
 }
 
 impl Model for Metadata {
@@ -82,7 +83,8 @@ impl Model for Metadata {
 
     ghost view = { λ m. m.image };
 
-    ghost invariant = { λ m. IsMetadata m.image m.directory m.maps m.running.items m.locks };
+    ghost invariant = { λ m. IsMetadata m.image m.directory m.maps m.in_flight.running.items
+        m.in_flight.locks };
 }
 
 impl Metadata {
@@ -101,8 +103,7 @@ impl Metadata {
             image,
             directory,
             maps: MapBook::empty(alloc),
-            running: Vec::new(alloc),
-            locks: LockTable::empty(alloc),
+            in_flight: InFlight::empty(alloc),
         })
     }
 
@@ -129,13 +130,12 @@ impl Metadata {
         ensures bad { MatchResult result (λ _. bad_of image ≡ None) (λ e. IsCause (bad_of image) e.1) }
     {
         match parts_of(alloc, &image) {
-            Ok((directory, maps, running, locks)) => Ok(Metadata {
+            Ok((directory, maps, in_flight)) => Ok(Metadata {
                 alloc,
                 image,
                 directory,
                 maps,
-                running,
-                locks,
+                in_flight,
             }),
             Err(fault) => Err((image, fault)),
         }
@@ -193,8 +193,7 @@ impl Metadata {
             image,
             directory,
             maps,
-            running: Vec::new(self.alloc),
-            locks: LockTable::empty(self.alloc),
+            in_flight: InFlight::empty(self.alloc),
         }))
     }
 
@@ -302,14 +301,14 @@ impl Metadata {
         if let Some(refusal) = first_refusal(alloc, image, directory, cmd)? {
             return Err(AdmitFault::Refused(refusal));
         }
-        let change = change_of(alloc, image, directory, &self.locks, cmd, walks)?;
-        let running = self.running.as_slice();
+        let InFlight { running, locks } = &self.in_flight;
+        let change = change_of(alloc, image, directory, locks, cmd, walks)?;
+        let running = running.as_slice();
         let maps = maps_for(alloc, image, directory, &self.maps, running, &change)?;
-        let count = grown_to(&change);
+        let spare = Spare::for_movements(alloc, grown_to(&change))?;
         Ok(Permit {
             change,
-            lock: Room::for_items(alloc, count)?,
-            room: room_for(alloc, count)?,
+            spare,
             maps,
             image: Snapshot::of(image),
             command: Snapshot::of(cmd),
@@ -374,16 +373,14 @@ impl Metadata {
     {
         let Permit {
             change,
-            room,
-            lock,
+            spare,
             maps,
             image: _,
             command: _,
         } = permit;
         exchange(&mut self.maps, maps);
         let (image, directory) = (&mut self.image, &mut self.directory);
-        let (running, locks) = (&mut self.running, &mut self.locks);
-        make(image, directory, running, locks, change, room, lock);
+        make(image, directory, &mut self.in_flight, change, spare);
         self.image.epoch
     }
 
@@ -493,7 +490,7 @@ impl Metadata {
         ensures nodes { map (λ row. row.node) result.now ≡ map (λ s. s.node) self.now.sequences }
         ensures locks { AreLocksOf self.now self.now.sequences result.now }
     {
-        &self.locks
+        &self.in_flight.locks
     }
 
     /// The plan of the movement of a node. Returns `None` if and only if the node has no movement. The plan was made
@@ -515,7 +512,7 @@ impl Metadata {
         // replication of its keyspaces. Guards: old_deltas_stay.edit, renewals.rt, calls/plans.rt, tried.
         ensures deltas { IfSome result (λ plan. HasDeltas self.now plan.now) }
     {
-        match find_running(self.running.as_slice(), node) {
+        match find_running(self.in_flight.running.as_slice(), node) {
             Some(movement) => Some(movement.plan()),
             None => None,
         }
@@ -529,9 +526,8 @@ impl Metadata {
             image: _,
             directory: _,
             maps: _,
-            running,
-            locks,
+            in_flight,
         } = self;
-        close_all(running, locks);
+        close_all(in_flight);
     }
 }

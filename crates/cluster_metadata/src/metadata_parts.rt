@@ -11,9 +11,9 @@ ghost use Rattle.cluster_metadata.specs.ImageFaults.{IsCause};
 ghost use Rattle.placement_maps.specs.code.ShownMaps.{AreMaps};
 
 use crate::image_fault::ImageFault;
-use crate::movements::running::{Running, close_all, resume_all};
+use crate::movements::in_flight::InFlight;
+use crate::movements::running::{close_all, resume_all};
 use cluster_terms::Memory;
-use locked_ranges::LockTable;
 use node_directory::Directory;
 use placement_maps::{MapBook, maps_of};
 use std::alloc::Global;
@@ -59,21 +59,19 @@ fn maps_in(alloc: Global, image: &Image, directory: &Directory) -> Result<MapBoo
 /// The parts of the metadata of an image beside it: the directory, the placement maps, the values of the movements in
 /// flight, each with its plan, and the table of their locks. Fails with `Bad` if the image isn't valid, and with
 /// `Memory` if memory runs out.
-pub fn parts_of(
-    alloc: Global,
-    image: &Image,
-) -> Result<(Directory, MapBook, Vec<Running>, LockTable), ImageFault>
-    ensures held { IfOk result (λ parts. IsMetadata image.now parts.0 parts.1 parts.2.items parts.3) }
+pub fn parts_of(alloc: Global, image: &Image) -> Result<(Directory, MapBook, InFlight), ImageFault>
+    ensures held { IfOk result (λ parts. IsMetadata image.now parts.0 parts.1 parts.2.running.items
+        parts.2.locks) }
     ensures bad { MatchResult result (λ _. bad_of image.now ≡ None) (λ e. IsCause (bad_of image.now) e) }
 {
     check_lists(alloc, image)?;
     have_replications(image.keyspaces.as_slice());
     let directory = directory_for(alloc, image)?;
-    let (running, locks) = resume_all(alloc, image, &directory)?;
+    let in_flight = resume_all(alloc, image, &directory)?;
     match maps_in(alloc, image, &directory) {
-        Ok(maps) => Ok((directory, maps, running, locks)),
+        Ok(maps) => Ok((directory, maps, in_flight)),
         Err(_memory) => {
-            close_all(running, locks);
+            close_all(in_flight);
             Err(ImageFault::Memory)
         }
     }

@@ -1,17 +1,16 @@
-ghost use Rattle.std.specs.Prelude.{◌≡◌, ◌≤◌, IfOk, vec_capacity, vec_len};
+ghost use Rattle.std.specs.Prelude.{◌≡◌, IfOk};
 ghost use Rattle.transformations.specs.Refusals.{early_refusal_of};
 ghost use Rattle.transformations.specs.Valid.{IsSound};
 ghost use Rattle.cluster_metadata.specs.code.Change.{grown_to};
 
 use crate::changes::change::Change;
-use crate::movements::running::Running;
-use cluster_terms::{Memory, Room};
+use crate::movements::spare::Spare;
+use cluster_terms::Memory;
 use node_directory::Directory;
 use placement_maps::MapChange;
 use std::alloc::Global;
 use std::marker::Model;
 use std::snapshot::Snapshot;
-use token_ring::LockRow;
 use transformations::{Command, Image, Refusal, early_refusal, register_refusal};
 
 /// How many movements there are after a change that begins one, and 0 for any other change.
@@ -22,13 +21,6 @@ pub fn grown_to(change: &Change) -> usize
         Change::Begun { sequences, .. } => sequences.as_slice().len(),
         _ => 0,
     }
-}
-
-/// An empty vector with room for the values of this many movements.
-pub fn room_for(alloc: Global, count: usize) -> Result<Vec<Running>, Memory>
-    ensures { IfOk result (λ room. (vec_len room ≡ 0) × (count ≤ vec_capacity room)) }
-{
-    Ok(Vec::with_capacity(alloc, count)?)
 }
 
 /// The first refusal of a command, apart from `Locked`. The name of a new node is looked up in the directory, which
@@ -57,8 +49,7 @@ pub fn first_refusal(
 /// The value must be consumed once: `Metadata::enact` carries out the command, and `decline` gives the permit up.
 pub struct Permit {
     pub(crate) change: Change,
-    pub(crate) room: Vec<Running>,
-    pub(crate) lock: Room<LockRow>,
+    pub(crate) spare: Spare,
     pub(crate) maps: MapChange,
     pub(crate) image: Snapshot<Image>,
     pub(crate) command: Snapshot<Command>,
@@ -75,10 +66,10 @@ impl Model for Permit {
 
     ghost view = { λ p. record { image = p.image.value; command = p.command.value } };
 
-    ghost invariant = { λ p. IsPermitted p.image.value p.command.value p.change × (vec_len p.room ≡ 0)
-        × (grown_to p.change ≤ vec_capacity p.room)
+    ghost invariant = { λ p. IsPermitted p.image.value p.command.value p.change × (vec_len p.spare.room ≡ 0)
+        × (grown_to p.change ≤ vec_capacity p.spare.room)
         × BringsMaps p.image.value p.change p.maps
-        × (grown_to p.change ≤ p.lock) };
+        × (grown_to p.change ≤ p.spare.lock) };
 }
 
 impl Permit {
@@ -86,12 +77,11 @@ impl Permit {
     pub fn decline(self) {
         let Permit {
             change: _,
-            room,
-            lock: _,
+            spare,
             maps: _,
             image: _,
             command: _,
         } = self;
-        room.destroy_empty();
+        spare.destroy();
     }
 }

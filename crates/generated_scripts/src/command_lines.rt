@@ -14,23 +14,25 @@ fn commit_text(id: u64, out: &mut ByteText) -> Result<(), Memory>
     out.extend(b" ")
 }
 
-/// Adds a commit that registers a node, named by a letter and a number.
-pub fn register_line(
-    id: u64,
-    letter: &[u8],
-    number: u64,
-    dc: u64,
-    rack: u64,
-    out: &mut ByteText,
-) -> Result<(), Memory>
-    ensures { OnOk result (out.new
-        ≡ out.old ++ spec.commit_line id (spec.register_words letter.now number dc rack)) }
+/// A node to register. Its name is a letter and a number; the datacenters are dc1 and dc2, and racks r1, r2 and so on.
+#[derive(Debug, Drop)]
+pub struct NewNode<'a> {
+    pub letter: &'a [u8],
+    pub number: u64,
+    pub dc: u64,
+    pub rack: u64,
+}
+
+/// Adds a commit that registers a node.
+pub fn register_line(id: u64, node: &NewNode<'_>, out: &mut ByteText) -> Result<(), Memory>
+    ensures { OnOk result (out.new ≡ out.old ++ spec.commit_line id
+        (spec.register_words node.now.letter.now node.now.number node.now.dc node.now.rack)) }
 {
     commit_text(id, out)?;
     out.extend(b"register ")?;
-    labelled(letter, &number, out)?;
-    labelled(b" dc", &dc, out)?;
-    labelled(b" r", &rack, out)
+    labelled(node.letter, &node.number, out)?;
+    labelled(b" dc", &node.dc, out)?;
+    labelled(b" r", &node.rack, out)
 }
 
 /// Adds a commit whose command is a word and a node.

@@ -4,7 +4,7 @@ ghost use Rattle.std.specs.Prelude.{◌≡◌, ◌-◌, ◌++◌, ◌∷◌, [],
 ghost use Rattle.generated_scripts.specs.Generated as spec;
 ghost use Rattle.generated_scripts.specs.GeneratedLines as lines;
 
-use crate::command_lines::{node_line, register_line, token_line};
+use crate::command_lines::{NewNode, node_line, register_line, token_line};
 use crate::kinds::{AnswerKind, kind_of};
 use cluster_terms::{ByteText, Memory, SmallList, Token};
 use script_lang::labelled;
@@ -58,21 +58,13 @@ impl Generation {
         }
     }
 
-    /// Commits the register of a node, named by a letter and a number.
-    pub fn register(
-        &mut self,
-        alloc: Global,
-        id: u64,
-        letter: &[u8],
-        number: u64,
-        dc: u64,
-        rack: u64,
-    ) -> Result<(), Memory>
-        ensures { OnOk result (self.new ≡ spec.after_line self.old
-            (lines.commit_line id (lines.register_words letter.now number dc rack))) }
+    /// Commits the register of a node.
+    pub fn register(&mut self, alloc: Global, id: u64, node: &NewNode<'_>) -> Result<(), Memory>
+        ensures { OnOk result (self.new ≡ spec.after_line self.old (lines.commit_line id
+            (lines.register_words node.now.letter.now node.now.number node.now.dc node.now.rack))) }
     {
         let mut line = ByteText::with_room(alloc, TEXT_ROOM)?;
-        register_line(id, letter, number, dc, rack, &mut line)?;
+        register_line(id, node, &mut line)?;
         self.answer(alloc, line.as_slice())
     }
 

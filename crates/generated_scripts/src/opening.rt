@@ -4,6 +4,7 @@ ghost use Rattle.std.specs.Prelude.{◌≡◌, ◌≤◌, OnOk};
 ghost use Rattle.generated_scripts.specs.Generated.{after_line, after_lines};
 ghost use Rattle.generated_scripts.specs.GeneratedLines as spec;
 
+use crate::command_lines::NewNode;
 use crate::generation::Generation;
 use cluster_terms::{Memory, Token};
 use std::alloc::Global;
@@ -15,7 +16,13 @@ fn register_node(generation: &mut Generation, alloc: Global, i: u64) -> Result<(
     requires last { i ≤ 24 }
     ensures { OnOk result (generation.new ≡ after_line generation.old (spec.register_line i)) }
 {
-    generation.register(alloc, i, b"n", i, 2 - i % 2, (i - 1) / 2 % 3 + 1)
+    let node = NewNode {
+        letter: b"n",
+        number: i,
+        dc: 2 - i % 2,
+        rack: (i - 1) / 2 % 3 + 1,
+    };
+    generation.register(alloc, i, &node)
 }
 
 /// Registers the nodes 1 to `count`.

@@ -4,6 +4,7 @@ ghost use Rattle.std.specs.Prelude.{◌≡◌, ◌<◌, ◌≤◌, ◌^◌, leng
 ghost use Rattle.generated_scripts.specs.Generated.{after_lines};
 ghost use Rattle.generated_scripts.specs.GeneratedLines as spec;
 
+use crate::command_lines::NewNode;
 use crate::draw::{drawn, drawn_token};
 use crate::generation::Generation;
 use cluster_terms::Memory;
@@ -54,8 +55,20 @@ fn commit_round(generation: &mut Generation, alloc: Global, s: u64, j: u64) -> R
     let node = 23 + 2 * j;
     let first = drawn(s);
     let second = drawn(first);
-    generation.register(alloc, id, b"a", j, 1, 1)?;
-    generation.register(alloc, id + 1, b"b", j, 2, 2)?;
+    let first_node = NewNode {
+        letter: b"a",
+        number: j,
+        dc: 1,
+        rack: 1,
+    };
+    let second_node = NewNode {
+        letter: b"b",
+        number: j,
+        dc: 2,
+        rack: 2,
+    };
+    generation.register(alloc, id, &first_node)?;
+    generation.register(alloc, id + 1, &second_node)?;
     generation.commit_token(alloc, id + 2, b"prepare-join", node, drawn_token(first))?;
     generation.commit_token(
         alloc,

@@ -1,5 +1,5 @@
 -- Runs of rows that a delta leaves as they are.
-use Rattle.std.proofs.Common.{◌≡◌, ℕ, zero, suc, ◌+◌, ◌-◌, ◌<◌, ◌≤◌, ℤ, ◌≤ℤ◌, int_le, false, List, [], ◌∷◌, ◌++◌, length, take, drop, get_or, refl, sym, ap, ◌∙◌, arith}
+use Rattle.std.proofs.Common.{◌≡◌, ℕ, zero, suc, ◌+◌, ◌-◌, ◌<◌, ◌≤◌, ℤ, ◌≤ℤ◌, int_le, false, List, [], ◌∷◌, ◌++◌, length, take, drop, get_or, Option, refl, sym, ap, ◌∙◌, arith}
 use Rattle.std.specs.List.{AllByRecursion}
 use Rattle.std.proofs.lemmas.Int.{ints}
 use Rattle.std.proofs.lemmas.List.{append_assoc, length-take-le, map-append}
@@ -13,9 +13,10 @@ use Rattle.range_placements.specs.code.Changing.{row_changed}
 use Rattle.range_placements.specs.Exchanging.{with_changes}
 use Rattle.range_placements.specs.Placements.{IsPlacementMap}
 use Rattle.range_placements.specs.declared.placement_row.PlacementRow.{PlacementRow}
+use Rattle.range_placements.specs.declared.row_changes.NewNodes.{NewNodes}
 use Rattle.range_placements.specs.declared.row_changes.RowChange.{RowChange}
 use Rattle.placement_maps.proofs.TurnedSets.{turned_none}
-use Rattle.placement_maps.specs.code.Turns.{AddsTurned, AreTurned, EndUpTo, IsWithin, Keeps, turned, turned_rows}
+use Rattle.placement_maps.specs.code.Turns.{AddsNodes, AreTurned, EndUpTo, IsWithin, Keeps, turned, turned_rows, with_turned}
 use Rattle.placement_maps.specs.declared.turn.Turn.{Turn}
 
 -- ---- where the rows of a run end
@@ -86,14 +87,16 @@ module _ (turn : Turn) (delta : List DeltaRow) where
         ∙ ap (λ l. turned_rows turn l delta ++ rest) (sym whole)
 
     -- and one more row gets its new sets
-    pub row_turned : (row : PlacementRow) (after : List RowChange) → at < length rows → row ≡ get_or rows at row → AddsTurned turn delta at row changes after → AreTurned turn delta rows (suc at) after
-    row_turned row after bound is adds rest =
+    pub row_turned : (row : PlacementRow) (nodes : Option NewNodes) (after : List RowChange) → at < length rows → row ≡ get_or rows at row → with_turned nodes row ≡ row_changed (turned turn) delta row
+        → AddsNodes nodes at changes after → AreTurned turn delta rows (suc at) after
+    row_turned row nodes after bound is sets adds rest =
         let before = take at rows in
         let new = row_changed (turned turn) delta row in
         let whole : take (suc at) rows ≡ before ++ row ∷ [] = take-suc rows at row bound ∙ ap (λ r. before ++ r ∷ []) (sym is) in
         ap (λ l. with_changes after (l ++ rest)) whole
         ∙ ap (with_changes after) (append_assoc before (row ∷ []) rest)
-        ∙ adds before rest (length-take-le at rows (omega (arith, bound)))
+        ∙ adds row before rest (length-take-le at rows (omega (arith, bound)))
+        ∙ ap (λ (r : PlacementRow). with_changes changes (before ++ r ∷ rest)) sets
         ∙ so_far (new ∷ rest)
         ∙ sym (append_assoc (turned_rows turn before delta) (new ∷ []) rest)
         ∙ ap (λ l. l ++ rest) (sym (turned_both before (row ∷ [])))

@@ -22,18 +22,18 @@ use range_placements::{
 };
 use std::alloc::Global;
 
-/// A row with this right end and these reads and writes, changed by the nodes gained and the nodes lost.
+/// A row with this right end and the sets of a row, changed by the nodes gained and the nodes lost.
 fn turned_sets(
     turn: Turn,
     right: RightEnd,
-    reads: &NodeSet,
-    writes: &NodeSet,
+    row: &PlacementRow,
     gained: &NodeSet,
     lost: &NodeSet,
 ) -> Result<PlacementRow, Memory>
-    ensures { IfOk result (λ row. row
-        ≡ spec.row_to right (spec.turned turn (reads.now, writes.now) (gained.now, lost.now))) }
+    ensures { IfOk result (λ new. new
+        ≡ spec.row_to right (spec.turned turn (row.now.reads, row.now.writes) (gained.now, lost.now))) }
 {
+    let PlacementRow { reads, writes, .. } = row;
     match turn {
         Turn::Keep => Ok(PlacementRow {
             right,
@@ -76,7 +76,7 @@ fn turned_row(
         (spec.turned turn (row.now.reads, row.now.writes) (delta_at delta.now (last_token right.now)))) }
 {
     let (gained, lost) = delta.at_by_hint(right.last_token(), hint);
-    turned_sets(turn, *right, &row.reads, &row.writes, gained, lost)
+    turned_sets(turn, *right, row, gained, lost)
 }
 
 /// The new nodes of a row, by the nodes gained and the nodes lost. Returns `None` if the turn keeps the sets.
@@ -99,23 +99,22 @@ fn turned_nodes(
     Ok(Some(nodes))
 }
 
-/// Adds the new nodes of a row, by the nodes gained and the nodes lost.
-fn push_turned(
-    changes: &mut RowChanges,
-    turn: Turn,
-    at: usize,
-    row: &PlacementRow,
-    gained: &NodeSet,
-    lost: &NodeSet,
-) -> Result<(), Memory>
-    ensures { OnOk result ((delta : List AnyDeltaRow)
-        → (gained.now, lost.now) ≡ delta_at delta (last_token row.now.right)
-        → spec.AddsTurned turn delta at row.now changes.old changes.new) }
+/// Adds new nodes of the row at a position, if there are any.
+fn push_nodes(changes: &mut RowChanges, at: usize, nodes: Option<NewNodes>) -> Result<(), Memory>
+    ensures { OnOk result (spec.AddsNodes nodes at changes.old changes.new) }
 {
-    match turned_nodes(turn, row, gained, lost)? {
+    match nodes {
         Some(nodes) => changes.push(RowChange { at, nodes }),
         None => Ok(()),
     }
+}
+
+/// A turn of a map by a delta.
+#[derive(Drop)]
+struct Turning<'a> {
+    turn: Turn,
+    map: &'a PlacementMap,
+    delta: &'a Delta,
 }
 
 /// How many rows of a map end at or before a token. The cost is a binary search. It is left out for the greatest token,
@@ -138,20 +137,21 @@ fn count_up_to(map: &PlacementMap, last: Token, hint: usize) -> usize
 
 /// The position after the rows of a map that a turn keeps, from a position on. Rows are passed up to the end of one row
 /// of the delta, or all of them if the turn keeps each row. `hint` is where the delta was looked at last.
-fn kept_up_to(turn: Turn, map: &PlacementMap, at: usize, delta: &Delta, hint: &mut usize) -> usize
-    requires { at < length map.now }
+fn kept_up_to(turning: &Turning, at: usize, hint: &mut usize) -> usize
+    requires { at < length turning.now.map.now }
     ensures later { at ≤ result }
-    ensures passes { (row : AnyRow) → row ≡ get_or map.now at row
-        → delta_at delta.now (last_token row.right) ≡ ([], []) → at < result }
-    ensures bound { result ≤ length map.now }
-    ensures kept { spec.Keeps turn delta.now (take (result - at) (drop at map.now)) }
+    ensures passes { (row : AnyRow) → row ≡ get_or turning.now.map.now at row
+        → delta_at turning.now.delta.now (last_token row.right) ≡ ([], []) → at < result }
+    ensures bound { result ≤ length turning.now.map.now }
+    ensures kept { spec.Keeps turning.now.turn turning.now.delta.now
+        (take (result - at) (drop at turning.now.map.now)) }
 {
-    let rows = map.rows();
-    if matches!(turn, Turn::Keep) {
+    let rows = turning.map.rows();
+    if matches!(turning.turn, Turn::Keep) {
         return rows.len();
     }
-    match delta.unchanged_from(rows[at].last_token(), hint) {
-        Some(tokens) => count_up_to(map, tokens.last, at).max(at + 1),
+    match turning.delta.unchanged_from(rows[at].last_token(), hint) {
+        Some(tokens) => count_up_to(turning.map, tokens.last, at).max(at + 1),
         None => at,
     }
 }
@@ -160,24 +160,25 @@ fn kept_up_to(turn: Turn, map: &PlacementMap, at: usize, delta: &Delta, hint: &m
 /// end where the delta changes nothing. Returns the position of the row after these.
 fn turn_from(
     changes: &mut RowChanges,
-    turn: Turn,
+    turning: &Turning,
     at: usize,
-    map: &PlacementMap,
-    delta: &Delta,
     hint: &mut usize,
 ) -> Result<usize, Memory>
-    requires bound { at < length map.now }
-    requires turned { spec.AreTurned turn delta.now map.now at changes.old }
+    requires bound { at < length turning.now.map.now }
+    requires turned { spec.AreTurned turning.now.turn turning.now.delta.now turning.now.map.now at
+        changes.old }
     ensures later { IfOk result (λ next. at < next) }
-    ensures bound { IfOk result (λ next. next ≤ length map.now) }
-    ensures turned { IfOk result (λ next. spec.AreTurned turn delta.now map.now next changes.new) }
+    ensures bound { IfOk result (λ next. next ≤ length turning.now.map.now) }
+    ensures turned { IfOk result (λ next. spec.AreTurned turning.now.turn turning.now.delta.now
+        turning.now.map.now next changes.new) }
 {
-    let row = &map.rows()[at];
-    let (gained, lost) = delta.at_by_hint(row.last_token(), hint);
+    let row = &turning.map.rows()[at];
+    let (gained, lost) = turning.delta.at_by_hint(row.last_token(), hint);
     if gained.is_empty() && lost.is_empty() {
-        return Ok(kept_up_to(turn, map, at, delta, hint));
+        return Ok(kept_up_to(turning, at, hint));
     }
-    push_turned(changes, turn, at, row, gained, lost)?;
+    let nodes = turned_nodes(turning.turn, row, gained, lost)?;
+    push_nodes(changes, at, nodes)?;
     Ok(at + 1)
 }
 
@@ -191,12 +192,13 @@ fn turned_rows(
 ) -> Result<RowChanges, Memory>
     ensures { IfOk result (λ changes. with_changes changes map.now ≡ spec.turned_rows turn map.now delta.now) }
 {
+    let turning = Turning { turn, map, delta };
     let mut changes = RowChanges::empty(alloc);
     let mut hint = 0;
     let mut at = 0;
     let count = map.rows().len();
     while at < count {
-        at = turn_from(&mut changes, turn, at, map, delta, &mut hint)?;
+        at = turn_from(&mut changes, &turning, at, &mut hint)?;
     }
     Ok(changes)
 }
@@ -238,33 +240,33 @@ fn count_same(rows: &[PlacementRow], ranges: &[TokenRange]) -> usize
 /// `places` is where the map and the delta are looked at.
 fn recut_some(
     edits: &mut RowEdits,
-    turn: Turn,
-    map: &PlacementMap,
-    delta: &Delta,
+    turning: &Turning,
     ranges: &[TokenRange],
     places: &mut Places,
 ) -> Result<usize, Memory>
     requires { 0 < length ranges.now }
     ensures some { IfOk result (λ count. 0 < count) }
     ensures bound { IfOk result (λ count. count ≤ length ranges.now) }
-    ensures rows { IfOk result (λ count. spec.AddsRows map.now
-        (spec.recut_rows turn (take count ranges.now) map.now delta.now) edits.old edits.new) }
+    ensures rows { IfOk result (λ count. spec.AddsRows turning.now.map.now
+        (spec.recut_rows turning.now.turn (take count ranges.now) turning.now.map.now
+        turning.now.delta.now) edits.old edits.new) }
 {
+    let Turning { turn, map, delta } = turning;
     let right = &ranges[0].right;
     let row = map.row_by_hint(right.last_token(), &mut places.map);
     let at = places.map;
     if row.right != *right || !is_ahead(edits, map, at) {
-        edits.put(turned_row(turn, right, row, delta, &mut places.delta)?)?;
+        edits.put(turned_row(*turn, right, row, delta, &mut places.delta)?)?;
         return Ok(1);
     }
-    let end = kept_up_to(turn, map, at, delta, &mut places.delta);
+    let end = kept_up_to(turning, at, &mut places.delta);
     let count = count_same(&map.rows()[at..end], ranges);
     if count > 0 {
         edits.keep(at, count)?;
         places.map = at + count;
         return Ok(count);
     }
-    let new = turned_row(turn, right, row, delta, &mut places.delta)?;
+    let new = turned_row(*turn, right, row, delta, &mut places.delta)?;
     edits.replace(at, new)?;
     Ok(1)
 }
@@ -280,11 +282,12 @@ fn recut_map(
 ) -> Result<RowEdits, Memory>
     ensures { IfOk result (λ edits. edited edits map.now ≡ spec.recut_rows turn ranges.now map.now delta.now) }
 {
+    let turning = Turning { turn, map, delta };
     let mut edits = RowEdits::with_room(alloc, ranges.len())?;
     let mut places = Places { map: 0, delta: 0 };
     let mut done = 0;
     while done < ranges.len() {
-        done += recut_some(&mut edits, turn, map, delta, &ranges[done..], &mut places)?;
+        done += recut_some(&mut edits, &turning, &ranges[done..], &mut places)?;
     }
     Ok(edits)
 }

@@ -23,7 +23,7 @@ pub use grammar::parse_line;
 pub use node_lines::nodes_text;
 pub use number::{node_of, number_of, one_spelling};
 pub use placements::place_text;
-pub use quorum_lines::sets_text;
+pub use quorum_lines::{QuorumSets, sets_text};
 pub use refusal_texts::refusal_text;
 pub use script_line::{ScriptLine, Target};
 pub use shown::{Shown, labelled};

@@ -9,26 +9,32 @@ use cluster_terms::{ByteText, Memory};
 use node_sets::NodeSet;
 use quorum_sets::Quorum;
 
+/// The read replicas and the write replicas that a quorum query is answered with, and how many of each are needed.
+#[derive(Clone, Copy, Debug)]
+pub struct QuorumSets<'a> {
+    pub reads: &'a NodeSet,
+    pub writes: &'a NodeSet,
+    pub needs: Quorum,
+}
+
 /// Adds the answer to a quorum query: `word`, the epoch, how many replicas a read needs, the read replicas, and the
 /// same for writes. If memory runs out, `out` still begins with its old content.
 #[tactic(auto, unfolding(crate::specs::AnswerTexts::sets_text))]
 pub fn sets_text(
     word: &str,
     epoch: u64,
-    reads: &NodeSet,
-    writes: &NodeSet,
-    needs: &Quorum,
+    sets: &QuorumSets,
     out: &mut ByteText,
 ) -> Result<(), Memory>
     // Promise: how many of the reads and of the writes a quorum needs is shown, each with its nodes. Guards:
     // quorums.rt, tried.
     ensures added { OnOk result (out.new ≡ out.old
         ++ spec.sets_text word.now epoch
-        (needs.now.read_need, reads.now) (needs.now.write_need, writes.now)) }
+        (sets.now.needs.read_need, sets.now.reads.now) (sets.now.needs.write_need, sets.now.writes.now)) }
     ensures kept { take (length out.old) out.new ≡ out.old }
 {
-    add_reads(word, epoch, needs.read_need, reads, out)?;
-    add_writes(needs.write_need, writes, out)
+    add_reads(word, epoch, sets.needs.read_need, sets.reads, out)?;
+    add_writes(sets.needs.write_need, sets.writes, out)
 }
 
 /// Adds the first word, the epoch, how many replicas a read needs, and the read replicas.

@@ -28,10 +28,10 @@ Leaves fault.Store None added files files' = ⊥
 Leaves fault.Store (Some name) added files files' = StoreFailed name added files files'
 
 -- what a crash may leave after a step, if before it one left only the files that the store told: after `Ok` those that
--- the store tells, and after a fault what the fault leaves
-pub record StepCrashes {D T : Type 0} (told : D → Option Files) (shows : D → Files → Type 0) (name : Option (List ℕ)) (added : List Entry) (store store' : D) (result : Result T StepFault) : Type 0 where
+-- the store tells, and after a fault what it leaves, as Left says
+pub record StepCrashes {D T : Type 0} (told : D → Option Files) (shows : D → Files → Type 0) (Left : StepFault → Option Files → Type 0) (store store' : D) (result : Result T StepFault) : Type 0 where
   pub ok : OnOk result (StaysOnly told shows store store')
-  pub fault : IfErr result (λ e. EachLeft told shows store store' (λ left. Leaves e name added (told store) left))
+  pub fault : IfErr result (λ e. EachLeft told shows store store' (Left e))
 
 -- a follower follows a log: it stands for the log, and for something that it took from it
 pub record FollowsLog (log : List Entry) (follower : FollowerState) : Type 0 where

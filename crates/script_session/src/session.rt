@@ -13,7 +13,7 @@ ghost use Rattle.script_session.specs.LogFiles.{Gains, entry_lines};
 ghost use Rattle.script_session.specs.Machine.{commit_reply, commit_text, epoch_of_follower, follower_named, reply, reply_to, session_next, session_over};
 ghost use Rattle.script_session.specs.code.StepParts.{accepted_reply};
 ghost use Rattle.script_session.specs.StepEnds.{Leaves, LeavesSession, StepCrashes, handed_by};
-ghost use Rattle.script_session.specs.code.StepParts.{IsNextEntry, OnlyAnswers, StepEnds};
+ghost use Rattle.script_session.specs.code.StepParts.{IsNextEntry, OnlyAnswers, StepEnds, at};
 
 mod deliveries;
 pub mod followers;
@@ -263,7 +263,8 @@ impl Session {
         // then have gained a prefix of it, or all. Guards: logs.rt (store-stops), stops.rt.
         ensures fault { IfErr result (λ e. Leaves e (option_copied log.entry) (reply self.old line.now).added
             (D.files store.old) (D.files store.new)) }
-        ensures crash { StepCrashes D.files D.shows (option_copied log.entry) (reply self.old line.now).added
+        ensures crash { StepCrashes D.files D.shows
+            (λ e left. Leaves e (option_copied log.entry) (reply self.old line.now).added (D.files store.old) left)
             store.old store.new result }
         // Promise: the store counts one fault more if the step fails with `Store`, and else none. Guards: tried.
         ensures count { D.faults store.new ≡ count_by result (D.faults store.old) }
@@ -284,9 +285,11 @@ impl Session {
     ) -> Result<(), StepFault>
         requires { IfSome said (λ line. IsInRange line) }
         ensures steps { StepEnds (handed_by self.old said) (reply_to self.old said) (option_copied log.entry)
-            self.old self.new out.old out.new
-            (D.files store.old) (D.files store.new) (D.faults store.old) (D.faults store.new) result }
-        ensures crash { StepCrashes D.files D.shows (option_copied log.entry) (reply_to self.old said).added store.old store.new result }
+            (at self.old out.old (D.files store.old) (D.faults store.old))
+            (at self.new out.new (D.files store.new) (D.faults store.new)) result }
+        ensures crash { StepCrashes D.files D.shows
+            (λ e left. Leaves e (option_copied log.entry) (reply_to self.old said).added (D.files store.old) left)
+            store.old store.new result }
         ensures unnamed { option_copied log.entry ≡ None → store.new ≡ store.old }
     {
         match said {
@@ -321,9 +324,11 @@ impl Session {
     ) -> Result<(), StepFault>
         requires { IsTrue (is_command command) }
         ensures steps { StepEnds None (commit_reply self.old id command) (option_copied log.entry)
-            self.old self.new out.old out.new
-            (D.files store.old) (D.files store.new) (D.faults store.old) (D.faults store.new) result }
-        ensures crash { StepCrashes D.files D.shows (option_copied log.entry) (commit_reply self.old id command).added store.old store.new result }
+            (at self.old out.old (D.files store.old) (D.faults store.old))
+            (at self.new out.new (D.files store.new) (D.faults store.new)) result }
+        ensures crash { StepCrashes D.files D.shows
+            (λ e left. Leaves e (option_copied log.entry) (commit_reply self.old id command).added (D.files store.old) left)
+            store.old store.new result }
         ensures unnamed { option_copied log.entry ≡ None → store.new ≡ store.old }
     {
         match self.log.seen(id) {
@@ -344,9 +349,11 @@ impl Session {
         requires formed { IsTrue (is_command command) }
         requires fresh { entry_with_id self.old.log id ≡ None }
         ensures steps { StepEnds None (commit_reply self.old id command) (option_copied log.entry)
-            self.old self.new out.old out.new
-            (D.files store.old) (D.files store.new) (D.faults store.old) (D.faults store.new) result }
-        ensures crash { StepCrashes D.files D.shows (option_copied log.entry) (commit_reply self.old id command).added store.old store.new result }
+            (at self.old out.old (D.files store.old) (D.faults store.old))
+            (at self.new out.new (D.files store.new) (D.faults store.new)) result }
+        ensures crash { StepCrashes D.files D.shows
+            (λ e left. Leaves e (option_copied log.entry) (commit_reply self.old id command).added (D.files store.old) left)
+            store.old store.new result }
         ensures unnamed { option_copied log.entry ≡ None → store.new ≡ store.old }
     {
         match self.admit(&command) {
@@ -392,9 +399,11 @@ impl Session {
         requires permit { permit
             ≡ record { image = image_after empty_image (commands_of self.old.log); command = entry.cmd } }
         ensures steps { StepEnds None (accepted_reply self.old entry) (option_copied log.entry)
-            self.old self.new out.old out.new
-            (D.files store.old) (D.files store.new) (D.faults store.old) (D.faults store.new) result }
-        ensures crash { StepCrashes D.files D.shows (option_copied log.entry) (accepted_reply self.old entry).added store.old store.new result }
+            (at self.old out.old (D.files store.old) (D.faults store.old))
+            (at self.new out.new (D.files store.new) (D.faults store.new)) result }
+        ensures crash { StepCrashes D.files D.shows
+            (λ e left. Leaves e (option_copied log.entry) (accepted_reply self.old entry).added (D.files store.old) left)
+            store.old store.new result }
         ensures unnamed { option_copied log.entry ≡ None → store.new ≡ store.old }
     {
         if let Err(memory) = keep_image(&self.log, &self.metadata, &mut self.snapshots) {

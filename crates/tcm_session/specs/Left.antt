@@ -69,14 +69,12 @@ pub record LeavesNew (name : List ℕ) (o : Outcome) (printed : List ℕ) (file 
   pub whole : (file' ≡ file) ⊎ ((file ≡ None) × (file' ≡ file_of o.files name))
   pub order : printed ≢ [] → file' ≡ file_of o.files name
 
--- the log file is left so, and every other file is as before
-abbrev pub LeavesLogFile : List ℕ → List ℕ → Option Files → Option Files → Outcome → List ℕ → ℕ → Type 0
-LeavesLogFile log cluster files files' o printed status =
-    ChangesFile (LeavesLog cluster o printed status) files files' log × OthersKept files files' log
+-- of all files only this one changes, as Change says
+abbrev pub ChangesOnly : List ℕ → (Option (List ℕ) → Option (List ℕ) → Type 0) → Option Files → Option Files → Type 0
+ChangesOnly name Change files files' = ChangesFile Change files files' name × OthersKept files files' name
 
 -- what a fault leaves in the files, by what was asked for
 abbrev pub LeavesFiles : Option Request → Option Files → Option Files → Outcome → List ℕ → ℕ → Type 0
-LeavesFiles (Some (CommitTo log cluster)) files files' o printed status = LeavesLogFile log cluster files files' o printed status
-LeavesFiles (Some (Mend old new cluster)) files files' o printed status =
-    ChangesFile (LeavesNew new o printed) files files' new × OthersKept files files' new
+LeavesFiles (Some (CommitTo log cluster)) files files' o printed status = ChangesOnly log (LeavesLog cluster o printed status) files files'
+LeavesFiles (Some (Mend old new cluster)) files files' o printed status = ChangesOnly new (LeavesNew new o printed) files files'
 LeavesFiles _ files files' o printed status = files' ≡ files

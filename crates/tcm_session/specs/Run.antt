@@ -3,12 +3,12 @@ use Rattle.std.specs.Prelude.{◌≡◌, ◌≢◌, ℕ, ◌+◌, ◌≤◌, Boo
 use Rattle.std.specs.Io.{StartsWith}
 use Rattle.std.specs.Io.KnownBytes.{Appends, Consumes, IsAtEnd}
 use Rattle.tcm_edges.specs.Causes.{one_more}
-use Rattle.tcm_edges.specs.Files.{ChangesFile, Files, OthersKept}
+use Rattle.tcm_edges.specs.Files.{Files}
 use Rattle.transformations.specs.declared.entry.Entry.{Entry}
 use Rattle.tcm_session.specs.Commit.{commit_outcome, commit_to_outcome}
 use Rattle.tcm_session.specs.Counts.{Counts}
 use Rattle.tcm_session.specs.Gen.{gen_ending}
-use Rattle.tcm_session.specs.Left.{LeavesLogFile, LeavesNew}
+use Rattle.tcm_session.specs.Left.{ChangesOnly, LeavesLog, LeavesNew}
 use Rattle.tcm_session.specs.Mend.{Mending, made_outcome, mending}
 use Rattle.tcm_session.specs.Outcome.{Outcome, input_limit, printed_by}
 use Rattle.tcm_session.specs.Request.{Cms, Commit, CommitTo, Gen, Mend, Plan, Replay, Request, Snapshot}
@@ -129,8 +129,7 @@ pub record MakesFile (name : List ℕ) (mending_of : (ℕ → Files) → Mending
   pub unread : InputKept × (status ≢ 4)
   pub files : IsFinal status → IfSome after.files (λ these. these ≡ (made_outcome name (mending_of seen) (seen 0)).files)
   pub leaves : (IsFinal status → ⊥)
-      → ChangesFile (LeavesNew name (made_outcome name (mending_of seen) (seen 0)) prints.printed) before.files after.files name
-      × OthersKept before.files after.files name
+      → ChangesOnly name (LeavesNew name (made_outcome name (mending_of seen) (seen 0)) prints.printed) before.files after.files
 
 -- ---- each request
 
@@ -139,7 +138,7 @@ abbrev pub IsRun : Option Request → Type 0 → Told → Told → ℕ → Type 
 IsRun (Some Commit) InputKept before after status =
     RunsScript commit_outcome (λ o printed ended. after.files ≡ before.files) InputKept before after status
 IsRun (Some (CommitTo log cluster)) InputKept before after status =
-    RunsScript (commit_to_outcome log cluster) (LeavesLogFile log cluster before.files after.files) InputKept before after status
+    RunsScript (commit_to_outcome log cluster) (λ o printed ended. ChangesOnly log (LeavesLog cluster o printed ended) before.files after.files) InputKept before after status
 IsRun (Some (Replay files)) InputKept before after status = Looks (replay_ending files) InputKept before after status
 IsRun (Some (Snapshot log epoch)) InputKept before after status = Looks (snapshot_ending log epoch) InputKept before after status
 IsRun (Some (Gen start rounds)) InputKept before after status = Looks (λ _. gen_ending start rounds) InputKept before after status

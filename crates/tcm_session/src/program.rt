@@ -6,7 +6,7 @@ ghost use Rattle.tcm_edges.specs.Shown.{EachLeft};
 ghost use Rattle.tcm_session.specs.Commit.{commit_outcome, commit_to_outcome};
 ghost use Rattle.tcm_session.specs.Counts.{counts};
 ghost use Rattle.tcm_session.specs.Gen.{gen_ending};
-ghost use Rattle.tcm_session.specs.Left.{LeavesFiles, LeavesLogFile};
+ghost use Rattle.tcm_session.specs.Left.{ChangesOnly, LeavesFiles, LeavesLog};
 ghost use Rattle.tcm_session.specs.Mend.{mending};
 ghost use Rattle.tcm_session.specs.Outcomes.{outcome};
 ghost use Rattle.tcm_session.specs.Request as spec;
@@ -47,8 +47,8 @@ fn answer<S: Source, K: Sink, D: Store>(
     ensures runs { EachLeft D.files D.shows store.old store.new (λ left. RunsSeen
         (outcome (Some (asked request.entry)))
         (LeavesFiles (Some (asked request.entry)) (D.files store.old) left)
-        S.left input.old input.new (K.written out.old) (K.written out.new)
-        (D.files store.old) left (status_by result)) }
+        (input.new ≡ input.old) (told (S.left input.old) (K.written out.old) (D.files store.old))
+        (told (S.left input.new) (K.written out.new) left) (status_by result)) }
     ensures cause { counts (S.faults input.new) (K.faults out.new) (D.faults store.new)
         ≡ counts_by result (counts (S.faults input.old) (K.faults out.old) (D.faults store.old)) }
     ensures ended { IfOk result (λ status. IsEnd status.0) }
@@ -87,8 +87,8 @@ fn answer_words<S: Source, K: Sink, D: Store>(
     ensures runs { EachLeft D.files D.shows store.old store.new (λ left. RunsSeen
         (outcome (spec.request_of (map string_bytes words.now)))
         (LeavesFiles (spec.request_of (map string_bytes words.now)) (D.files store.old) left)
-        S.left input.old input.new (K.written out.old) (K.written out.new)
-        (D.files store.old) left (status_by result)) }
+        (input.new ≡ input.old) (told (S.left input.old) (K.written out.old) (D.files store.old))
+        (told (S.left input.new) (K.written out.new) left) (status_by result)) }
     ensures cause { counts (S.faults input.new) (K.faults out.new) (D.faults store.new)
         ≡ counts_by result (counts (S.faults input.old) (K.faults out.old) (D.faults store.old)) }
     ensures ended { IfOk result (λ status. IsEnd status.0) }
@@ -237,7 +237,8 @@ pub fn run<S: Source, K: Sink, D: Store>(
     // Guards: stops.rt, logs.rt.
     ensures commit_to { (log cluster : List ℕ) → spec.request_of (map string_bytes words.now) ≡ Some (CommitTo log cluster)
         → EachLeft D.files D.shows store.old store.new (λ files. RunsScript (commit_to_outcome log cluster)
-        (LeavesLogFile log cluster (D.files store.old) files) (input.new ≡ input.old)
+        (λ o printed ended. ChangesOnly log (LeavesLog cluster o printed ended) (D.files store.old) files)
+        (input.new ≡ input.old)
         (told (S.left input.old) (K.written out.old) (D.files store.old))
         (told (S.left input.new) (K.written out.new) files) result.0) }
 

@@ -4,3 +4,4 @@ pub mod answering;
 pub mod commit;
 pub mod lines;
 pub mod pieces;
+pub mod script;

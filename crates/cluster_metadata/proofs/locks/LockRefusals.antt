@@ -1,5 +1,5 @@
 -- The refusal of a command from its early refusal and from the locks of movements.
-use Rattle.std.proofs.Common.{◌≡◌, Bool, true, false, true≢false, ℕ, List, [], ◌∷◌, Option, Some, None, option_and_then, refl, sym, ap, ◌∙◌}
+use Rattle.std.proofs.Common.{◌≡◌, false, true≢false, ℕ, List, [], ◌∷◌, Option, Some, None, option_and_then, refl, sym, ap, ◌∙◌}
 use Rattle.std.proofs.lemmas.Option.{none-some}
 use Rattle.cluster_terms.specs.declared.replication.Replication.{Replication}
 use Rattle.transformations.specs.Refusals.{early_refusal_of, first_of, keyspace_locked, keyspace_row, locked, locks_overlap, prepared_by, ranges_locked, refusal_of, with_movement}

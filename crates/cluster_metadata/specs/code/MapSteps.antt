@@ -1,7 +1,6 @@
 -- How changes move the placements, and the maps that they bring.
 use Rattle.std.specs.Prelude.{List}
 use Rattle.transformations.specs.DeltaSteps.{cancel_delta, step_delta}
-use Rattle.transformations.specs.Rings.{cuts}
 use Rattle.transformations.specs.declared.image.Image.{Image}
 use Rattle.transformations.specs.declared.sequence.Goal.TheVariants as goal
 use Rattle.transformations.specs.declared.sequence.Phase.TheVariants as phase

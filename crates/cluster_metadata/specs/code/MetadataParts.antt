@@ -10,8 +10,6 @@ use Rattle.placement_maps.specs.code.ShownMaps.{AreMaps}
 use Rattle.cluster_metadata.specs.code.Running.{HaveDeltas, IsRunning}
 use Rattle.range_placements.specs.declared.map_row.MapRow.{MapRow}
 use Rattle.cluster_metadata.specs.declared.movements.running.Running.{Running}
-use Rattle.transformations.specs.declared.sequence.Goal.TheVariants as goal
-use Rattle.transformations.specs.declared.sequence.Phase.TheVariants as phase
 use Rattle.cluster_metadata.specs.Metadata.{directory_of}
 
 -- the image is valid, each of its keyspaces has a replication, and there are the directory of its nodes, its placement

@@ -18,15 +18,14 @@ ghost use Rattle.cluster_metadata.specs.code.Running.{IsRunning, movement_row, p
 use crate::changes::change::Change;
 use crate::changes::next_image::change_image;
 use crate::changes::node_changes::register;
+use crate::movements::in_flight::InFlight;
 use crate::movements::renewing::parted;
 use crate::movements::running::Running;
-use cluster_terms::Room;
-use locked_ranges::LockTable;
+use crate::movements::spare::Spare;
 use node_directory::Directory;
 use placement_deltas::Plan;
 use placement_maps::{MapBook, MapChange};
 use std::mem::swap;
-use token_ring::LockRow;
 use transformations::{Image, SeqRow};
 
 /// Inserts the value of a movement. The vector has room for it.
@@ -58,32 +57,27 @@ fn move_over(running: &mut Vec<Running>, room: &mut Vec<Running>)
 
 /// Locks the ranges of a movement that begins, and inserts its value. The lock takes the same place in the table.
 #[tactic(auto, using(crate::proofs::in_flight::RunningLemmas::map_insert))]
-fn begin(
-    sequences: &[SeqRow],
-    running: &mut Vec<Running>,
-    locks: &mut LockTable,
-    room: &mut Vec<Running>,
-    at: usize,
-    plan: Plan,
-    lock: Room<LockRow>,
-)
-    requires running { IsRunning sequences.now running.old.items }
-    requires names { map (λ row. row.node) locks.old ≡ map (λ s. s.node) sequences.now }
+fn begin(sequences: &[SeqRow], in_flight: &mut InFlight, at: usize, plan: Plan, spare: Spare)
+    requires running { IsRunning sequences.now in_flight.old.running.items }
+    requires names { map (λ row. row.node) in_flight.old.locks ≡ map (λ s. s.node) sequences.now }
     requires place { at ≤ length sequences.now }
     requires phase { plan.row.phase ≡ phase.Prepared }
-    requires empty { vec_len room.old ≡ 0 }
-    requires room { length sequences.now + 1 ≤ vec_capacity room.old }
-    requires spare { length sequences.now < lock }
-    requires free { IsFree plan locks.old }
-    ensures running { IsRunning (insert sequences.now at plan.row) running.new.items }
-    ensures plans { map plan_of running.new.items ≡ insert (map plan_of running.old.items) at (kept_plan plan) }
-    ensures locks { locks.new ≡ insert locks.old at (plan_lock plan) }
-    ensures empty { vec_len room.new ≡ 0 }
+    requires empty { vec_len spare.room ≡ 0 }
+    requires room { length sequences.now + 1 ≤ vec_capacity spare.room }
+    requires lock { length sequences.now < spare.lock }
+    requires free { IsFree plan in_flight.old.locks }
+    ensures running { IsRunning (insert sequences.now at plan.row) in_flight.new.running.items }
+    ensures plans { map plan_of in_flight.new.running.items
+        ≡ insert (map plan_of in_flight.old.running.items) at (kept_plan plan) }
+    ensures locks { in_flight.new.locks ≡ insert in_flight.old.locks at (plan_lock plan) }
 {
+    let Spare { mut room, lock } = spare;
+    let InFlight { running, locks } = in_flight;
     let (ranges, plan) = parted(*running.allocator(), plan);
     let row = &plan.row;
     let key = locks.lock_in(at, row.node, ranges, lock);
-    move_over(running, room);
+    move_over(running, &mut room);
+    room.destroy_empty();
     put(running, at, Running::begin(plan, key));
 }
 
@@ -99,15 +93,16 @@ fn next_phase_at(running: &mut Vec<Running>, at: usize)
 }
 
 /// Removes the value of a movement, and unlocks its ranges.
-fn close_at(running: &mut Vec<Running>, locks: &mut LockTable, at: usize)
-    requires movements { IsStrictlySortedBy by_node (map movement_row running.old.items) }
-    requires names { map (λ row. row.node) locks.old ≡ map (λ s. s.node) (map movement_row running.old.items) }
-    requires place { at < length running.old.items }
-    ensures running { running.new.items ≡ remove running.old.items at }
-    ensures locks { locks.new ≡ remove locks.old at }
+fn close_at(in_flight: &mut InFlight, at: usize)
+    requires movements { IsStrictlySortedBy by_node (map movement_row in_flight.old.running.items) }
+    requires names { map (λ row. row.node) in_flight.old.locks
+        ≡ map (λ s. s.node) (map movement_row in_flight.old.running.items) }
+    requires place { at < length in_flight.old.running.items }
+    ensures running { in_flight.new.running.items ≡ remove in_flight.old.running.items at }
+    ensures locks { in_flight.new.locks ≡ remove in_flight.old.locks at }
 {
-    let key = running.remove(at).close();
-    locks.unlock(key);
+    let key = in_flight.running.remove(at).close();
+    in_flight.locks.unlock(key);
 }
 
 /// Gives each movement in flight the plan at its position, from the last to the first. The plans have the rows of the
@@ -143,73 +138,68 @@ pub fn exchange(maps: &mut MapBook, change: MapChange)
 /// Makes a change in the directory of an image, in the values of its movements and in the table of their locks. The
 /// change brings neither a node nor a movement nor a plan.
 #[tactic(auto, using(placement_maps::proofs::ArrangedMaps::map_remove))]
-fn change_parts(
-    image: &Image,
-    directory: &mut Directory,
-    running: &mut Vec<Running>,
-    locks: &mut LockTable,
-    change: &Change,
-)
+fn change_parts(image: &Image, directory: &mut Directory, in_flight: &mut InFlight, change: &Change)
     requires directory { directory.old ≡ directory_of image.now }
     requires nodes { FitsNodes image.now change.now }
-    requires running { IsRunning image.now.sequences running.old.items }
+    requires running { IsRunning image.now.sequences in_flight.old.running.items }
     requires follows { Follows image.now.sequences change.now }
     requires movements { IsStrictlySortedBy by_node image.now.sequences }
-    requires names { map (λ row. row.node) locks.old ≡ map (λ s. s.node) image.now.sequences }
+    requires names { map (λ row. row.node) in_flight.old.locks ≡ map (λ s. s.node) image.now.sequences }
     requires brings { BringsNothing change.now }
     ensures directory { directory.new ≡ directory_of (changed image.now change.now) }
-    ensures running { IsRunning (changed image.now change.now).sequences running.new.items }
-    ensures plans { map plan_of running.new.items ≡ plans_after (map plan_of running.old.items) change.now }
-    ensures locks { locks.new ≡ locks_after locks.old change.now }
+    ensures running { IsRunning (changed image.now change.now).sequences in_flight.new.running.items }
+    ensures plans { map plan_of in_flight.new.running.items
+        ≡ plans_after (map plan_of in_flight.old.running.items) change.now }
+    ensures locks { in_flight.new.locks ≡ locks_after in_flight.old.locks change.now }
 {
     match change {
         Change::Unregistered { node } => directory.unregister(*node),
-        Change::Started { at } => next_phase_at(running, *at),
-        Change::Mid { at } => next_phase_at(running, *at),
-        Change::BroughtBack { at } => next_phase_at(running, *at),
+        Change::Started { at } => next_phase_at(&mut in_flight.running, *at),
+        Change::Mid { at } => next_phase_at(&mut in_flight.running, *at),
+        Change::BroughtBack { at } => next_phase_at(&mut in_flight.running, *at),
         Change::Finished { at, left, .. } => {
-            close_at(running, locks, *at);
+            close_at(in_flight, *at);
             if let Some(left) = left {
                 directory.mark_left(left.get().row.id);
             }
         }
-        Change::Ended { at } => close_at(running, locks, *at),
+        Change::Ended { at } => close_at(in_flight, *at),
         Change::Unchanged | Change::Tokens(_) => {}
         Change::Registered(_) | Change::Keyspaces { .. } | Change::Begun { .. } => unreachable!(),
     }
 }
 
 /// Makes a change in an image, in its directory, in the values of its movements and in the table of their locks. If a
-/// movement begins, `room` is memory for the values, and `lock` is memory for the table of locks. New keyspaces bring new
-/// plans and locks for all movements.
+/// movement begins, `spare` is memory for its value and its lock. New keyspaces bring new plans and locks for all
+/// movements.
 pub fn make(
     image: &mut Image,
     directory: &mut Directory,
-    running: &mut Vec<Running>,
-    locks: &mut LockTable,
+    in_flight: &mut InFlight,
     change: Change,
-    mut room: Vec<Running>,
-    lock: Room<LockRow>,
+    spare: Spare,
 )
     requires epochs { image.old.epoch < 2 ^ 64 - 1 }
     requires directory { directory.old ≡ directory_of image.old }
     requires nodes { FitsNodes image.old change }
-    requires running { IsRunning image.old.sequences running.old.items }
+    requires running { IsRunning image.old.sequences in_flight.old.running.items }
     requires follows { Follows image.old.sequences change }
-    requires empty { vec_len room ≡ 0 }
-    requires room { grown_to change ≤ vec_capacity room }
+    requires empty { vec_len spare.room ≡ 0 }
+    requires room { grown_to change ≤ vec_capacity spare.room }
     requires movements { IsStrictlySortedBy by_node image.old.sequences }
-    requires names { map (λ row. row.node) locks.old ≡ map (λ s. s.node) image.old.sequences }
-    requires lock { grown_to change ≤ lock }
-    requires free { MayLock locks.old change }
+    requires names { map (λ row. row.node) in_flight.old.locks ≡ map (λ s. s.node) image.old.sequences }
+    requires lock { grown_to change ≤ spare.lock }
+    requires free { MayLock in_flight.old.locks change }
     ensures made { image.new ≡ changed image.old change }
     ensures directory { directory.new ≡ directory_of image.new }
-    ensures running { IsRunning image.new.sequences running.new.items }
-    ensures plans { map plan_of running.new.items ≡ plans_after (map plan_of running.old.items) change }
-    ensures locks { locks.new ≡ locks_after locks.old change }
+    ensures running { IsRunning image.new.sequences in_flight.new.running.items }
+    ensures plans { map plan_of in_flight.new.running.items
+        ≡ plans_after (map plan_of in_flight.old.running.items) change }
+    ensures locks { in_flight.new.locks ≡ locks_after in_flight.old.locks change }
 {
     match change {
         Change::Registered(node) => {
+            spare.destroy();
             register(image, directory, node);
             image.epoch += 1;
         }
@@ -219,20 +209,21 @@ pub fn make(
             sequences,
         } => {
             let before = image.sequences.as_slice();
-            begin(before, running, locks, &mut room, at, plan.take(), lock);
+            begin(before, in_flight, at, plan.take(), spare);
             image.sequences = sequences;
             image.epoch += 1;
         }
         Change::Keyspaces { keyspaces, renewed } => {
-            renew_plans(running, renewed.plans);
-            locks.relock(renewed.locks);
+            spare.destroy();
+            renew_plans(&mut in_flight.running, renewed.plans);
+            in_flight.locks.relock(renewed.locks);
             image.keyspaces = keyspaces;
             image.epoch += 1;
         }
         change => {
-            change_parts(image, directory, running, locks, &change);
-            change_image(*running.allocator(), image, change);
+            spare.destroy();
+            change_parts(image, directory, in_flight, &change);
+            change_image(*in_flight.running.allocator(), image, change);
         }
     }
-    room.destroy_empty();
 }

@@ -19,6 +19,7 @@ ghost use Rattle.placement_maps.specs.code.Turns.{undoing};
 ghost use Rattle.cluster_metadata.specs.declared.image_fault.ImageFault.TheVariants as fault;
 
 use crate::image_fault::ImageFault;
+use crate::movements::in_flight::InFlight;
 use crate::movements::stepping::at_phase;
 use cluster_terms::{Memory, NodeId, Steps, TryCopy};
 use locked_ranges::{LockKey, LockTable};
@@ -210,17 +211,18 @@ fn resumed<L: Ledger>(
 }
 
 /// Adds the value of a movement that has a lock. If memory runs out, the values are unchanged, and the lock is removed.
-fn push(running: &mut Vec<Running>, locks: &mut LockTable, movement: Running) -> Result<(), Memory>
-    requires { has_row locks.old (moving_node movement) ≡ true }
-    ensures running { MatchResult result (λ _. running.new.items ≡ running.old.items ++ movement ∷ [])
-        (λ _. running.new.items ≡ running.old.items) }
-    ensures locks { MatchResult result (λ _. locks.new ≡ locks.old)
-        (λ _. locks.new ≡ other_locks locks.old (moving_node movement)) }
+fn push(in_flight: &mut InFlight, movement: Running) -> Result<(), Memory>
+    requires { has_row in_flight.old.locks (moving_node movement) ≡ true }
+    ensures running { MatchResult result
+        (λ _. in_flight.new.running.items ≡ in_flight.old.running.items ++ movement ∷ [])
+        (λ _. in_flight.new.running.items ≡ in_flight.old.running.items) }
+    ensures locks { MatchResult result (λ _. in_flight.new.locks ≡ in_flight.old.locks)
+        (λ _. in_flight.new.locks ≡ other_locks in_flight.old.locks (moving_node movement)) }
 {
-    match running.push(movement) {
+    match in_flight.running.push(movement) {
         Ok(()) => Ok(()),
         Err(failed) => {
-            locks.unlock(failed.value.close());
+            in_flight.locks.unlock(failed.value.close());
             Err(Memory)
         }
     }
@@ -233,23 +235,24 @@ fn add<L: Ledger>(
     image: &Image,
     directory: &Directory,
     row: &SeqRow,
-    running: &mut Vec<Running>,
-    locks: &mut LockTable,
+    in_flight: &mut InFlight,
     walks: &mut Steps<L>,
 ) -> Result<(), ImageFault>
     requires sound { IsSound image.now }
     requires nodes { directory.now.rows ≡ image.now.nodes }
     requires movement { Contains image.now.sequences row.now }
-    requires new { has_row locks.old row.now.node ≡ false }
-    requires cut { AreCutAt (cuts image.now) locks.old }
+    requires new { has_row in_flight.old.locks row.now.node ≡ false }
+    requires cut { AreCutAt (cuts image.now) in_flight.old.locks }
     ensures added { MatchResult result
-        (λ _. AddsMovement image.now row.now running.old.items running.new.items locks.old locks.new)
-        (λ _. (running.new.items ≡ running.old.items) × (locks.new ≡ locks.old)) }
-    ensures overlap { (earlier : List MovementRow) → AreLocks image.now earlier locks.old
+        (λ _. AddsMovement image.now row.now in_flight.old.running.items in_flight.new.running.items
+        in_flight.old.locks in_flight.new.locks)
+        (λ _. (in_flight.new.running.items ≡ in_flight.old.running.items)
+        × (in_flight.new.locks ≡ in_flight.old.locks)) }
+    ensures overlap { (earlier : List MovementRow) → AreLocks image.now earlier in_flight.old.locks
         → FindsOverlap image.now row.now earlier result }
 {
-    let movement = resumed(alloc, image, directory, row, locks, walks)?;
-    push(running, locks, movement)?;
+    let movement = resumed(alloc, image, directory, row, &mut in_flight.locks, walks)?;
+    push(in_flight, movement)?;
     Ok(())
 }
 
@@ -260,8 +263,7 @@ fn push_all<L: Ledger>(
     alloc: Global,
     image: &Image,
     directory: &Directory,
-    running: &mut Vec<Running>,
-    locks: &mut LockTable,
+    in_flight: &mut InFlight,
     blank: Blank,
 ) -> Result<(), ImageFault>
     requires name { blank.name ≡ L.name }
@@ -269,18 +271,18 @@ fn push_all<L: Ledger>(
     requires some { 0 < blank.parts }
     requires sound { IsSound image.now }
     requires nodes { directory.now.rows ≡ image.now.nodes }
-    requires empty { running.old.items ≡ [] }
-    requires unlocked { locks.old ≡ [] }
-    ensures running { OnOk result (IsRunning image.now.sequences running.new.items) }
-    ensures deltas { OnOk result (HaveDeltas image.now running.new.items) }
-    ensures locks { OnOk result (AreLocksOf image.now image.now.sequences locks.new) }
-    ensures locked { AreLocked locks.new running.new.items }
+    requires empty { in_flight.old.running.items ≡ [] }
+    requires unlocked { in_flight.old.locks ≡ [] }
+    ensures running { OnOk result (IsRunning image.now.sequences in_flight.new.running.items) }
+    ensures deltas { OnOk result (HaveDeltas image.now in_flight.new.running.items) }
+    ensures locks { OnOk result (AreLocksOf image.now image.now.sequences in_flight.new.locks) }
+    ensures locked { AreLocked in_flight.new.locks in_flight.new.running.items }
     ensures overlap { MatchResult result (λ _. overlap_of image.now ≡ None)
         (λ e. IsCause (overlap_of image.now) e) }
 {
     let mut walks = Steps::<L>::begin(blank);
     for row in image.sequences.as_slice() {
-        add(alloc, image, directory, row, running, locks, &mut walks)?;
+        add(alloc, image, directory, row, in_flight, &mut walks)?;
     }
     Ok(())
 }
@@ -295,38 +297,34 @@ pub fn resume_all(
     alloc: Global,
     image: &Image,
     directory: &Directory,
-) -> Result<(Vec<Running>, LockTable), ImageFault>
+) -> Result<InFlight, ImageFault>
     requires sound { IsSound image.now }
     requires nodes { directory.now.rows ≡ image.now.nodes }
-    ensures running { IfOk result (λ held. IsRunning image.now.sequences held.0.items) }
-    ensures deltas { IfOk result (λ held. HaveDeltas image.now held.0.items) }
-    ensures locks { IfOk result (λ held. AreLocksOf image.now image.now.sequences held.1) }
-    ensures locked { IfOk result (λ held. AreLocked held.1 held.0.items) }
+    ensures running { IfOk result (λ held. IsRunning image.now.sequences held.running.items) }
+    ensures deltas { IfOk result (λ held. HaveDeltas image.now held.running.items) }
+    ensures locks { IfOk result (λ held. AreLocksOf image.now image.now.sequences held.locks) }
+    ensures locked { IfOk result (λ held. AreLocked held.locks held.running.items) }
     ensures overlap { MatchResult result (λ _. overlap_of image.now ≡ None)
         (λ e. IsCause (overlap_of image.now) e) }
 {
-    let mut running = Vec::new(alloc);
-    let mut locks = LockTable::empty(alloc);
-    match push_all::<Brand>(
-        alloc,
-        image,
-        directory,
-        &mut running,
-        &mut locks,
-        Blank::new(1),
-    ) {
-        Ok(()) => Ok((running, locks)),
+    let mut in_flight = InFlight::empty(alloc);
+    match push_all::<Brand>(alloc, image, directory, &mut in_flight, Blank::new(1)) {
+        Ok(()) => Ok(in_flight),
         Err(fault) => {
-            close_all(running, locks);
+            close_all(in_flight);
             Err(fault)
         }
     }
 }
 
 /// Consumes the values of all these movements, and spends their keys.
-pub fn close_all(mut running: Vec<Running>, mut locks: LockTable)
-    requires { AreLocked locks running.items }
+pub fn close_all(in_flight: InFlight)
+    requires { AreLocked in_flight.locks in_flight.running.items }
 {
+    let InFlight {
+        mut running,
+        mut locks,
+    } = in_flight;
     while let Some(movement) = running.pop() {
         locks.unlock(movement.close());
     }

@@ -6,7 +6,7 @@ use Rattle.cluster_terms.specs.declared.token.RightEnd.{RightEnd}
 use Rattle.placement_deltas.specs.Deltas.{delta_at}
 use Rattle.placement_deltas.specs.declared.delta_book.DeltaBookRow.{DeltaBookRow}
 use Rattle.placement_deltas.specs.declared.delta_row.DeltaRow.{DeltaRow}
-use Rattle.range_placements.specs.code.Changing.{row_changed, rows_changed}
+use Rattle.range_placements.specs.code.Changing.{rows_changed}
 use Rattle.range_placements.specs.Editing.{Edits, edited}
 use Rattle.range_placements.specs.Exchanging.{with_changes, with_nodes}
 use Rattle.range_placements.specs.Placements.{map_at, reads_changed, writes_changed}
@@ -62,10 +62,10 @@ EndUpTo last rows k = (j : ℕ) (d : PlacementRow) → j < k → last_token (get
 abbrev pub IsWithin : ℤ → ℤ → PlacementRow → Type 0
 IsWithin first last row = (first ≤ℤ last_token row.right) × (last_token row.right ≤ℤ last)
 
--- new nodes are added for the row at a position, where the delta changes it: whatever rows stand beside it
-abbrev pub AddsTurned : Turn → List DeltaRow → ℕ → PlacementRow → List RowChange → List RowChange → Type 0
-AddsTurned turn delta at row before after =
-    (done rest : List PlacementRow) → length done ≡ at → with_changes after (done ++ row ∷ rest) ≡ with_changes before (done ++ row_changed (turned turn) delta row ∷ rest)
+-- new nodes, if there are any, are added for the row at a position: whatever rows stand there and beside it
+abbrev pub AddsNodes : Option NewNodes → ℕ → List RowChange → List RowChange → Type 0
+AddsNodes nodes at before after =
+    (row : PlacementRow) (done rest : List PlacementRow) → length done ≡ at → with_changes after (done ++ row ∷ rest) ≡ with_changes before (done ++ with_turned nodes row ∷ rest)
 
 -- the reads and the writes of a map at a token, changed by a delta
 abbrev pub turned_at : Turn → List PlacementRow → List DeltaRow → ℤ → List ℕ × List ℕ

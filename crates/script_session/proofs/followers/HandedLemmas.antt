@@ -33,7 +33,7 @@ use Rattle.script_lang.specs.declared.script_line.ScriptLine.{ScriptLine}
 use Rattle.script_lang.specs.declared.script_line.ScriptLine.TheVariants.{Commit, Follower, Deliver, Snapshot, Ask, Give, Place, Nodes, Quorum, Local}
 use Rattle.script_session.specs.Machine.{Reply, SessionState, deliver_to, give_to, follower_named, follower_reply, follower_unless_full, handed_reply, handed_text, image_at, made_reply, most_followers, moved_reply, new_follower, no_epoch, on_follower, only_answers, reply, reply_numbered, reply_of, reply_to, snapshot_to, with_follower}
 use Rattle.script_session.specs.StepEnds.{FollowsLog, ForgetsNothing, IsOnTheWay, StandsOn, Stops, StopsAny, handed_by}
-use Rattle.script_session.specs.code.StepParts.{AllFollow, Alone, AnswersHanded, IsOfOneLog, OnlyAnswers}
+use Rattle.script_session.specs.code.StepParts.{AllFollow, Alone, AnswersHanded, IsOfOneLog, OnlyAnswers, session_at}
 use Rattle.script_session.specs.declared.fault.StepFault.{StepFault}
 use Rattle.script_session.specs.declared.fault.StepFault.TheVariants as step
 use Rattle.script_session.specs.declared.session.followers.NamedFollower.{NamedFollower}
@@ -91,7 +91,7 @@ stops_here session name f all found =
     }
 
 pub only_alone : {T : Type 0} (session : SessionState) (handed : Option NamedFollower) (text out out' : List ℕ) (r : Result T StepFault) → StopsAny handed session session.followers session
-    → OnlyAnswers text out out' r → Alone handed (only_answers session text) session session out out' r
+    → OnlyAnswers text out out' r → Alone handed (only_answers session text) (session_at session out) (session_at session out') r
 only_alone session handed text out out' (Ok x) stops only =
     record { added = refl; text = only.answered; kept = only.kept; next = replied_nothing session (only_answers session text) refl refl refl; left = tt; memory = tt }
 only_alone session handed text out out' (Err e) stops only =
@@ -100,8 +100,8 @@ only_alone session handed text out out' (Err e) stops only =
 -- ---- by the follower that is named
 
 alone_found : {T : Type 0} (session session' : SessionState) (name : List ℕ) (out out' : List ℕ) (r : Result T StepFault) (reply : FollowerState → Reply) (f : NamedFollower) → follower_named session.followers name ≡ Some f
-    → Alone (Some f) (reply f.follower) session session' out out' r → Alone (follower_named session.followers name) (on_follower session name reply) session session' out out' r
-alone_found session session' name out out' r reply f found alone = subst (λ o. Alone o (reply_of session o reply) session session' out out' r) (sym found) alone
+    → Alone (Some f) (reply f.follower) (session_at session out) (session_at session' out') r → Alone (follower_named session.followers name) (on_follower session name reply) (session_at session out) (session_at session' out') r
+alone_found session session' name out out' r reply f found alone = subst (λ o. Alone o (reply_of session o reply) (session_at session out) (session_at session' out') r) (sym found) alone
 
 -- ---- something is handed over
 
@@ -152,7 +152,7 @@ took_so f at step (Err e) ok comes = absurd (true≢false (sym ok))
 -- a follower comes to where a line leads it, or stops on the way
 alone_way : {T : Type 0} (session session' : SessionState) (name : List ℕ) (f : NamedFollower) (at due : FollowerState) (text out out' : List ℕ) (r : Result T StepFault)
     → follower_named session.followers name ≡ Some f → session' ≡ record session { followers = with_follower session.followers name at }
-    → IsOnTheWay session.log f.follower due at → OnOk r (at ≡ due) → OnlyAnswers text out out' r → Alone (Some f) (moved_reply session name text due) session session' out out' r
+    → IsOnTheWay session.log f.follower due at → OnOk r (at ≡ due) → OnlyAnswers text out out' r → Alone (Some f) (moved_reply session name text due) (session_at session out) (session_at session' out') r
 alone_way session session' name f at due text out out' (Ok x) found is way comes only =
     let log : session.log ≡ session.log ++ [] = sym (append-nil session.log) in
     record {
@@ -183,7 +183,7 @@ alone_way session session' name f at due text out out' (Err e) found is way come
 alone_handed : {T : Type 0} (session session' : SessionState) (name : List ℕ) (f : NamedFollower) (at : FollowerState) (step : Handed) (handed : Result Took FollowerFault) (out out' : List ℕ) (r : Result T StepFault)
     → follower_named session.followers name ≡ Some f → session' ≡ record session { followers = with_follower session.followers name at }
     → CutsFrom f.follower.image.epoch step → FollowsLog session.log at → ForgetsNothing session.log f.follower at → Performs f.follower step handed at → AnswersHanded handed out out' r
-    → Alone (Some f) (handed_reply session name step) session session' out out' r
+    → Alone (Some f) (handed_reply session name step) (session_at session out) (session_at session' out') r
 alone_handed session session' name f at step handed out out' r found is cuts follows keeps comes answers =
     alone_way session session' name f at step.after (handed_text step.answer) out out' r found is (is_between session.log f.follower at step handed cuts follows keeps comes) (came r answers) (only r answers)
   where
@@ -256,30 +256,30 @@ module _ (session : SessionState) (name : List ℕ) (place : ℕ) (f d : NamedFo
 -- ---- by the session as its callers see it
 
 module _ {T : Type 0} (reply : SessionState → FollowerState → Reply) (session seen : SessionState) (name out out' : List ℕ) (r : Result T StepFault) (view : session ≡ seen) where
-  unmoved : Alone (follower_named session.followers name) (on_follower session name (reply session)) session session out out' r → Alone (follower_named seen.followers name) (on_follower seen name (reply seen)) seen seen out out' r
-  unmoved alone = subst (λ s. Alone (follower_named s.followers name) (on_follower s name (reply s)) s s out out' r) view alone
+  unmoved : Alone (follower_named session.followers name) (on_follower session name (reply session)) (session_at session out) (session_at session out') r → Alone (follower_named seen.followers name) (on_follower seen name (reply seen)) (session_at seen out) (session_at seen out') r
+  unmoved alone = subst (λ s. Alone (follower_named s.followers name) (on_follower s name (reply s)) (session_at s out) (session_at s out') r) view alone
 
   -- no follower has the name
   pub alone_missing : (fs : List NamedFollower) → fs ≡ session.followers → None ≡ position (named name) fs → OnlyAnswers (no_text (codes "FOLLOWER")) out out' r
-      → Alone (follower_named seen.followers name) (on_follower seen name (reply seen)) seen seen out out' r
+      → Alone (follower_named seen.followers name) (on_follower seen name (reply seen)) (session_at seen out) (session_at seen out') r
   alone_missing fs same at only =
-      unmoved (subst (λ o. Alone o (reply_of session o (reply session)) session session out out' r) (sym (unplaced name session.followers (sym (at ∙ ap (position (named name)) same))))
+      unmoved (subst (λ o. Alone o (reply_of session o (reply session)) (session_at session out) (session_at session out') r) (sym (unplaced name session.followers (sym (at ∙ ap (position (named name)) same))))
       (only_alone session None (no_text (codes "FOLLOWER")) out out' r refl only))
 
   -- a follower has the name, and the line is refused
   pub alone_refused : (place : ℕ) (fs : List NamedFollower) (text : List ℕ) → AllFollow session.log session.followers → fs ≡ session.followers → Some place ≡ position (named name) fs
       → ((f : FollowerState) → reply session f ≡ only_answers session text) → OnlyAnswers text out out' r
-      → Alone (follower_named seen.followers name) (on_follower seen name (reply seen)) seen seen out out' r
+      → Alone (follower_named seen.followers name) (on_follower seen name (reply seen)) (session_at seen out) (session_at seen out') r
   alone_refused place fs text all same at refused only =
       let it = follower_at session name place fs all same at in
       unmoved (alone_found session session name out out' r (reply session) it.0 it.1.found
-      (subst (λ a. Alone (Some it.0) a session session out out' r) (sym (refused it.0.follower))
+      (subst (λ a. Alone (Some it.0) a (session_at session out) (session_at session out') r) (sym (refused it.0.follower))
       (only_alone session (Some it.0) text out out' r (stops_here session name it.0 all it.1.found) only)))
 
   -- the epoch hasn't come
   pub alone_past : (place last : ℕ) (fs : List NamedFollower) → AllFollow session.log session.followers → fs ≡ session.followers → Some place ≡ position (named name) fs → last ≡ length session.log
       → ((f : FollowerState) → reply session f ≡ only_answers session (no_text (no_epoch (commands_of session.log)))) → OnlyAnswers (no_text (codes "EPOCH " ++ decimal last)) out out' r
-      → Alone (follower_named seen.followers name) (on_follower seen name (reply seen)) seen seen out out' r
+      → Alone (follower_named seen.followers name) (on_follower seen name (reply seen)) (session_at seen out) (session_at seen out') r
   alone_past place last fs all same at is past only =
       let text : no_text (codes "EPOCH " ++ decimal last) ≡ no_text (no_epoch (commands_of session.log)) = ap (λ (n : ℕ). no_text (codes "EPOCH " ++ decimal n)) (is ∙ sym (length-commands_of session.log)) in
       alone_refused place fs (no_text (no_epoch (commands_of session.log))) all same at past (subst (λ t. OnlyAnswers t out out' r) text only)
@@ -287,23 +287,23 @@ module _ {T : Type 0} (reply : SessionState → FollowerState → Reply) (sessio
   -- the follower is led on, and the line is answered
   pub alone_led : (place : ℕ) (f : NamedFollower) (x due : FollowerState) (text : List ℕ) → HasFollower session name place f → reply session f.follower ≡ moved_reply session name text due → IsOnTheWay session.log f.follower due x
       → OnOk r (x ≡ due) → OnlyAnswers text out out' r
-      → Alone (follower_named seen.followers name) (on_follower seen name (reply seen)) seen (record session { followers = set session.followers place (record f { follower = x }) }) out out' r
+      → Alone (follower_named seen.followers name) (on_follower seen name (reply seen)) (session_at seen out) (session_at (record session { followers = set session.followers place (record f { follower = x }) }) out') r
   alone_led place f x due text has is way comes only =
       let after : SessionState = record session { followers = set session.followers place (record f { follower = x }) } in
-      subst (λ s. Alone (follower_named s.followers name) (on_follower s name (reply s)) s after out out' r) view
+      subst (λ s. Alone (follower_named s.followers name) (on_follower s name (reply s)) (session_at s out) (session_at after out') r) view
       (alone_found session after name out out' r (reply session) f has.found
-      (subst (λ a. Alone (Some f) a session after out out' r) (sym is)
+      (subst (λ a. Alone (Some f) a (session_at session out) (session_at after out') r) (sym is)
       (alone_way session after name f x due text out out' r has.found (ap (λ fs. record session { followers = fs }) (has.moved x)) way comes only)))
 
   -- something was handed over, and the line is answered
   pub alone_moved : (place : ℕ) (f : NamedFollower) (x : FollowerState) (step : Handed) (handed : Result Took FollowerFault) → IsHanded session name place f x handed → reply session f.follower ≡ handed_reply session name step → CutsFrom f.follower.image.epoch step
       → Performs f.follower step handed x → AnswersHanded handed out out' r
-      → Alone (follower_named seen.followers name) (on_follower seen name (reply seen)) seen (record session { followers = set session.followers place (record f { follower = x }) }) out out' r
+      → Alone (follower_named seen.followers name) (on_follower seen name (reply seen)) (session_at seen out) (session_at (record session { followers = set session.followers place (record f { follower = x }) }) out') r
   alone_moved place f x step handed it is cuts comes answers =
       let after : SessionState = record session { followers = set session.followers place (record f { follower = x }) } in
-      subst (λ s. Alone (follower_named s.followers name) (on_follower s name (reply s)) s after out out' r) view
+      subst (λ s. Alone (follower_named s.followers name) (on_follower s name (reply s)) (session_at s out) (session_at after out') r) view
       (alone_found session after name out out' r (reply session) f it.has.found
-      (subst (λ a. Alone (Some f) a session after out out' r) (sym is)
+      (subst (λ a. Alone (Some f) a (session_at session out) (session_at after out') r) (sym is)
       (alone_handed session after name f x step handed out out' r it.has.found (ap (λ fs. record session { followers = fs }) (it.has.moved x)) cuts it.follows it.keeps comes answers)))
 
 -- ---- what is handed over
@@ -366,11 +366,11 @@ module _ (session : SessionState) (name : List ℕ) where
   reply_made free few = taken_or_not false free ∙ full_or_not false (grind (arith, nat_tests))
 
 pub alone_made : {T : Type 0} (session seen : SessionState) (name : List ℕ) (fs : List NamedFollower) (out out' : List ℕ) (x : T) → session ≡ seen → follower_reply session name ≡ made_reply session name
-    → fs ≡ session.followers ++ new_follower name ∷ [] → out' ≡ out ++ epoch_text (codes "AT") 0 → Alone None (follower_reply seen name) seen (record session { followers = fs }) out out' (Ok x)
+    → fs ≡ session.followers ++ new_follower name ∷ [] → out' ≡ out ++ epoch_text (codes "AT") 0 → Alone None (follower_reply seen name) (session_at seen out) (session_at (record session { followers = fs }) out') (Ok x)
 alone_made session seen name fs out out' x view is made text =
     let log : session.log ≡ session.log ++ [] = sym (append-nil session.log) in
-    subst (λ s. Alone None (follower_reply s name) s (record session { followers = fs }) out out' (Ok x)) view
-    (subst (λ a. Alone None a session (record session { followers = fs }) out out' (Ok x)) (sym is)
+    subst (λ s. Alone None (follower_reply s name) (session_at s out) (session_at (record session { followers = fs }) out') (Ok x)) view
+    (subst (λ a. Alone None a (session_at session out) (session_at (record session { followers = fs }) out') (Ok x)) (sym is)
     (record {
       added = refl;
       text = text;
@@ -382,10 +382,10 @@ alone_made session seen name fs out out' x view is made text =
 
 -- a line that makes no follower
 pub alone_unmade : {T : Type 0} (session seen : SessionState) (name text out out' : List ℕ) (r : Result T StepFault) → session ≡ seen → follower_reply session name ≡ only_answers session text → OnlyAnswers text out out' r
-    → Alone None (follower_reply seen name) seen seen out out' r
+    → Alone None (follower_reply seen name) (session_at seen out) (session_at seen out') r
 alone_unmade session seen name text out out' r view is only =
-    subst (λ s. Alone None (follower_reply s name) s s out out' r) view
-    (subst (λ a. Alone None a session session out out' r) (sym is) (only_alone session None text out out' r refl only))
+    subst (λ s. Alone None (follower_reply s name) (session_at s out) (session_at s out') r) view
+    (subst (λ a. Alone None a (session_at session out) (session_at session out') r) (sym is) (only_alone session None text out out' r refl only))
 
 pub made_follows : (log : List Entry) (name : List ℕ) (fs fs' : List NamedFollower) → AllFollow log fs → fs' ≡ fs ++ new_follower name ∷ [] → AllFollow log fs'
 made_follows log name fs fs' all is =
@@ -394,7 +394,7 @@ made_follows log name fs fs' all is =
 -- memory ran out before the image of an epoch was made
 pub alone_unhanded : {T : Type 0} (session seen : SessionState) (name : List ℕ) (place epoch : ℕ) (out : List ℕ) (r : Result T StepFault) (fs : List NamedFollower) → session ≡ seen → AllFollow session.log session.followers → fs ≡ session.followers
     → Some place ≡ position (named name) fs → epoch ≤ length session.log → IsErrAnd r (λ e. e ≡ step.Memory)
-    → Alone (follower_named seen.followers name) (on_follower seen name (λ f. snapshot_to seen name f (image_at (commands_of seen.log) epoch))) seen seen out out r
+    → Alone (follower_named seen.followers name) (on_follower seen name (λ f. snapshot_to seen name f (image_at (commands_of seen.log) epoch))) (session_at seen out) (session_at seen out) r
 alone_unhanded session seen name place epoch out (Ok x) fs view all same at within memory = absurd memory
 alone_unhanded {T} session seen name place epoch out (Err e) fs view all same at within memory =
     let image : Image = state_after (commands_of session.log) epoch in
@@ -403,7 +403,7 @@ alone_unhanded {T} session seen name place epoch out (Err e) fs view all same at
     let f = it.0 in
     let handed : reply session f.follower ≡ handed_reply session name (hand_valid f.follower image) = ap (snapshot_to session name f.follower) (image_come session.log epoch image within refl) in
     unmoved reply session seen name out out (Err e) view (alone_found session session name out out (Err e) (reply session) f it.1.found
-    (subst (λ a. Alone {T = T} (Some f) a session session out out (Err e)) (sym handed)
+    (subst (λ a. Alone {T = T} (Some f) a (session_at session out) (session_at session out) (Err e)) (sym handed)
     (alone_handed session session name f f.follower (hand_valid f.follower image) (Err Memory) out out (Err e) it.1.found
     (ap (λ fs. record session { followers = fs }) (sym (with_itself session.followers name f it.1.found)))
     (valid_from f.follower image) it.1.follows (forgets_nothing session.log f.follower) refl (record { took = tt; text = tt; kept = take_all (length out) out (omega arith); memory = memory }))))

@@ -8,7 +8,7 @@ use Rattle.follower_log.specs.Follower.{FollowerState}
 use Rattle.script_lang.specs.AnswerTexts.{epoch_text, no_text}
 use Rattle.script_session.specs.Machine.{Reply, SessionState, ask_of, asked_reply, follower_named, give_to, most_replies, on_follower, only_answers, reply_numbered, reply_of}
 use Rattle.script_session.specs.StepEnds.{IsOnTheWay}
-use Rattle.script_session.specs.code.StepParts.{AllFollow, Alone, OnlyAnswers}
+use Rattle.script_session.specs.code.StepParts.{AllFollow, Alone, OnlyAnswers, session_at}
 use Rattle.script_session.specs.declared.fault.StepFault.{StepFault}
 use Rattle.script_session.specs.declared.fault.StepFault.TheVariants as step
 use Rattle.script_session.specs.declared.session.followers.NamedFollower.{NamedFollower}
@@ -34,7 +34,7 @@ module _ {T : Type 0} (session seen : SessionState) (name : List ℕ) (number : 
     (same : fs ≡ session.followers) (at : Some place ≡ position (named name) fs) (rs : List CatchUpReply) (kept : rs ≡ session.replies) where
   -- no reply has the number
   pub give_past : (last : ℕ) → None ≡ reply_numbered rs number → last ≡ length rs → OnlyAnswers (no_text (codes "REPLY " ++ decimal last)) out out' r
-      → Alone (follower_named seen.followers name) (on_follower seen name (give name number seen)) seen seen out out' r
+      → Alone (follower_named seen.followers name) (on_follower seen name (give name number seen)) (session_at seen out) (session_at seen out') r
   give_past last none is only =
       let none_there : reply_numbered session.replies number ≡ None = sym (none ∙ ap (λ l. reply_numbered l number) kept) in
       let text : last ≡ length session.replies = is ∙ ap length kept in
@@ -44,7 +44,7 @@ module _ {T : Type 0} (session seen : SessionState) (name : List ℕ) (number : 
   -- the follower is given it, and comes to its end if memory doesn't run out
   pub give_there : (f d : NamedFollower) (x : FollowerState) (given : CatchUpReply) → Some given ≡ reply_numbered rs number → f ≡ get_or session.followers place d → IsOnTheWay session.log f.follower (given_reply f.follower given) x
       → OnOk r (x ≡ given_reply f.follower given) → OnlyAnswers (epoch_text (codes "AT") (given_reply f.follower given).image.epoch) out out' r
-      → Alone (follower_named seen.followers name) (on_follower seen name (give name number seen)) seen (record session { followers = set session.followers place (record f { follower = x }) }) out out' r
+      → Alone (follower_named seen.followers name) (on_follower seen name (give name number seen)) (session_at seen out) (session_at (record session { followers = set session.followers place (record f { follower = x }) }) out') r
   give_there f d x given found is way comes only =
       let there : reply_numbered session.replies number ≡ Some given = sym (found ∙ ap (λ l. reply_numbered l number) kept) in
       let due : FollowerState = given_reply f.follower given in
@@ -71,7 +71,7 @@ module _ (session : SessionState) (name : List ℕ) (max : ℕ) where
 
 module _ {T : Type 0} (session seen : SessionState) (name : List ℕ) (max : ℕ) (out out' : List ℕ) (r : Result T StepFault) (view : session ≡ seen) where
   -- it is refused
-  pub ask_refused : (text : List ℕ) → asked session name max ≡ only_answers session text → OnlyAnswers text out out' r → Alone None (asked seen name max) seen seen out out' r
+  pub ask_refused : (text : List ℕ) → asked session name max ≡ only_answers session text → OnlyAnswers text out out' r → Alone None (asked seen name max) (session_at seen out) (session_at seen out') r
   ask_refused text is only =
-      subst (λ s. Alone None (asked s name max) s s out out' r) view
-      (subst (λ a. Alone None a session session out out' r) (sym is) (only_alone session None text out out' r refl only))
+      subst (λ s. Alone None (asked s name max) (session_at s out) (session_at s out') r) view
+      (subst (λ a. Alone None a (session_at session out) (session_at session out') r) (sym is) (only_alone session None text out out' r refl only))

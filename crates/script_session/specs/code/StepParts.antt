@@ -29,35 +29,55 @@ AllFollow log followers = AllByRecursion (λ f. FollowsLog log f.follower) follo
 abbrev pub AllFrom : List Entry → List CatchUpReply → Type 0
 AllFrom log replies = AllByRecursion (IsReplyFrom log) replies
 
--- a step that comes to this reply: the session, the output, the files and the count of the store's faults, before and
--- after
-pub record StepEnds {T : Type 0} (handed : Option NamedFollower) (reply : Reply) (name : Option (List ℕ)) (session session' : SessionState) (out out' : List ℕ) (files files' : Option Files) (before after : ℕ) (result : Result T StepFault) : Type 0 where
-  pub text : OnOk result (out' ≡ out ++ reply.text)
-  pub kept : take (length out) out' ≡ out
-  pub next : OnOk result (session' ≡ replied session reply)
-  pub file : OnOk result (Gains name (entry_lines reply.added) files files')
-  pub left : IfErr result (λ e. LeavesSession e handed session reply.followers session')
-  pub fault : IfErr result (λ e. Leaves e name reply.added files files')
-  pub count : after ≡ count_by result before
+-- where a step stands: what it changes, which is a session or its log, the output, the files that the store tells, and
+-- the count of the store's faults
+pub record At (X : Type 0) : Type 0 where
+  pub state : X
+  pub out : List ℕ
+  pub files : Option Files
+  pub faults : ℕ
+
+-- where a step stands, as a record
+abbrev pub at : {X : Type 0} → X → List ℕ → Option Files → ℕ → At X
+at state out files faults = record { state = state; out = out; files = files; faults = faults }
+
+-- a step that comes to this reply
+pub record StepEnds {T : Type 0} (handed : Option NamedFollower) (reply : Reply) (name : Option (List ℕ)) (before after : At SessionState) (result : Result T StepFault) : Type 0 where
+  pub text : OnOk result (after.out ≡ before.out ++ reply.text)
+  pub kept : take (length before.out) after.out ≡ before.out
+  pub next : OnOk result (after.state ≡ replied before.state reply)
+  pub file : OnOk result (Gains name (entry_lines reply.added) before.files after.files)
+  pub left : IfErr result (λ e. LeavesSession e handed before.state reply.followers after.state)
+  pub fault : IfErr result (λ e. Leaves e name reply.added before.files after.files)
+  pub count : after.faults ≡ count_by result before.faults
+
+-- where a step stands that uses no file
+pub record SessionAt : Type 0 where
+  pub session : SessionState
+  pub out : List ℕ
+
+-- where it stands, as a record
+abbrev pub session_at : SessionState → List ℕ → SessionAt
+session_at session out = record { session = session; out = out }
 
 -- a step that adds no entry and uses no file, and so fails only if memory runs out
-pub record Alone {T : Type 0} (handed : Option NamedFollower) (reply : Reply) (session session' : SessionState) (out out' : List ℕ) (result : Result T StepFault) : Type 0 where
+pub record Alone {T : Type 0} (handed : Option NamedFollower) (reply : Reply) (before after : SessionAt) (result : Result T StepFault) : Type 0 where
   pub added : reply.added ≡ []
-  pub text : OnOk result (out' ≡ out ++ reply.text)
-  pub kept : take (length out) out' ≡ out
-  pub next : OnOk result (session' ≡ replied session reply)
-  pub left : OnErr result (StopsAny handed session reply.followers session')
+  pub text : OnOk result (after.out ≡ before.out ++ reply.text)
+  pub kept : take (length before.out) after.out ≡ before.out
+  pub next : OnOk result (after.session ≡ replied before.session reply)
+  pub left : OnErr result (StopsAny handed before.session reply.followers after.session)
   pub memory : IfErr result (λ e. e ≡ fault.Memory)
 
 -- an entry is noted: its answer is added to the output, the entry to the log, and its line to the file
-pub record Notes {T : Type 0} (entry : Entry) (name : Option (List ℕ)) (log log' : List Entry) (out out' : List ℕ) (files files' : Option Files) (before after : ℕ) (result : Result T StepFault) : Type 0 where
-  pub text : OnOk result (out' ≡ out ++ ok_text entry.epoch)
-  pub kept : take (length out) out' ≡ out
-  pub grown : OnOk result (log' ≡ log ++ entry ∷ [])
-  pub file : OnOk result (Gains name (entry_lines (entry ∷ [])) files files')
-  pub err : OnErr result (log' ≡ log)
-  pub fault : IfErr result (λ e. Leaves e name (entry ∷ []) files files')
-  pub count : after ≡ count_by result before
+pub record Notes {T : Type 0} (entry : Entry) (name : Option (List ℕ)) (before after : At (List Entry)) (result : Result T StepFault) : Type 0 where
+  pub text : OnOk result (after.out ≡ before.out ++ ok_text entry.epoch)
+  pub kept : take (length before.out) after.out ≡ before.out
+  pub grown : OnOk result (after.state ≡ before.state ++ entry ∷ [])
+  pub file : OnOk result (Gains name (entry_lines (entry ∷ [])) before.files after.files)
+  pub err : OnErr result (after.state ≡ before.state)
+  pub fault : IfErr result (λ e. Leaves e name (entry ∷ []) before.files after.files)
+  pub count : after.faults ≡ count_by result before.faults
 
 -- what a follower was handed is of the log of its session: a fork, a refusal and a bad image don't come
 abbrev pub IsOfOneLog : Result Took FollowerFault → Type 0

@@ -5,7 +5,7 @@ ghost use Rattle.epoch_log.specs.Epochs.{entry_at};
 ghost use Rattle.transformations.specs.History.{state_after};
 ghost use Rattle.transformations.specs.Log.{commands_of};
 ghost use Rattle.script_session.specs.Machine.{deliver_to, follower_named, follower_reply, image_at, on_follower, snapshot_to};
-ghost use Rattle.script_session.specs.code.StepParts.{Alone};
+ghost use Rattle.script_session.specs.code.StepParts.{Alone, session_at};
 
 use super::handing_over::hand_over;
 use super::{Session, past_last, refuse_line};
@@ -18,7 +18,7 @@ use transformations::Image;
 impl Session {
     /// Makes a follower at epoch 0, unless its name is taken or there are 16 followers.
     pub(crate) fn make_follower(&mut self, name: Name, out: &mut ByteText) -> Result<(), StepFault>
-        ensures steps { Alone None (follower_reply self.old name) self.old self.new out.old out.new result }
+        ensures steps { Alone None (follower_reply self.old name) (session_at self.old out.old) (session_at self.new out.new) result }
     {
         if is_taken(&self.followers, name.as_str()) {
             return refuse_line(b"FOLLOWER-TAKEN", out);
@@ -44,7 +44,7 @@ impl Session {
         ensures steps { Alone (follower_named self.old.followers name.now)
             (on_follower self.old name.now
             (λ f. deliver_to self.old name.now f (entry_at self.old.log epoch)))
-            self.old self.new out.old out.new result }
+            (session_at self.old out.old) (session_at self.new out.new) result }
     {
         let Some(place) = place_of(&self.followers, name) else {
             return refuse_line(b"FOLLOWER", out);
@@ -70,7 +70,7 @@ impl Session {
         ensures steps { Alone (follower_named self.old.followers name.now)
             (on_follower self.old name.now
             (λ f. snapshot_to self.old name.now f (image_at (commands_of self.old.log) epoch)))
-            self.old self.new out.old out.new result }
+            (session_at self.old out.old) (session_at self.new out.new) result }
     {
         let Some(place) = place_of(&self.followers, name) else {
             return refuse_line(b"FOLLOWER", out);

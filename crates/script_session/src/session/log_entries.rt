@@ -7,7 +7,7 @@ ghost use Rattle.wire_json.specs.EntryTexts as wire;
 ghost use Rattle.script_session.specs.Faults.{count_by};
 ghost use Rattle.script_session.specs.LogFiles.{Gains};
 ghost use Rattle.script_session.specs.StepEnds.{Leaves, StepCrashes};
-ghost use Rattle.script_session.specs.code.StepParts.{Notes};
+ghost use Rattle.script_session.specs.code.StepParts.{Notes, at};
 
 use crate::fault::StepFault;
 use cluster_terms::{ByteText, Memory};
@@ -46,7 +46,8 @@ fn keep_in_file<D: Store>(
     ensures file { OnOk result
         (Gains (Some name.now) (wire.entry_line entry) (D.files store.old) (D.files store.new)) }
     ensures fault { IfErr result (λ e. Leaves e (Some name.now) (entry ∷ []) (D.files store.old) (D.files store.new)) }
-    ensures crash { StepCrashes D.files D.shows (Some name.now) (entry ∷ []) store.old store.new result }
+    ensures crash { StepCrashes D.files D.shows (λ e left. Leaves e (Some name.now) (entry ∷ []) (D.files store.old) left)
+        store.old store.new result }
     ensures count { D.faults store.new ≡ count_by result (D.faults store.old) }
 {
     let line = entry_line(alloc, &entry)?;
@@ -72,9 +73,11 @@ pub fn note<D: Store>(
 ) -> Result<(), StepFault>
     requires epoch { entry.epoch ≡ length log.old + 1 }
     requires id { entry_with_id log.old entry.id ≡ None }
-    ensures notes { Notes entry (option_copied file.entry) log.old log.new out.old out.new
-        (D.files store.old) (D.files store.new) (D.faults store.old) (D.faults store.new) result }
-    ensures crash { StepCrashes D.files D.shows (option_copied file.entry) (entry ∷ []) store.old store.new result }
+    ensures notes { Notes entry (option_copied file.entry)
+        (at log.old out.old (D.files store.old) (D.faults store.old))
+        (at log.new out.new (D.files store.new) (D.faults store.new)) result }
+    ensures crash { StepCrashes D.files D.shows (λ e left. Leaves e (option_copied file.entry) (entry ∷ []) (D.files store.old) left)
+        store.old store.new result }
     ensures unnamed { option_copied file.entry ≡ None → store.new ≡ store.old }
 {
     // The answer is made whole before it is written, so without memory nothing of it is printed.

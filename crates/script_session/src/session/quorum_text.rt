@@ -12,7 +12,7 @@ use cluster_metadata::Metadata;
 use cluster_terms::{ByteText, Factors, Memory, Name, Replication, Steps, Token};
 use node_sets::NodeSet;
 use quorum_sets::{local_quorum, names_datacenter, quorum, within};
-use script_lang::{no_text, sets_text};
+use script_lang::{QuorumSets, no_text, sets_text};
 use std::alloc::Global;
 use std::marker::Brand;
 use std::sync::ledger::{Blank, Ledger};
@@ -65,8 +65,12 @@ pub fn quorum_text(
     let Some((reads, writes)) = replicas(metadata, keyspace, t) else {
         unreachable!()
     };
-    let needs = quorum(reads, writes, replication);
-    sets_text("QUORUM", metadata.epoch(), reads, writes, &needs, out)
+    let sets = QuorumSets {
+        reads,
+        writes,
+        needs: quorum(reads, writes, replication),
+    };
+    sets_text("QUORUM", metadata.epoch(), &sets, out)
 }
 
 /// The factors of a replication, if it names the datacenter.
@@ -80,35 +84,39 @@ fn factors_naming<'a>(replication: &'a Replication, dc: &Name) -> Option<&'a Fac
     }
 }
 
+/// The read replicas and the write replicas in all datacenters.
+#[derive(Clone, Copy)]
+struct AllReplicas<'a> {
+    reads: &'a NodeSet,
+    writes: &'a NodeSet,
+}
+
 /// Adds the read replicas and the write replicas in a datacenter that the factors name, each with how many of them
-/// LOCAL_QUORUM needs. `reads` and `writes` are the replicas in all datacenters.
+/// LOCAL_QUORUM needs.
 fn local_sets_text(
     alloc: Global,
     metadata: &Metadata,
     factors: &Factors,
     dc: &Name,
-    reads: &NodeSet,
-    writes: &NodeSet,
+    all: &AllReplicas,
     out: &mut ByteText,
 ) -> Result<(), Memory>
     requires named { IsSome (datacenter_of factors.now dc.now) }
-    requires few { length writes.now ≤ 1024 }
-    ensures added { IfDatacenter factors.now dc.now metadata.now.nodes reads.now writes.now (λ local.
-        OnOk result (out.new ≡ out.old ++ spec.quorum_text (codes "LOCAL") metadata.now.epoch local)) }
+    requires few { length all.now.writes.now ≤ 1024 }
+    ensures added { IfDatacenter factors.now dc.now metadata.now.nodes all.now.reads.now all.now.writes.now
+        (λ local. OnOk result (out.new ≡ out.old ++ spec.quorum_text (codes "LOCAL") metadata.now.epoch local)) }
     ensures kept { take (length out.old) out.new ≡ out.old }
 {
     let dir = metadata.directory();
-    let needs = local_quorum(reads, writes, dir, factors, dc);
-    let local_reads = within(alloc, dir, dc, reads)?;
-    let local_writes = within(alloc, dir, dc, writes)?;
-    sets_text(
-        "LOCAL",
-        metadata.epoch(),
-        &local_reads,
-        &local_writes,
-        &needs,
-        out,
-    )
+    let needs = local_quorum(all.reads, all.writes, dir, factors, dc);
+    let local_reads = within(alloc, dir, dc, all.reads)?;
+    let local_writes = within(alloc, dir, dc, all.writes)?;
+    let local = QuorumSets {
+        reads: &local_reads,
+        writes: &local_writes,
+        needs,
+    };
+    sets_text("LOCAL", metadata.epoch(), &local, out)
 }
 
 /// Adds the read replicas and the write replicas of a keyspace in a datacenter at a token, each with how many of them
@@ -135,5 +143,6 @@ pub fn local_text(
     let Some((reads, writes)) = replicas(metadata, keyspace, t) else {
         unreachable!()
     };
-    local_sets_text(alloc, metadata, factors, dc, reads, writes, out)
+    let all = AllReplicas { reads, writes };
+    local_sets_text(alloc, metadata, factors, dc, &all, out)
 }

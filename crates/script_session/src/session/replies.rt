@@ -6,7 +6,7 @@ ghost use Rattle.catch_up.specs.Replies.{catch_up_reply};
 ghost use Rattle.script_lang.specs.AnswerTexts.{no_text};
 ghost use Rattle.script_session.specs.Machine as machine;
 ghost use Rattle.script_session.specs.Machine.{ask_of, asked_text, give_to, on_follower};
-ghost use Rattle.script_session.specs.code.StepParts.{Alone, OnlyAnswers};
+ghost use Rattle.script_session.specs.code.StepParts.{Alone, OnlyAnswers, session_at};
 
 use super::handing_over::give_reply;
 use super::{Session, refuse_line};
@@ -63,7 +63,7 @@ impl Session {
     pub(crate) fn ask(&mut self, name: &Name, max: u64, out: &mut ByteText) -> Result<(), StepFault>
         requires { (1 ≤ max) × (max ≤ 1024) }
         ensures steps { Alone None (on_follower self.old name.now (ask_of self.old max))
-            self.old self.new out.old out.new result }
+            (session_at self.old out.old) (session_at self.new out.new) result }
     {
         let Some(named) = follower_named(&self.followers, name.as_str()) else {
             return refuse_line(b"FOLLOWER", out);
@@ -106,7 +106,7 @@ impl Session {
         ensures steps { Alone (machine.follower_named self.old.followers name.now)
             (on_follower self.old name.now
             (λ f. give_to self.old name.now f (machine.reply_numbered self.old.replies number)))
-            self.old self.new out.old out.new result }
+            (session_at self.old out.old) (session_at self.new out.new) result }
     {
         let Some(place) = place_of(&self.followers, name) else {
             return refuse_line(b"FOLLOWER", out);

@@ -10,6 +10,7 @@ use Rattle.script_session.specs.LogFiles.{Gains, entry_lines}
 use Rattle.script_session.specs.Machine.{answers, entries_added, session_after}
 use Rattle.tcm_session.specs.Outcome.{input_limit}
 use Rattle.tcm_session.specs.Counts.{Counts}
+use Rattle.tcm_session.specs.Run.{Told, told}
 use Rattle.tcm_session.specs.code.Runs.{IsBegun, ReadsOnce, ReadsTo, Standing, StopsAt, Takes, kept_of, lines_ended}
 use Rattle.tcm_session.specs.code.Stops.{Stopped, StopsThere}
 use Rattle.tcm_session.specs.declared.run_fault.RunFault.{RunFault}
@@ -87,8 +88,8 @@ module _ (file : Option (List ℕ)) (a : List ℕ) (at at₁ : Standing) (first 
       }
 
   -- a piece, and a part of the next
-  pub StopsAt-then : (e : RunFault) (most : ℕ) (l l₁ l₂ : Option (List ℕ)) (w₂ : Option (List ℕ)) (f₂ : Option Files) → Consumes l l₁ a → StopsAt file e most l₁ l₂ at₁ w₂ f₂ → StopsAt file e (length a + most) l l₂ at w₂ f₂
-  StopsAt-then e most l l₁ l₂ w₂ f₂ consumed second =
+  pub StopsAt-then : (e : RunFault) (most : ℕ) (l l₁ : Option (List ℕ)) (after : Told) → Consumes l l₁ a → StopsAt file e most l₁ at₁ after → StopsAt file e (length a + most) l at after
+  StopsAt-then e most l l₁ after consumed second =
       let P = e ≡ fault.Source in
       let b = second.bytes in
       let lines = lines_ended at a in
@@ -104,14 +105,14 @@ module _ (file : Option (List ℕ)) (a : List ℕ) (at at₁ : Standing) (first 
       StopsThere-lines P at.session (lines ++ later) (lines_ended at (a ++ b)) _ _ (later_lines b) (StopsThere-then P at.session lines later printed added all) in
       record {
         bytes = a ++ b;
-        consumed = Consumes-trans l l₁ l₂ a b consumed second.consumed;
+        consumed = Consumes-trans l l₁ after.left a b consumed second.consumed;
         bounded = omega (arith, length-append a b, second.bounded);
-        stopped = Stopped-after (StopsThere P at₁.session (lines_ended at₁ b)) (StopsThere P at.session (lines_ended at (a ++ b))) file at.written at₁.written w₂ at.files at₁.files f₂
+        stopped = Stopped-after (StopsThere P at₁.session (lines_ended at₁ b)) (StopsThere P at.session (lines_ended at (a ++ b))) file at.written at₁.written after.written at.files at₁.files after.files
             (answers at.session lines) (entry_lines (entries_added at.session lines)) step first.answered (Adds-of_gains file _ at.files at₁.files first.files) second.stopped;
       }
 
 -- a read that failed
-pub StopsAt-none : (file : Option (List ℕ)) (e : RunFault) (most : ℕ) (l l' : Option (List ℕ)) (at : Standing) → Keeps l l' → IsBegun at.begun → StopsAt file e most l l' at at.written at.files
+pub StopsAt-none : (file : Option (List ℕ)) (e : RunFault) (most : ℕ) (l l' : Option (List ℕ)) (at : Standing) → Keeps l l' → IsBegun at.begun → StopsAt file e most l at (told l' at.written at.files)
 StopsAt-none file e most l l' at kept begun =
     let none : lines_ended at [] ≡ [] = ap whole_lines (append-nil at.begun) ∙ whole_lines-none at.begun begun.plain in
     record {
@@ -122,20 +123,21 @@ StopsAt-none file e most l l' at kept begun =
     }
 
 -- the files are given otherwise
-pub StopsAt-told : (file : Option (List ℕ)) (e : RunFault) (most : ℕ) (l l' : Option (List ℕ)) (at : Standing) (w' : Option (List ℕ)) (f left : Option Files) → left ≡ f → StopsAt file e most l l' at w' f → StopsAt file e most l l' at w' left
-StopsAt-told file e most l l' at w' f left same s = subst (StopsAt file e most l l' at w') (sym same) s
+pub StopsAt-told : (file : Option (List ℕ)) (e : RunFault) (most : ℕ) (l l' : Option (List ℕ)) (at : Standing) (w' : Option (List ℕ)) (f left : Option Files) → left ≡ f → StopsAt file e most l at (told l' w' f)
+    → StopsAt file e most l at (told l' w' left)
+StopsAt-told file e most l l' at w' f left same s = subst (λ files. StopsAt file e most l at (told l' w' files)) (sym same) s
 
 -- a piece of which not all lines are done, for no fault of the source
-pub StopsAt-piece : (file : Option (List ℕ)) (e : RunFault) (most : ℕ) (l l' : Option (List ℕ)) (at : Standing) (w' : Option (List ℕ)) (f' : Option Files) (bytes : List ℕ) (before after : Counts)
-    → before.source ≡ 0 → after.source ≡ 0
-    → Consumes l l' bytes → length bytes ≤ most → Stopped (StopsIn at.session (lines_ended at bytes) []) file at.written w' at.files f' → after ≡ counts_after e before → StopsAt file e most l l' at w' f'
-StopsAt-piece file e most l l' at w' f' bytes before after none none' consumed fits stopped cause =
+pub StopsAt-piece : (file : Option (List ℕ)) (e : RunFault) (most : ℕ) (l : Option (List ℕ)) (at : Standing) (after : Told) (bytes : List ℕ) (n n' : Counts) → n.source ≡ 0 → n'.source ≡ 0
+    → Consumes l after.left bytes → length bytes ≤ most → Stopped (StopsIn at.session (lines_ended at bytes) []) file at.written after.written at.files after.files → n' ≡ counts_after e n
+    → StopsAt file e most l at after
+StopsAt-piece file e most l at after bytes n n' none none' consumed fits stopped cause =
     record {
       bytes = bytes;
       consumed = consumed;
       bounded = fits;
-      stopped = Stopped-map (StopsIn at.session (lines_ended at bytes) []) (StopsThere (e ≡ fault.Source) at.session (lines_ended at bytes)) file at.written w' at.files f'
-          (λ printed added s. record { stops = s; all = λ is. absurd (not_source e before after none none' cause is) }) stopped;
+      stopped = Stopped-map (StopsIn at.session (lines_ended at bytes) []) (StopsThere (e ≡ fault.Source) at.session (lines_ended at bytes)) file at.written after.written at.files after.files
+          (λ printed added s. record { stops = s; all = λ is. absurd (not_source e n n' none none' cause is) }) stopped;
     }
 
 -- ---- the loop over reads
@@ -151,8 +153,8 @@ pub ReadsSoFar-none : (file : Option (List ℕ)) (l : Option (List ℕ)) (at : S
 ReadsSoFar-none file l at begun = record { bytes = []; count = refl; consumed = Consumes-nil l; takes = Takes-nil file at begun }
 
 module _ (file : Option (List ℕ)) (taken : ℕ) (l l₁ : Option (List ℕ)) (at at₁ : Standing) (so_far : ReadsSoFar file taken l l₁ at at₁) where
-  pub ReadsSoFar-more : (n most : ℕ) (l₂ : Option (List ℕ)) (at₂ : Standing) → ReadsOnce file n most l₁ l₂ at₁ at₂ → ReadsSoFar file (taken + n) l l₂ at at₂
-  ReadsSoFar-more n most l₂ at₂ once =
+  pub ReadsSoFar-more : (n : ℕ) (l₂ : Option (List ℕ)) (at₂ : Standing) → ReadsOnce file n l₁ l₂ at₁ at₂ → ReadsSoFar file (taken + n) l l₂ at at₂
+  ReadsSoFar-more n l₂ at₂ once =
       record {
         bytes = so_far.bytes ++ once.bytes;
         count = length-append so_far.bytes once.bytes ∙ (λ i. so_far.count i + once.count i);
@@ -160,9 +162,9 @@ module _ (file : Option (List ℕ)) (taken : ℕ) (l l₁ : Option (List ℕ)) (
         takes = Takes-then file so_far.bytes at at₁ so_far.takes once.bytes at₂ once.takes;
       }
 
-  pub ReadsSoFar-stop : (e : RunFault) (most all : ℕ) (l₂ w₂ : Option (List ℕ)) (f₂ : Option Files) → taken + most ≤ all → StopsAt file e most l₁ l₂ at₁ w₂ f₂ → StopsAt file e all l l₂ at w₂ f₂
-  ReadsSoFar-stop e most all l₂ w₂ f₂ fits part =
-      let stops = StopsAt-then file so_far.bytes at at₁ so_far.takes e most l l₁ l₂ w₂ f₂ so_far.consumed part in
+  pub ReadsSoFar-stop : (e : RunFault) (most all : ℕ) (after : Told) → taken + most ≤ all → StopsAt file e most l₁ at₁ after → StopsAt file e all l at after
+  ReadsSoFar-stop e most all after fits part =
+      let stops = StopsAt-then file so_far.bytes at at₁ so_far.takes e most l l₁ after so_far.consumed part in
       record { bytes = stops.bytes; consumed = stops.consumed; bounded = omega (arith, stops.bounded, so_far.count); stopped = stops.stopped }
 
   -- what is kept of the line that has begun
@@ -170,13 +172,13 @@ module _ (file : Option (List ℕ)) (taken : ℕ) (l l₁ : Option (List ℕ)) (
   ReadsSoFar-begun = subst IsBegun (sym so_far.takes.begun) (IsBegun-kept (open_line (at.begun ++ so_far.bytes)) (HasNoFeed-open (at.begun ++ so_far.bytes)))
 
   -- nothing more was read
-  pub ReadsSoFar-none_more : (e : RunFault) (all : ℕ) (l₂ : Option (List ℕ)) → taken ≤ all → Keeps l₁ l₂ → StopsAt file e all l l₂ at at₁.written at₁.files
-  ReadsSoFar-none_more e all l₂ fits kept = ReadsSoFar-stop e 0 all l₂ at₁.written at₁.files (omega arith) (StopsAt-none file e 0 l₁ l₂ at₁ kept ReadsSoFar-begun)
+  pub ReadsSoFar-none_more : (e : RunFault) (all : ℕ) (l₂ : Option (List ℕ)) → taken ≤ all → Keeps l₁ l₂ → StopsAt file e all l at (told l₂ at₁.written at₁.files)
+  ReadsSoFar-none_more e all l₂ fits kept = ReadsSoFar-stop e 0 all (told l₂ at₁.written at₁.files) (omega arith) (StopsAt-none file e 0 l₁ l₂ at₁ kept ReadsSoFar-begun)
 
   -- the input is at its end after a read of nothing
-  pub ReadsTo-end : (n most : ℕ) (l₂ : Option (List ℕ)) (at₂ : Standing) → taken ≤ input_limit → n ≡ 0 → ReadsOnce file n most l₁ l₂ at₁ at₂ → ReadsTo file end.AtEnd l l₂ at at₂
-  ReadsTo-end n most l₂ at₂ fits none once =
-      let more = ReadsSoFar-more n most l₂ at₂ once in
+  pub ReadsTo-end : (n : ℕ) (l₂ : Option (List ℕ)) (at₂ : Standing) → taken ≤ input_limit → n ≡ 0 → ReadsOnce file n l₁ l₂ at₁ at₂ → ReadsTo file end.AtEnd l l₂ at at₂
+  ReadsTo-end n l₂ at₂ fits none once =
+      let more = ReadsSoFar-more n l₂ at₂ once in
       record {
         bytes = more.bytes;
         past = [];

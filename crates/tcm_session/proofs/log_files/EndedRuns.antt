@@ -13,7 +13,7 @@ use Rattle.tcm_session.specs.Limits.{input_limit}
 use Rattle.script_session.specs.Lines.{whole_lines}
 use Rattle.tcm_session.specs.files.Replay.{ending_of, files_replayed, lines_replayed, loaded_replayed, nothing_replayed, replay_ending, then_replayed, unless_ended}
 use Rattle.tcm_session.specs.code.Replays.{EndsSo}
-use Rattle.tcm_session.specs.Run.{AreSeen, IsFinal}
+use Rattle.tcm_session.specs.Run.{AreSeen, IsFinal, told}
 use Rattle.tcm_session.specs.code.Runs.{IsEnd, MayHold, RunsFor, RunsSeen, Writes}
 use Rattle.tcm_session.specs.declared.ending.Ending.{Ending}
 use Rattle.tcm_session.specs.declared.run_fault.RunFault.{RunFault}
@@ -83,29 +83,29 @@ module _ (end_by : (ℕ → Files) → Ending) (files : Option Files) (ending : 
       by (Ok s) is = subst IsEnd (sym is) is_end
 
   -- its text is written, or a prefix of it
-  pub runs_ended : {S : Type 0} (left : S → Option (List ℕ)) (input : S) (w w' : Option (List ℕ)) (files' : Option Files) (before after : Counts) → before.source ≡ 0 → after.source ≡ 0 → files' ≡ files → Writes ending.text w w' before after r
-      → RunsSeen (λ seen _. ended_outcome (end_by seen) (seen 0)) (LeavesFiles None files files') left input input w w' files files' (status_by r)
-  runs_ended left input w w' files' before after none none' kept writes =
+  pub runs_ended : (InputKept : Type 0) (kept : InputKept) (left w w' : Option (List ℕ)) (files' : Option Files) (n n' : Counts) → n.source ≡ 0 → n'.source ≡ 0 → files' ≡ files → Writes ending.text w w' n n' r
+      → RunsSeen (λ seen _. ended_outcome (end_by seen) (seen 0)) (LeavesFiles None files files') InputKept (told left w files) (told left w' files') (status_by r)
+  runs_ended InputKept kept left w w' files' n n' none none' same writes =
       let first = ends.seen 0 in
       let final : IsFinal ending.status = (final_end ending.status is_end).1 in
-      let held : MayHold files' first = subst (λ f. MayHold f first) (sym kept) (held_first files ends.seen ends.held) in
+      let held : MayHold files' first = subst (λ f. MayHold f first) (sym same) (held_first files ends.seen ends.held) in
       record {
         seen = ends.seen;
         held = ends.held;
-        runs = subst (λ (e : Ending). RunsFor (λ _. ended_outcome e first) (LeavesFiles None files files') left input input w w' files' (status_by r)) ends.is
-            (runs_unread ending.status ending.text first (LeavesFiles None files files') left input w w' files' before after none none' r final held writes status (λ printed ended. kept));
+        runs = subst (λ (e : Ending). RunsFor (λ _. ended_outcome e first) (LeavesFiles None files files') InputKept (told left w files) (told left w' files') (status_by r)) ends.is
+            (runs_unread ending.status ending.text first (LeavesFiles None files files') InputKept kept left w w' files files' n n' none none' r final held writes status (λ printed ended. same));
       }
 
 -- a fault comes before anything is written
-pub runs_unended : {S : Type 0} (end_by : (ℕ → Files) → Ending) (left : S → Option (List ℕ)) (input : S) (w : Option (List ℕ)) (files files' : Option Files) (r : Result Status RunFault) (e : RunFault) → e ≢ fault.Source → IsErrAnd r (λ y. y ≡ e)
-    → files' ≡ files → RunsSeen (λ seen _. ended_outcome (end_by seen) (seen 0)) (LeavesFiles None files files') left input input w w files files' (status_by r)
-runs_unended end_by left input w files files' r e other is kept =
+pub runs_unended : (end_by : (ℕ → Files) → Ending) (InputKept : Type 0) (kept : InputKept) (left w : Option (List ℕ)) (files files' : Option Files) (r : Result Status RunFault) (e : RunFault) → e ≢ fault.Source → IsErrAnd r (λ y. y ≡ e)
+    → files' ≡ files → RunsSeen (λ seen _. ended_outcome (end_by seen) (seen 0)) (LeavesFiles None files files') InputKept (told left w files) (told left w files') (status_by r)
+runs_unended end_by InputKept kept left w files files' r e other is same =
     let seen : ℕ → Files = λ _. files_behind files [] None in
     record {
       seen = seen;
       held = seen_any files;
-      runs = runs_err (λ _. ended_outcome (end_by seen) (seen 0)) (LeavesFiles None files files') left input input w w files' r e is
-          (runs_early (LeavesFiles None files files') left input w (λ _. ended_outcome (end_by seen) (seen 0)) files' e other (λ given ended. kept));
+      runs = runs_err (λ _. ended_outcome (end_by seen) (seen 0)) (LeavesFiles None files files') InputKept (told left w files) (told left w files') r e is
+          (runs_early (LeavesFiles None files files') InputKept kept left w (λ _. ended_outcome (end_by seen) (seen 0)) files files' e other (λ given ended. same));
     }
 
 -- memory ran out before anything was written

@@ -13,7 +13,7 @@ use Rattle.tcm_session.specs.Limits.{input_limit}
 use Rattle.tcm_session.specs.Mend.{Mending, made_outcome, mend_outcome, mending, mending_from, mending_loaded, mending_to, with_made}
 use Rattle.tcm_session.specs.Outcome.{Outcome, ended_outcome}
 use Rattle.tcm_session.specs.Request.{Mend}
-use Rattle.tcm_session.specs.Run.{AreSeen, IsFinal}
+use Rattle.tcm_session.specs.Run.{AreSeen, IsFinal, told}
 use Rattle.tcm_session.specs.code.Endings.{status_by}
 use Rattle.tcm_session.specs.code.Mends.{IsKeptOrMade, LeavesMade, Mends, StopsMending}
 use Rattle.tcm_session.specs.code.Runs.{IsEnd, MayHold, RunsFor, RunsSeen, Writes}
@@ -65,14 +65,14 @@ held_made new made (Some all) files' seen held is = subst (λ f. MayHold f (with
 
 module _ (old new cluster : List ℕ) (files files' : Option Files) where
   -- a fault comes before anything is printed
-  pub runs_unmended : {S : Type 0} (left : S → Option (List ℕ)) (input : S) (w : Option (List ℕ)) (r : Result Status RunFault) (e : RunFault) → e ≢ fault.Source → IsErrAnd r (λ y. y ≡ e) → StopsMending old new cluster files files'
-      → RunsSeen (λ seen _. mend_outcome old new cluster seen) (LeavesFiles (Some (Mend old new cluster)) files files') left input input w w files files' (status_by r)
-  runs_unmended left input w r e other is stops =
+  pub runs_unmended : (InputKept : Type 0) (kept : InputKept) (left w : Option (List ℕ)) (r : Result Status RunFault) (e : RunFault) → e ≢ fault.Source → IsErrAnd r (λ y. y ≡ e) → StopsMending old new cluster files files'
+      → RunsSeen (λ seen _. mend_outcome old new cluster seen) (LeavesFiles (Some (Mend old new cluster)) files files') InputKept (told left w files) (told left w files') (status_by r)
+  runs_unmended InputKept kept left w r e other is stops =
       record {
         seen = stops.seen;
         held = stops.held;
-        runs = runs_err (λ _. mend_outcome old new cluster stops.seen) (LeavesFiles (Some (Mend old new cluster)) files files') left input input w w files' r e is
-            (runs_early (LeavesFiles (Some (Mend old new cluster)) files files') left input w (λ _. mend_outcome old new cluster stops.seen) files' e other
+        runs = runs_err (λ _. mend_outcome old new cluster stops.seen) (LeavesFiles (Some (Mend old new cluster)) files files') InputKept (told left w files) (told left w files') r e is
+            (runs_early (LeavesFiles (Some (Mend old new cluster)) files files') InputKept kept left w (λ _. mend_outcome old new cluster stops.seen) files files' e other
             (λ given ended. left_new old new cluster (mending old new cluster stops.seen) (stops.seen 0) files files' [] ended stops.left (λ some. absurd (some refl))));
       }
 
@@ -88,9 +88,9 @@ module _ (old new cluster : List ℕ) (files files' : Option Files) where
         by (Ok s) is = subst IsEnd (sym is) is_end
 
     -- its text is written, or a prefix of it
-    pub runs_mended : {S : Type 0} (left : S → Option (List ℕ)) (input : S) (w w' : Option (List ℕ)) (before after : Counts) → before.source ≡ 0 → after.source ≡ 0 → Writes ending.text w w' before after r
-        → RunsSeen (λ seen _. mend_outcome old new cluster seen) (LeavesFiles (Some (Mend old new cluster)) files files') left input input w w' files files' (status_by r)
-    runs_mended left input w w' before after none none' writes =
+    pub runs_mended : (InputKept : Type 0) (kept : InputKept) (left w w' : Option (List ℕ)) (n n' : Counts) → n.source ≡ 0 → n'.source ≡ 0 → Writes ending.text w w' n n' r
+        → RunsSeen (λ seen _. mend_outcome old new cluster seen) (LeavesFiles (Some (Mend old new cluster)) files files') InputKept (told left w files) (told left w' files') (status_by r)
+    runs_mended InputKept kept left w w' n n' none none' writes =
         let made = mending old new cluster m.seen in
         let all = with_made new made.made (m.seen 0) in
         let final : IsFinal ending.status = (final_end ending.status is_end).1 in
@@ -98,7 +98,7 @@ module _ (old new cluster : List ℕ) (files files' : Option Files) where
         record {
           seen = m.seen;
           held = m.held;
-          runs = subst (λ (o : Outcome). RunsFor (λ _. o) (LeavesFiles (Some (Mend old new cluster)) files files') left input input w w' files' (status_by r)) same
-              (runs_unread ending.status ending.text all (LeavesFiles (Some (Mend old new cluster)) files files') left input w w' files' before after none none' r final (held_made new made.made files files' m.seen m.held m.made) writes status
+          runs = subst (λ (o : Outcome). RunsFor (λ _. o) (LeavesFiles (Some (Mend old new cluster)) files files') InputKept (told left w files) (told left w' files') (status_by r)) same
+              (runs_unread ending.status ending.text all (LeavesFiles (Some (Mend old new cluster)) files files') InputKept kept left w w' files files' n n' none none' r final (held_made new made.made files files' m.seen m.held m.made) writes status
               (λ printed ended. subst (λ (o : Outcome). LeavesFiles (Some (Mend old new cluster)) files files' o printed ended) (sym same) (left_new old new cluster made (m.seen 0) files files' printed ended m.left (λ some. held_made new made.made files files' m.seen m.held m.made))));
         }

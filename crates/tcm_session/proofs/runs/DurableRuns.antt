@@ -36,16 +36,15 @@ not_source : fault.Store ≢ fault.Source
 not_source e = cc
 
 -- a run that does nothing, and leaves the files as they are
-pub unopened : {S : Type 0} (words : List (List ℕ)) (left : S → Option (List ℕ)) (input : S) (w : Option (List ℕ)) (f f' : Option Files) → f' ≡ f
-    → IsRun (request_of words) (input ≡ input) (told (left input) w f) (told (left input) w f') 6
-unopened words left input w f f' same =
+pub unopened : (words : List (List ℕ)) (InputKept : Type 0) (kept : InputKept) (left w : Option (List ℕ)) (f f' : Option Files) → f' ≡ f → IsRun (request_of words) InputKept (told left w f) (told left w f') 6
+unopened words InputKept kept left w f f' same =
     let request = request_of words in
     let seen : ℕ → Files = λ _. files_behind f [] None in
-    is_run left input input w w f f' 6 request
+    is_run InputKept (told left w f) (told left w f') 6 request
     (record {
       seen = seen;
       held = seen_any f;
-      runs = runs_early (LeavesFiles request f f') left input w (outcome request seen) f' fault.Store not_source
+      runs = runs_early (LeavesFiles request f f') InputKept kept left w (outcome request seen) f f' fault.Store not_source
           (λ given ended. files_same request f f' (outcome request seen given) ended same);
     })
 

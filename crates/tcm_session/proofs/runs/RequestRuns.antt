@@ -5,7 +5,7 @@ use Rattle.tcm_edges.specs.Files.{Files}
 use Rattle.tcm_session.specs.declared.ending.Ending.{Ending}
 use Rattle.tcm_session.specs.Commit.{commit_outcome, commit_to_outcome}
 use Rattle.tcm_session.specs.Gen.{gen_ending}
-use Rattle.tcm_session.specs.Left.{LeavesFiles, LeavesLogFile}
+use Rattle.tcm_session.specs.Left.{LeavesFiles}
 use Rattle.tcm_session.specs.Mend.{Mending, made_outcome, mending}
 use Rattle.tcm_session.specs.Outcome.{Outcome, ended_outcome, printed_by}
 use Rattle.tcm_session.specs.Outcomes.{outcome}
@@ -20,60 +20,47 @@ use Rattle.tcm_session.specs.files.StreamPlan.{plan_ending}
 
 -- ---- from the parts of a run
 
-module _ {S : Type 0} (left : S → Option (List ℕ)) (input input' : S) (w w' : Option (List ℕ)) (f f' : Option Files) (status : ℕ) where
-  abbrev before : Told
-  before = told (left input) w f
-
-  abbrev after : Told
-  after = told (left input') w' f'
-
-  of_script : (outcome_of : Files → List ℕ → Outcome) (Left : Outcome → List ℕ → ℕ → Type 0) → RunsSeen (λ seen. outcome_of (seen 0)) Left left input input' w w' f f' status
-      → RunsScript outcome_of Left (input' ≡ input) before after status
+module _ (InputKept : Type 0) (before after : Told) (status : ℕ) where
+  of_script : (outcome_of : Files → List ℕ → Outcome) (Left : Outcome → List ℕ → ℕ → Type 0) → RunsSeen (λ seen. outcome_of (seen 0)) Left InputKept before after status
+      → RunsScript outcome_of Left InputKept before after status
   of_script outcome_of Left on =
-      record {
-        given = record { input = on.runs.given; seen = on.seen; told_input = on.runs.told; told_files = on.held };
-        runs = record {
-          comes = on.runs.comes;
-          reads = on.runs.reads.reads;
-          all = record { at_end = on.runs.reads.at_end; past_limit = on.runs.reads.past_limit; unread = on.runs.reads.unread };
-          leaves = on.runs.leaves;
-        };
-      }
+      record { given = record { input = on.runs.given; seen = on.seen; told_input = on.runs.told_input; told_files = on.held }; runs = on.runs.to }
 
-  abbrev prints_end : (ending : Ending) (all all' : Files) → ComesTo (record (ended_outcome ending all) { files = all' }) w w' f' status → PrintsEnd ending w w' status
+  abbrev prints_end : (ending : Ending) (all all' : Files) → ComesTo (record (ended_outcome ending all) { files = all' }) before.written after.written after.files status
+      → PrintsEnd ending before.written after.written status
   prints_end ending all all' comes =
       record { printed = comes.printed; wrote = comes.wrote; prefix = comes.prefix; status = comes.status; whole = comes.whole }
 
-  of_look : (ending_of : (ℕ → Files) → Ending) → RunsSeen (λ seen _. ended_outcome (ending_of seen) (seen 0)) (LeavesFiles None f f') left input input' w w' f f' status
-      → Looks ending_of (input' ≡ input) before after status
+  of_look : (ending_of : (ℕ → Files) → Ending) → RunsSeen (λ seen _. ended_outcome (ending_of seen) (seen 0)) (LeavesFiles None before.files after.files) InputKept before after status
+      → Looks ending_of InputKept before after status
   of_look ending_of on =
       record {
         seen = on.seen;
         told_files = on.held;
-        prints = prints_end (ending_of on.seen) (on.seen 0) (on.seen 0) on.runs.comes;
-        unread = on.runs.reads.unread refl;
-        files = on.runs.comes.files;
-        leaves = on.runs.leaves;
+        prints = prints_end (ending_of on.seen) (on.seen 0) (on.seen 0) on.runs.to.comes;
+        unread = on.runs.to.all.unread refl;
+        files = on.runs.to.comes.files;
+        leaves = on.runs.to.leaves;
       }
 
-  of_making : (old new cluster : List ℕ) → RunsSeen (outcome (Some (Mend old new cluster))) (LeavesFiles (Some (Mend old new cluster)) f f') left input input' w w' f f' status
-      → MakesFile new (mending old new cluster) (input' ≡ input) before after status
+  of_making : (old new cluster : List ℕ) → RunsSeen (outcome (Some (Mend old new cluster))) (LeavesFiles (Some (Mend old new cluster)) before.files after.files) InputKept before after status
+      → MakesFile new (mending old new cluster) InputKept before after status
   unfolding outcome
   of_making old new cluster on =
       let made = made_outcome new (mending old new cluster on.seen) (on.seen 0) in
       record {
         seen = on.seen;
         told_files = on.held;
-        prints = prints_end (mending old new cluster on.seen).ending (on.seen 0) made.files on.runs.comes;
-        unread = on.runs.reads.unread refl;
-        files = on.runs.comes.files;
-        leaves = on.runs.leaves;
+        prints = prints_end (mending old new cluster on.seen).ending (on.seen 0) made.files on.runs.to.comes;
+        unread = on.runs.to.all.unread refl;
+        files = on.runs.to.comes.files;
+        leaves = on.runs.to.leaves;
       }
 
-  pub is_run : (request : Option Request) → RunsSeen (outcome request) (LeavesFiles request f f') left input input' w w' f f' status → IsRun request (input' ≡ input) before after status
+  pub is_run : (request : Option Request) → RunsSeen (outcome request) (LeavesFiles request before.files after.files) InputKept before after status → IsRun request InputKept before after status
   unfolding outcome
-  is_run (Some Commit) on = of_script commit_outcome (LeavesFiles (Some Commit) f f') on
-  is_run (Some (CommitTo log cluster)) on = of_script (commit_to_outcome log cluster) (LeavesLogFile log cluster f f') on
+  is_run (Some Commit) on = of_script commit_outcome (LeavesFiles (Some Commit) before.files after.files) on
+  is_run (Some (CommitTo log cluster)) on = of_script (commit_to_outcome log cluster) (LeavesFiles (Some (CommitTo log cluster)) before.files after.files) on
   is_run (Some (Replay files)) on = of_look (replay_ending files) on
   is_run (Some (Snapshot log epoch)) on = of_look (snapshot_ending log epoch) on
   is_run (Some (Gen start rounds)) on = of_look (λ _. gen_ending start rounds) on
@@ -92,7 +79,7 @@ module _ (InputKept : Type 0) (before after : Told) (status : ℕ) where
   pub run_of_each : (request : Option Request)
       → (request ≡ None → Looks (λ _. usage_end) InputKept before after status)
       → (request ≡ Some Commit → RunsScript commit_outcome (λ o printed ended. after.files ≡ before.files) InputKept before after status)
-      → ((log cluster : List ℕ) → request ≡ Some (CommitTo log cluster) → RunsScript (commit_to_outcome log cluster) (LeavesLogFile log cluster before.files after.files) InputKept before after status)
+      → ((log cluster : List ℕ) → request ≡ Some (CommitTo log cluster) → RunsScript (commit_to_outcome log cluster) (LeavesFiles (Some (CommitTo log cluster)) before.files after.files) InputKept before after status)
       → ((names : List (List ℕ)) → request ≡ Some (Replay names) → Looks (replay_ending names) InputKept before after status)
       → ((log : List ℕ) (epoch : ℕ) → request ≡ Some (Snapshot log epoch) → Looks (snapshot_ending log epoch) InputKept before after status)
       → ((start rounds : ℕ) → request ≡ Some (Gen start rounds) → Looks (λ _. gen_ending start rounds) InputKept before after status)
@@ -151,7 +138,7 @@ module _ (bytes w w' : List ℕ) (l' : Option (List ℕ)) (all all' : Files) (In
   comes_surely : (request : Option Request) → IsRun request InputKept before_sure after_sure status → ComesSurely (outcome request (λ _. all) bytes) w w' all' status
   unfolding outcome
   comes_surely (Some Commit) run = surely_script commit_outcome (λ o printed ended. Some all' ≡ Some all) run
-  comes_surely (Some (CommitTo log cluster)) run = surely_script (commit_to_outcome log cluster) (LeavesLogFile log cluster (Some all) (Some all')) run
+  comes_surely (Some (CommitTo log cluster)) run = surely_script (commit_to_outcome log cluster) (LeavesFiles (Some (CommitTo log cluster)) (Some all) (Some all')) run
   comes_surely (Some (Replay files)) run = surely_look (replay_ending files) run
   comes_surely (Some (Snapshot log epoch)) run = surely_look (snapshot_ending log epoch) run
   comes_surely (Some (Gen start rounds)) run = surely_look (λ _. gen_ending start rounds) run

@@ -21,8 +21,8 @@ use Rattle.script_session.specs.LogFiles.{Gains, base_of, entry_lines, log_for, 
 use Rattle.script_session.specs.Machine.{answers, entries_added, session_over}
 use Rattle.tcm_session.specs.Commit.{Start, commit_to_outcome, outcome_from, outcome_in, outcome_loaded, script_outcome}
 use Rattle.tcm_session.specs.Outcome.{Outcome, input_limit, printed_by, unread_outcome}
-use Rattle.tcm_session.specs.Run.{ComesTo, HasStatus, IsFinal, IsStatus, more_if}
-use Rattle.tcm_session.specs.code.Runs.{IsEnd, MayHold, ReadsFor, ReadsTo, RunsFor, RunsOn, RunsSeen, Standing, StopsAt, Writes}
+use Rattle.tcm_session.specs.Run.{ComesTo, HasRead, HasStatus, IsFinal, IsStatus, ReadsAll, Told, more_if, told}
+use Rattle.tcm_session.specs.code.Runs.{IsEnd, MayHold, ReadsTo, RunsFor, RunsOn, RunsOnAny, RunsSeen, Standing, StopsAt, Writes}
 use Rattle.tcm_session.specs.code.Stops.{LeavesScript, Stopped}
 use Rattle.tcm_session.specs.declared.run_fault.RunFault.{RunFault}
 use Rattle.tcm_session.specs.declared.run_fault.RunFault.TheVariants as fault
@@ -159,151 +159,163 @@ ending_final end.PastLimit = (final_end 8 refl).1
 
 -- ---- a script
 
-module _ {S : Type 0} (start : Start) (left : S → Option (List ℕ)) (input input' : S) (w w' : Option (List ℕ)) (f f' : Option Files) where
+module _ (start : Start) (InputKept : Type 0) (before after : Told) where
   -- it stopped at a fault, after these bytes were read
-  script_stopped : (e : RunFault) (given read : List ℕ) → IfSome (left input) (λ bytes. bytes ≡ given) → Stopped (StopsOn (e ≡ fault.Source) (script_outcome start given)) start.file w w' f f'
-      → Consumes (left input) (left input') read → length read ≤ input_limit + 1 → (e ≡ fault.Source → Appends w w' (answers (session_over start.log) (whole_lines read)))
-      → RunsFor (script_outcome start) (LeavesScript start.file f f') left input input' w w' f' (fault_status e)
-  script_stopped e given read told stopped consumed most whole =
+  script_stopped : (e : RunFault) (given read : List ℕ) → IfSome before.left (λ bytes. bytes ≡ given)
+      → Stopped (StopsOn (e ≡ fault.Source) (script_outcome start given)) start.file before.written after.written before.files after.files
+      → Consumes before.left after.left read → length read ≤ input_limit + 1 → (e ≡ fault.Source → Appends before.written after.written (answers (session_over start.log) (whole_lines read)))
+      → RunsFor (script_outcome start) (LeavesScript start.file before.files after.files) InputKept before after (fault_status e)
+  script_stopped e given read told_input stopped consumed most whole =
       record {
         given = given;
-        told = told;
-        comes = comes_stopped (e ≡ fault.Source) (script_outcome start given) start.file w w' f f' (fault_status e) (fault_not_final e) stopped;
-        reads = record {
+        told_input = told_input;
+        to = record {
+          comes = comes_stopped (e ≡ fault.Source) (script_outcome start given) start.file before.written after.written before.files after.files (fault_status e) (fault_not_final e) stopped;
           reads = record {
             read = read;
             consumed = consumed;
             most = most;
-            read_fault = λ is. subst (λ log. Appends w w' (answers (session_over log) (whole_lines read))) (sym (script_log start given)) (whole (fault_4 e is));
+            read_fault = λ is. subst (λ log. Appends before.written after.written (answers (session_over log) (whole_lines read))) (sym (script_log start given)) (whole (fault_4 e is));
           };
-          at_end = λ is _. absurd (fault_not_0 e is);
-          past_limit = λ is _. absurd (fault_not_8 e is);
-          unread = λ no. absurd (true≢false (sym (script_reads start given) ∙ no));
+          all = record {
+            at_end = λ is _. absurd (fault_not_0 e is);
+            past_limit = λ is _. absurd (fault_not_8 e is);
+            unread = λ no. absurd (true≢false (sym (script_reads start given) ∙ no));
+          };
+          leaves = λ not_final. record { good = script_reads start given; added = stopped.added; stops = stopped.stops.stops; adds = stopped.adds; read_fault = λ four. stopped.stops.none (fault_4 e four) };
         };
-        leaves = λ not_final. record { good = script_reads start given; added = stopped.added; stops = stopped.stops.stops; adds = stopped.adds; read_fault = λ four. stopped.stops.none (fault_4 e four) };
       }
 
 -- a fault that a `?` passes on
-pub runs_err : {S : Type 0} (outcome_of : List ℕ → Outcome) (Left : Outcome → List ℕ → ℕ → Type 0) (left : S → Option (List ℕ)) (input input' : S) (w w' : Option (List ℕ)) (f' : Option Files) (r : Result Status RunFault) (e : RunFault) → IsErrAnd r (λ y. y ≡ e)
-    → RunsFor outcome_of Left left input input' w w' f' (fault_status e) → RunsFor outcome_of Left left input input' w w' f' (status_by r)
-runs_err outcome_of Left left input input' w w' f' (Ok x) e is runs = absurd is
-runs_err outcome_of Left left input input' w w' f' (Err y) e is runs = subst (λ x. RunsFor outcome_of Left left input input' w w' f' (fault_status x)) (sym is) runs
+pub runs_err : (outcome_of : List ℕ → Outcome) (Left : Outcome → List ℕ → ℕ → Type 0) (InputKept : Type 0) (before after : Told) (r : Result Status RunFault) (e : RunFault) → IsErrAnd r (λ y. y ≡ e)
+    → RunsFor outcome_of Left InputKept before after (fault_status e) → RunsFor outcome_of Left InputKept before after (status_by r)
+runs_err outcome_of Left InputKept before after (Ok x) e is runs = absurd is
+runs_err outcome_of Left InputKept before after (Err y) e is runs = subst (λ x. RunsFor outcome_of Left InputKept before after (fault_status x)) (sym is) runs
 
--- what it leaves is more than is asked
-pub runs_left : {S : Type 0} (outcome_of : List ℕ → Outcome) (Left Left' : Outcome → List ℕ → ℕ → Type 0) (left : S → Option (List ℕ)) (input input' : S) (w w' : Option (List ℕ)) (f' : Option Files) (status : ℕ)
-    → ((o : Outcome) (printed : List ℕ) (ended : ℕ) → Left o printed ended → Left' o printed ended) → RunsFor outcome_of Left left input input' w w' f' status → RunsFor outcome_of Left' left input input' w w' f' status
-runs_left outcome_of Left Left' left input input' w w' f' status step runs =
-    record { given = runs.given; told = runs.told; comes = runs.comes; reads = runs.reads; leaves = λ not_final. step (outcome_of runs.given) runs.comes.printed status (runs.leaves not_final) }
+-- what it leaves is more than is asked, from other files on
+pub runs_left : (outcome_of : List ℕ → Outcome) (Left Left' : Outcome → List ℕ → ℕ → Type 0) (InputKept : Type 0) (left w : Option (List ℕ)) (f mid : Option Files) (after : Told) (status : ℕ)
+    → ((o : Outcome) (printed : List ℕ) (ended : ℕ) → Left o printed ended → Left' o printed ended)
+    → RunsFor outcome_of Left InputKept (told left w mid) after status → RunsFor outcome_of Left' InputKept (told left w f) after status
+runs_left outcome_of Left Left' InputKept left w f mid after status step runs =
+    let to = runs.to in
+    record {
+      given = runs.given;
+      told_input = runs.told_input;
+      to = record { comes = to.comes; reads = to.reads; all = to.all; leaves = λ not_final. step (outcome_of runs.given) to.comes.printed status (to.leaves not_final) };
+    }
 
--- reading stopped at a fault
-pub runs_stopped : {S : Type 0} (start : Start) (left : S → Option (List ℕ)) (input input' : S) (w w' : Option (List ℕ)) (f f' : Option Files) (e : RunFault)
-    → StopsAt start.file e input_limit (left input) (left input') (at_start start w f) w' f' → RunsFor (script_outcome start) (LeavesScript start.file f f') left input input' w w' f' (fault_status e)
-runs_stopped start left input input' w w' f f' e stops =
-    let begins = begins_stopped start e (left input) (left input') w w' f f' stops in
-    script_stopped start left input input' w w' f f' e begins.input stops.bytes begins.told begins.stopped stops.consumed (omega (arith, stops.bounded)) (answered_stopped start e (left input) (left input') w w' f f' stops)
+module _ (start : Start) (InputKept : Type 0) where
+  -- reading stopped at a fault
+  pub runs_stopped : (before after : Told) (e : RunFault) → StopsAt start.file e input_limit before.left (at_start start before.written before.files) after
+      → RunsFor (script_outcome start) (LeavesScript start.file before.files after.files) InputKept before after (fault_status e)
+  runs_stopped before after e stops =
+      let begins = begins_stopped start e before.left after.left before.written after.written before.files after.files stops in
+      script_stopped start InputKept before after e begins.input stops.bytes begins.told begins.stopped stops.consumed (omega (arith, stops.bounded))
+      (answered_stopped start e before.left after.left before.written after.written before.files after.files stops)
 
--- a fault comes before anything is read
-pub runs_none : {S : Type 0} (start : Start) (left : S → Option (List ℕ)) (input : S) (w : Option (List ℕ)) (f' : Option Files) (e : RunFault) → RunsFor (script_outcome start) (LeavesScript start.file f' f') left input input w w f' (fault_status e)
-runs_none start left input w f' e =
-    runs_stopped start left input input w w f' f' e (StopsAt-none start.file e input_limit (left input) (left input) (at_start start w f') (Keeps-refl (left input)) IsBegun-nil)
+  -- a fault comes before anything is read
+  pub runs_none : (at : Told) (e : RunFault) → RunsFor (script_outcome start) (LeavesScript start.file at.files at.files) InputKept at at (fault_status e)
+  runs_none at e = runs_stopped at at e (StopsAt-none start.file e input_limit at.left at.left (at_start start at.written at.files) (Keeps-refl at.left) IsBegun-nil)
 
-module _ {S : Type 0} (start : Start) (left : S → Option (List ℕ)) (input input' : S) (w w' : Option (List ℕ)) (f f' : Option Files) (at' : Standing) (ending : ReadEnd)
-    (reads : ReadsTo start.file ending (left input) (left input') (at_start start w f) at') (before after : Counts) (none : before.source ≡ 0) (none' : after.source ≡ 0) where
-  most_read : (ending : ReadEnd) (reads : ReadsTo start.file ending (left input) (left input') (at_start start w f) at') → length (reads.bytes ++ reads.past) ≤ input_limit + 1
+module _ (start : Start) (InputKept : Type 0) (before after : Told) (at' : Standing) (ending : ReadEnd) (reads : ReadsTo start.file ending before.left after.left (at_start start before.written before.files) at')
+    (n n' : Counts) (none : n.source ≡ 0) (none' : n'.source ≡ 0) where
+  most_read : (ending : ReadEnd) (reads : ReadsTo start.file ending before.left after.left (at_start start before.written before.files) at') → length (reads.bytes ++ reads.past) ≤ input_limit + 1
   most_read end.AtEnd reads = let nothing = ap length reads.ends.2 in omega (arith, length-append reads.bytes reads.past, reads.ends.1, nothing)
   most_read end.PastLimit reads = omega (arith, length-append reads.bytes reads.past, reads.ends.0, reads.ends.1)
 
   -- of what is due last a prefix is written
-  pub runs_part : (e : RunFault) → after ≡ counts_after e before
-      → Stopped (StopsNext (ending_text ending at'.session at'.begun) (entry_lines (entries_added at'.session (ending_lines ending at'.begun)))) start.file at'.written w' at'.files f'
-      → RunsFor (script_outcome start) (LeavesScript start.file f f') left input input' w w' f' (fault_status e)
+  pub runs_part : (e : RunFault) → n' ≡ counts_after e n
+      → Stopped (StopsNext (ending_text ending at'.session at'.begun) (entry_lines (entries_added at'.session (ending_lines ending at'.begun)))) start.file at'.written after.written at'.files after.files
+      → RunsFor (script_outcome start) (LeavesScript start.file before.files after.files) InputKept before after (fault_status e)
   runs_part e cause stopped =
-      let never : e ≡ fault.Source → ⊥ = not_source e before after none none' cause in
-      let is = ended start (left input) (left input') w f at' ending reads in
-      script_stopped start left input input' w w' f f' e is.input (reads.bytes ++ reads.past) is.told
-      (ended_stopped (e ≡ fault.Source) start ending (left input) (left input') w w' f f' at' reads is never stopped)
+      let never : e ≡ fault.Source → ⊥ = not_source e n n' none none' cause in
+      let is = ended start before.left after.left before.written before.files at' ending reads in
+      script_stopped start InputKept before after e is.input (reads.bytes ++ reads.past) is.told
+      (ended_stopped (e ≡ fault.Source) start ending before.left after.left before.written after.written before.files after.files at' reads is never stopped)
       reads.consumed (most_read ending reads) (λ source. absurd (never source))
 
   -- all of it is written
-  reads_end : (o : Outcome) → o.reads ≡ true → (ending : ReadEnd) (reads : ReadsTo start.file ending (left input) (left input') (at_start start w f) at') → ReadsFor o left input input' w w' (ending_status ending)
-  reads_end o is_read end.AtEnd reads =
+  abbrev reads_end : (log : List Entry) (ending : ReadEnd) (reads : ReadsTo start.file ending before.left after.left (at_start start before.written before.files) at')
+      → HasRead log before.left after.left before.written after.written (ending_status ending)
+  reads_end log end.AtEnd reads =
+      record { read = reads.bytes ++ reads.past; consumed = reads.consumed; most = most_read end.AtEnd reads; read_fault = λ is. absurd (omega arith) }
+  reads_end log end.PastLimit reads =
+      record { read = reads.bytes ++ reads.past; consumed = reads.consumed; most = most_read end.PastLimit reads; read_fault = λ is. absurd (omega arith) }
+
+  reads_all : (o : Outcome) → o.reads ≡ true → (ending : ReadEnd) (reads : ReadsTo start.file ending before.left after.left (at_start start before.written before.files) at')
+      → ReadsAll o InputKept after.left (reads_end o.log ending reads).read (ending_status ending)
+  reads_all o is_read end.AtEnd reads =
+      record { at_end = λ is _. reads.ends.0; past_limit = λ is _. absurd (omega arith); unread = λ no. absurd (true≢false (sym is_read ∙ no)) }
+  reads_all o is_read end.PastLimit reads =
       record {
-        reads = record {
-          read = reads.bytes ++ reads.past;
-          consumed = reads.consumed;
-          most = most_read end.AtEnd reads;
-          read_fault = λ is. absurd (omega arith);
-        };
-        at_end = λ is _. reads.ends.0;
-        past_limit = λ is _. absurd (omega arith);
-        unread = λ no. absurd (true≢false (sym is_read ∙ no));
-      }
-  reads_end o is_read end.PastLimit reads =
-      record {
-        reads = record {
-          read = reads.bytes ++ reads.past;
-          consumed = reads.consumed;
-          most = most_read end.PastLimit reads;
-          read_fault = λ is. absurd (omega arith);
-        };
         at_end = λ is _. absurd (omega arith);
         past_limit = λ is _. omega (arith, length-append reads.bytes reads.past, reads.ends.0, reads.ends.1);
         unread = λ no. absurd (true≢false (sym is_read ∙ no));
       }
 
-  pub runs_whole : {X : Type 0} (x : X) → MayHold f start.files → Writes (ending_text ending at'.session at'.begun) at'.written w' before after (Ok x)
-      → Gains start.file (entry_lines (entries_added at'.session (ending_lines ending at'.begun))) at'.files f' → RunsFor (script_outcome start) (LeavesScript start.file f f') left input input' w w' f' (ending_status ending)
+  pub runs_whole : {X : Type 0} (x : X) → MayHold before.files start.files → Writes (ending_text ending at'.session at'.begun) at'.written after.written n n' (Ok x)
+      → Gains start.file (entry_lines (entries_added at'.session (ending_lines ending at'.begun))) at'.files after.files
+      → RunsFor (script_outcome start) (LeavesScript start.file before.files after.files) InputKept before after (ending_status ending)
   runs_whole x held writes gained =
-      let is = ended start (left input) (left input') w f at' ending reads in
+      let is = ended start before.left after.left before.written before.files at' ending reads in
       record {
         given = is.input;
-        told = is.told;
-        comes = comes_whole (script_outcome start is.input) w w' f' (ending_status ending) (sym is.status)
-            (subst (Appends w w') (sym is.printed) (Appends-trans w at'.written w' _ _ reads.takes.answered writes.whole))
-            (subst (MayHold f') (sym is.files) (held_gained start.file _ at'.files f' _ (held_gained start.file _ f at'.files start.files held reads.takes.files) gained));
-        reads = reads_end (script_outcome start is.input) (script_reads start is.input) ending reads;
-        leaves = λ not_final. absurd (not_final (ending_final ending));
+        told_input = is.told;
+        to = record {
+          comes = comes_whole (script_outcome start is.input) before.written after.written after.files (ending_status ending) (sym is.status)
+              (subst (Appends before.written after.written) (sym is.printed) (Appends-trans before.written at'.written after.written _ _ reads.takes.answered writes.whole))
+              (subst (MayHold after.files) (sym is.files) (held_gained start.file _ at'.files after.files _ (held_gained start.file _ before.files at'.files start.files held reads.takes.files) gained));
+          reads = reads_end (script_outcome start is.input).log ending reads;
+          all = reads_all (script_outcome start is.input) (script_reads start is.input) ending reads;
+          leaves = λ not_final. absurd (not_final (ending_final ending));
+        };
       }
 
--- ---- an outcome that reads nothing
+-- ---- a run that reads nothing
 
-module _ {S : Type 0} (status : ℕ) (last : List ℕ) (all : Files) (Left : Outcome → List ℕ → ℕ → Type 0) (left : S → Option (List ℕ)) (input : S) (w w' : Option (List ℕ)) (f' : Option Files)
-    (before after : Counts) (none : before.source ≡ 0) (none' : after.source ≡ 0) where
-  reads_nothing : (ended : ℕ) → ended ≢ 4 → ReadsFor (unread_outcome status last all) left input input w w' ended
+-- no byte is read
+abbrev has_read_none : (log : List Entry) (left w w' : Option (List ℕ)) (ended : ℕ) → ended ≢ 4 → HasRead log left left w w' ended
+has_read_none log left w w' ended not_4 =
+    record { read = []; consumed = Consumes-nil left; most = omega arith; read_fault = λ is. absurd (not_4 is) }
+
+module _ (status : ℕ) (last : List ℕ) (all : Files) (Left : Outcome → List ℕ → ℕ → Type 0) (InputKept : Type 0) (kept : InputKept) (left w w' : Option (List ℕ)) (f f' : Option Files)
+    (n n' : Counts) (none : n.source ≡ 0) (none' : n'.source ≡ 0) where
+  reads_nothing : (ended : ℕ) → ended ≢ 4 → ReadsAll (unread_outcome status last all) InputKept left [] ended
   reads_nothing ended not_4 =
       record {
-        reads = record {
-          read = [];
-          consumed = Consumes-nil (left input);
-          most = omega arith;
-          read_fault = λ is. absurd (not_4 is);
-        };
         at_end = λ is no. absurd (true≢false (sym no));
         past_limit = λ is no. absurd (true≢false (sym no));
-        unread = λ _. (refl, not_4);
+        unread = λ _. (kept, not_4);
       }
 
-  pub runs_unread_err : (e : RunFault) → WritesPrefix w w' last → after ≡ counts_after e before → ((printed : List ℕ) (ended : ℕ) → Left (unread_outcome status last all) printed ended)
-      → RunsFor (λ _. unread_outcome status last all) Left left input input w w' f' (fault_status e)
+  pub runs_unread_err : (e : RunFault) → WritesPrefix w w' last → n' ≡ counts_after e n → ((printed : List ℕ) (ended : ℕ) → Left (unread_outcome status last all) printed ended)
+      → RunsFor (λ _. unread_outcome status last all) Left InputKept (told left w f) (told left w' f') (fault_status e)
   runs_unread_err e part cause leaves =
+      let not_4 : fault_status e ≢ 4 = λ four. not_source e n n' none none' cause (fault_4 e four) in
       record {
-        given = rest_of (left input);
-        told = told_rest (left input);
-        comes = comes_part (unread_outcome status last all) w w' f' (fault_status e) (fault_not_final e) part;
-        reads = reads_nothing (fault_status e) (λ four. not_source e before after none none' cause (fault_4 e four));
-        leaves = λ not_final. leaves part.owes.front (fault_status e);
+        given = rest_of left;
+        told_input = told_rest left;
+        to = record {
+          comes = comes_part (unread_outcome status last all) w w' f' (fault_status e) (fault_not_final e) part;
+          reads = has_read_none _ left w w' (fault_status e) not_4;
+          all = reads_nothing (fault_status e) not_4;
+          leaves = λ not_final. leaves part.owes.front (fault_status e);
+        };
       }
 
-  pub runs_unread : (r : Result Status RunFault) → IsFinal status → MayHold f' all → Writes last w w' before after r → IfOk r (λ s. s.0 ≡ status)
-      → ((printed : List ℕ) (ended : ℕ) → Left (unread_outcome status last all) printed ended) → RunsFor (λ _. unread_outcome status last all) Left left input input w w' f' (status_by r)
+  pub runs_unread : (r : Result Status RunFault) → IsFinal status → MayHold f' all → Writes last w w' n n' r → IfOk r (λ s. s.0 ≡ status)
+      → ((printed : List ℕ) (ended : ℕ) → Left (unread_outcome status last all) printed ended) → RunsFor (λ _. unread_outcome status last all) Left InputKept (told left w f) (told left w' f') (status_by r)
   runs_unread (Ok s) final held writes is leaves =
-      subst (RunsFor (λ _. unread_outcome status last all) Left left input input w w' f') (sym is)
+      subst (RunsFor (λ _. unread_outcome status last all) Left InputKept (told left w f) (told left w' f')) (sym is)
       (record {
-        given = rest_of (left input);
-        told = told_rest (left input);
-        comes = comes_whole (unread_outcome status last all) w w' f' status refl writes.whole held;
-        reads = reads_nothing status final.source;
-        leaves = λ not_final. absurd (not_final final);
+        given = rest_of left;
+        told_input = told_rest left;
+        to = record {
+          comes = comes_whole (unread_outcome status last all) w w' f' status refl writes.whole held;
+          reads = has_read_none _ left w w' status final.source;
+          all = reads_nothing status final.source;
+          leaves = λ not_final. absurd (not_final final);
+        };
       })
   runs_unread (Err e) final held writes is leaves = runs_unread_err e writes.part writes.cause leaves
 
@@ -337,66 +349,58 @@ pub memory_not_source : fault.Memory ≢ fault.Source
 memory_not_source e = cc
 
 -- a fault comes before anything is read or written
-pub runs_early : {S : Type 0} (Left : Outcome → List ℕ → ℕ → Type 0) (left : S → Option (List ℕ)) (input : S) (w : Option (List ℕ)) (outcome_of : List ℕ → Outcome) (f' : Option Files) (e : RunFault) → e ≢ fault.Source
-    → ((given : List ℕ) (ended : ℕ) → Left (outcome_of given) [] ended) → RunsFor outcome_of Left left input input w w f' (fault_status e)
-runs_early Left left input w outcome_of f' e other leaves =
-    let given = rest_of (left input) in
+pub runs_early : (Left : Outcome → List ℕ → ℕ → Type 0) (InputKept : Type 0) (kept : InputKept) (left w : Option (List ℕ)) (outcome_of : List ℕ → Outcome) (f f' : Option Files) (e : RunFault) → e ≢ fault.Source
+    → ((given : List ℕ) (ended : ℕ) → Left (outcome_of given) [] ended) → RunsFor outcome_of Left InputKept (told left w f) (told left w f') (fault_status e)
+runs_early Left InputKept kept left w outcome_of f f' e other leaves =
+    let given = rest_of left in
     let not_4 : fault_status e ≢ 4 = λ four. other (fault_4 e four) in
     record {
       given = given;
-      told = told_rest (left input);
-      comes = comes_none (outcome_of given) w f' (fault_status e) (fault_not_final e);
-      reads = record {
-        reads = record {
-          read = [];
-          consumed = Consumes-nil (left input);
-          most = omega arith;
-          read_fault = λ is. absurd (not_4 is);
-        };
-        at_end = λ is _. absurd (fault_not_0 e is);
-        past_limit = λ is _. absurd (fault_not_8 e is);
-        unread = λ _. (refl, not_4);
+      told_input = told_rest left;
+      to = record {
+        comes = comes_none (outcome_of given) w f' (fault_status e) (fault_not_final e);
+        reads = has_read_none _ left w w (fault_status e) not_4;
+        all = record { at_end = λ is _. absurd (fault_not_0 e is); past_limit = λ is _. absurd (fault_not_8 e is); unread = λ _. (kept, not_4) };
+        leaves = λ not_final. leaves given (fault_status e);
       };
-      leaves = λ not_final. leaves given (fault_status e);
     }
 
-module _ {S : Type 0} (Left : Outcome → List ℕ → ℕ → Type 0) (left : S → Option (List ℕ)) (input input' : S) (w w' : Option (List ℕ)) where
+module _ (Left : Outcome → List ℕ → ℕ → Type 0) (InputKept : Type 0) (before after : Told) (status : ℕ) where
   -- the log is refused, or a script runs from it
-  pub runs_refused : (name cluster : List ℕ) (all : Files) (file : List ℕ) (refused : RefusedLine) (f' : Option Files) (status : ℕ) → log_for (Some cluster) file ≡ Err refused
-      → RunsFor (λ _. unread_outcome 3 (refused_line_text refused) all) Left left input input' w w' f' status → RunsFor (outcome_in name cluster all file) Left left input input' w w' f' status
-  runs_refused name cluster all file refused f' status is runs = subst (λ r. RunsFor (outcome_from name cluster all file r) Left left input input' w w' f' status) (sym is) runs
+  pub runs_refused : (name cluster : List ℕ) (all : Files) (file : List ℕ) (refused : RefusedLine) → log_for (Some cluster) file ≡ Err refused
+      → RunsFor (λ _. unread_outcome 3 (refused_line_text refused) all) Left InputKept before after status → RunsFor (outcome_in name cluster all file) Left InputKept before after status
+  runs_refused name cluster all file refused is runs = subst (λ r. RunsFor (outcome_from name cluster all file r) Left InputKept before after status) (sym is) runs
 
-  pub runs_resumed : (name cluster : List ℕ) (all : Files) (file : List ℕ) (log : List Entry) (f' : Option Files) (status : ℕ) → log_for (Some cluster) file ≡ Ok log
-      → RunsFor (script_outcome (record { log = log; file = Some name; files = map.insert all name (base_of cluster file) })) Left left input input' w w' f' status → RunsFor (outcome_in name cluster all file) Left left input input' w w' f' status
-  runs_resumed name cluster all file log f' status is runs = subst (λ r. RunsFor (outcome_from name cluster all file r) Left left input input' w w' f' status) (sym is) runs
+  pub runs_resumed : (name cluster : List ℕ) (all : Files) (file : List ℕ) (log : List Entry) → log_for (Some cluster) file ≡ Ok log
+      → RunsFor (script_outcome (record { log = log; file = Some name; files = map.insert all name (base_of cluster file) })) Left InputKept before after status → RunsFor (outcome_in name cluster all file) Left InputKept before after status
+  runs_resumed name cluster all file log is runs = subst (λ r. RunsFor (outcome_from name cluster all file r) Left InputKept before after status) (sym is) runs
 
   -- some file was loaded
-  pub runs_loaded : (name cluster : List ℕ) (files f' : Option Files) (loaded : Loaded) (load : IsLoad files name input_limit loaded) (status : ℕ)
-      → RunsFor (outcome_loaded name cluster (files_behind files name load.file) loaded) Left left input input' w w' f' status → RunsOn (commit_to_outcome name cluster) Left left input input' w w' files f' status
-  runs_loaded name cluster files f' loaded load status runs =
-      let all = files_behind files name load.file in
+  pub runs_loaded : (name cluster : List ℕ) (loaded : Loaded) (load : IsLoad before.files name input_limit loaded)
+      → RunsFor (outcome_loaded name cluster (files_behind before.files name load.file) loaded) Left InputKept before after status → RunsOn (commit_to_outcome name cluster) Left InputKept before after status
+  runs_loaded name cluster loaded load runs =
+      let all = files_behind before.files name load.file in
       record {
         all = all;
-        held = behind_held files name load.file;
-        runs = subst (λ it. RunsFor (outcome_loaded name cluster all it) Left left input input' w w' f' status) (behind_loaded files name input_limit loaded load) runs;
+        held = behind_held before.files name load.file;
+        runs = subst (λ it. RunsFor (outcome_loaded name cluster all it) Left InputKept before after status) (behind_loaded before.files name input_limit loaded load) runs;
       }
 
   -- some files, where nothing is known of them
-  pub runs_unloaded : (outcome_of : Files → List ℕ → Outcome) (files f' : Option Files) (status : ℕ) → ((all : Files) → MayHold files all → RunsFor (outcome_of all) Left left input input' w w' f' status)
-      → RunsOn outcome_of Left left input input' w w' files f' status
-  runs_unloaded outcome_of files f' status runs =
-      let all = files_behind files [] None in
-      let held = behind_held files [] None in
+  pub runs_unloaded : (outcome_of : Files → List ℕ → Outcome) → RunsOnAny outcome_of Left InputKept before after status → RunsOn outcome_of Left InputKept before after status
+  runs_unloaded outcome_of runs =
+      let all = files_behind before.files [] None in
+      let held = behind_held before.files [] None in
       record { all = all; held = held; runs = runs all held }
 
   -- by the files that its first load finds
-  pub runs_first : (Left' : Outcome → List ℕ → ℕ → Type 0) (outcome_of : Files → List ℕ → Outcome) (files f' : Option Files) (status : ℕ) → ((o : Outcome) (printed : List ℕ) (ended : ℕ) → Left o printed ended → Left' o printed ended)
-      → RunsOn outcome_of Left left input input' w w' files f' status → RunsSeen (λ seen. outcome_of (seen 0)) Left' left input input' w w' files f' status
-  runs_first Left' outcome_of files f' status step on =
+  pub runs_first : (Left' : Outcome → List ℕ → ℕ → Type 0) (outcome_of : Files → List ℕ → Outcome) → ((o : Outcome) (printed : List ℕ) (ended : ℕ) → Left o printed ended → Left' o printed ended)
+      → RunsOn outcome_of Left InputKept before after status → RunsSeen (λ seen. outcome_of (seen 0)) Left' InputKept before after status
+  runs_first Left' outcome_of step on =
       record {
         seen = λ _. on.all;
-        held = seen_held files on.all on.held;
-        runs = runs_left (outcome_of on.all) Left Left' left input input' w w' f' status step on.runs;
+        held = seen_held before.files on.all on.held;
+        runs = runs_left (outcome_of on.all) Left Left' InputKept before.left before.written before.files before.files after status step on.runs;
       }
 
 -- the fault of a load is none of the source
@@ -405,10 +409,10 @@ load_not_source load.Failed is = cc
 load_not_source load.Memory is = cc
 
 -- a fault that a `?` passes on
-pub runs_err_on : {S : Type 0} (outcome_of : Files → List ℕ → Outcome) (Left : Outcome → List ℕ → ℕ → Type 0) (left : S → Option (List ℕ)) (input input' : S) (w w' : Option (List ℕ)) (f f' : Option Files) (r : Result Status RunFault) (e : RunFault) → IsErrAnd r (λ y. y ≡ e)
-    → RunsOn outcome_of Left left input input' w w' f f' (fault_status e) → RunsOn outcome_of Left left input input' w w' f f' (status_by r)
-runs_err_on outcome_of Left left input input' w w' f f' r e is on =
-    record { all = on.all; held = on.held; runs = runs_err (outcome_of on.all) Left left input input' w w' f' r e is on.runs }
+pub runs_err_on : (outcome_of : Files → List ℕ → Outcome) (Left : Outcome → List ℕ → ℕ → Type 0) (InputKept : Type 0) (before after : Told) (r : Result Status RunFault) (e : RunFault) → IsErrAnd r (λ y. y ≡ e)
+    → RunsOn outcome_of Left InputKept before after (fault_status e) → RunsOn outcome_of Left InputKept before after (status_by r)
+runs_err_on outcome_of Left InputKept before after r e is on =
+    record { all = on.all; held = on.held; runs = runs_err (outcome_of on.all) Left InputKept before after r e is on.runs }
 
 -- ---- over objects that never fail
 

@@ -12,6 +12,7 @@ use Rattle.script_session.specs.LogFiles.{Gains, entry_lines, with_added}
 use Rattle.script_session.specs.Machine.{SessionState, answers, entries_added, reply, session_after, session_over}
 use Rattle.tcm_session.specs.Commit.{Start, files_with, large_outcome, script_outcome, whole_outcome}
 use Rattle.tcm_session.specs.Outcome.{Outcome, input_limit, printed_by, too_large_text}
+use Rattle.tcm_session.specs.Run.{told}
 use Rattle.tcm_session.specs.code.Runs.{MayHold, ReadsTo, Standing, StopsAt, standing}
 use Rattle.tcm_session.specs.code.Stops.{Stopped, StopsThere}
 use Rattle.tcm_session.specs.declared.run_fault.RunFault.{RunFault}
@@ -129,7 +130,7 @@ abbrev pub at_start : Start → Option (List ℕ) → Option Files → Standing
 at_start start w f = standing (session_over start.log) [] w f
 
 -- reading stopped at a fault
-pub begins_stopped : (start : Start) (e : RunFault) (l l' w w' : Option (List ℕ)) (f f' : Option Files) → StopsAt start.file e input_limit l l' (at_start start w f) w' f' → Begins_outcome (e ≡ fault.Source) start l w w' f f'
+pub begins_stopped : (start : Start) (e : RunFault) (l l' w w' : Option (List ℕ)) (f f' : Option Files) → StopsAt start.file e input_limit l (at_start start w f) (told l' w' f') → Begins_outcome (e ≡ fault.Source) start l w w' f f'
 begins_stopped start e l l' w w' f f' stops =
     let P = e ≡ fault.Source in
     let session = session_over start.log in
@@ -150,7 +151,7 @@ begins_stopped start e l l' w w' f f' stops =
     }
 
 -- after a failed read all answers to the lines that were read are printed
-pub answered_stopped : (start : Start) (e : RunFault) (l l' w w' : Option (List ℕ)) (f f' : Option Files) (stops : StopsAt start.file e input_limit l l' (at_start start w f) w' f') → e ≡ fault.Source
+pub answered_stopped : (start : Start) (e : RunFault) (l l' w w' : Option (List ℕ)) (f f' : Option Files) (stops : StopsAt start.file e input_limit l (at_start start w f) (told l' w' f')) → e ≡ fault.Source
     → Appends w w' (answers (session_over start.log) (whole_lines stops.bytes))
 answered_stopped start e l l' w w' f f' stops is =
     let s = stops.stopped.stops in

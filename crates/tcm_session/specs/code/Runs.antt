@@ -1,5 +1,5 @@
 -- The parts of a run: where it stands, and what it reads, answers and writes.
-use Rattle.std.specs.Prelude.{◌≡◌, ◌≢◌, ℕ, ◌+◌, ◌≤◌, ◌==◌, ◌||◌, true, false, IsTrue, List, [], ◌++◌, length, take, Option, None, Result, OnOk, IfErr, IfSome}
+use Rattle.std.specs.Prelude.{◌≡◌, ◌≢◌, ℕ, ◌≤◌, ◌==◌, ◌||◌, IsTrue, List, [], ◌++◌, length, take, Option, None, Result, OnOk, IfErr, IfSome}
 use Rattle.std.specs.Io.KnownBytes.{Appends, Consumes, IsAtEnd}
 use Rattle.tcm_edges.specs.Files.{Files}
 use Rattle.tcm_edges.specs.Owed.{WritesPrefix}
@@ -9,12 +9,13 @@ use Rattle.script_session.specs.Lines.{HasNoFeed, whole_lines, open_line}
 use Rattle.script_session.specs.LogFiles.{Gains, entry_lines}
 use Rattle.script_session.specs.Machine.{SessionState, answers, entries_added, session_after}
 use Rattle.tcm_session.specs.Outcome.{Outcome, input_limit}
-use Rattle.tcm_session.specs.Run.{AreSeen, ComesTo, HasRead, IsFinal}
+use Rattle.tcm_session.specs.Run.{AreSeen, RunsTo, Told}
 use Rattle.tcm_session.specs.code.Stops.{Stopped, StopsThere}
 use Rattle.tcm_session.specs.declared.run_fault.RunFault.{RunFault}
 use Rattle.tcm_session.specs.declared.run_fault.RunFault.TheVariants as fault
 use Rattle.tcm_session.specs.declared.scripts.pieces.ReadEnd.{ReadEnd}
 use Rattle.tcm_session.specs.declared.scripts.pieces.ReadEnd.TheVariants as end
+use Rattle.tcm_session.specs.declared.scripts.script.Script.{Script}
 
 -- the most bytes that are kept of a line: one more than a line may have, so a line that is too long stays too long
 abbrev pub most_kept : ℕ
@@ -40,6 +41,10 @@ pub record Standing : Type 0 where
 abbrev pub standing : SessionState → List ℕ → Option (List ℕ) → Option Files → Standing
 standing session begun written files = record { session = session; begun = begun; written = written; files = files }
 
+-- where a script stands
+abbrev pub script_at : Script → Option (List ℕ) → Option Files → Standing
+script_at script written files = standing script.session script.begun.items written files
+
 -- the lines that end among bytes after the line that has begun
 abbrev pub lines_ended : Standing → List ℕ → List (List ℕ)
 lines_ended at bytes = whole_lines (at.begun ++ bytes)
@@ -53,17 +58,16 @@ pub record Takes (file : Option (List ℕ)) (bytes : List ℕ) (at at' : Standin
 
 -- reading stopped at a fault, after at most `most` bytes were read, within the lines that end among them; at a fault of
 -- the source all these lines are done
-pub record StopsAt (name : Option (List ℕ)) (cause : RunFault) (most : ℕ) (left left' : Option (List ℕ)) (at : Standing) (written' : Option (List ℕ)) (files' : Option Files) : Type 0 where
+pub record StopsAt (name : Option (List ℕ)) (cause : RunFault) (most : ℕ) (left : Option (List ℕ)) (at : Standing) (after : Told) : Type 0 where
   pub bytes : List ℕ
-  pub consumed : Consumes left left' bytes
+  pub consumed : Consumes left after.left bytes
   pub bounded : length bytes ≤ most
-  pub stopped : Stopped (StopsThere (cause ≡ fault.Source) at.session (lines_ended at bytes)) name at.written written' at.files files'
+  pub stopped : Stopped (StopsThere (cause ≡ fault.Source) at.session (lines_ended at bytes)) name at.written after.written at.files after.files
 
--- one read of n bytes, at most `most`, which are taken
-pub record ReadsOnce (file : Option (List ℕ)) (n most : ℕ) (left left' : Option (List ℕ)) (at at' : Standing) : Type 0 where
+-- one read of n bytes, which are taken
+pub record ReadsOnce (file : Option (List ℕ)) (n : ℕ) (left left' : Option (List ℕ)) (at at' : Standing) : Type 0 where
   pub bytes : List ℕ
   pub count : length bytes ≡ n
-  pub bounded : n ≤ most
   pub consumed : Consumes left left' bytes
   pub at_end : n ≡ 0 → IsAtEnd left'
   pub takes : Takes file bytes at at'
@@ -98,37 +102,32 @@ pub record Writes {T : Type 0} (text : List ℕ) (written written' : Option (Lis
   pub part : WritesPrefix written written' text
   pub cause : after ≡ counts_by result before
 
--- an outcome that reads no input leaves the source as it was, and doesn't end in 4; a script has read its input to the
--- end at status 0, and the byte past the limit at its status 8
-pub record ReadsFor {S : Type 0} (o : Outcome) (left : S → Option (List ℕ)) (input input' : S) (written written' : Option (List ℕ)) (status : ℕ) : Type 0 where
-  pub reads : HasRead o.log (left input) (left input') written written' status
-  pub at_end : status ≡ 0 → o.reads ≡ true → IsAtEnd (left input')
-  pub past_limit : status ≡ 8 → o.reads ≡ true → length reads.read ≡ input_limit + 1
-  pub unread : o.reads ≡ false → (input' ≡ input) × (status ≢ 4)
-
--- a run that was given some input: it comes to the outcome of this input, reads as the outcome says, and leaves this if
--- a fault ends it
-pub record RunsFor {S : Type 0} (outcome_of : List ℕ → Outcome) (Left : Outcome → List ℕ → ℕ → Type 0) (left : S → Option (List ℕ)) (input input' : S) (written written' : Option (List ℕ)) (files' : Option Files) (status : ℕ) : Type 0 where
+-- a run that was given some input, and has the outcome of this input; Left holds if a fault ends it
+pub record RunsFor (outcome_of : List ℕ → Outcome) (Left : Outcome → List ℕ → ℕ → Type 0) (InputKept : Type 0) (before after : Told) (status : ℕ) : Type 0 where
   pub given : List ℕ
-  pub told : IfSome (left input) (λ bytes. bytes ≡ given)
-  pub comes : ComesTo (outcome_of given) written written' files' status
-  pub reads : ReadsFor (outcome_of given) left input input' written written' status
-  pub leaves : (IsFinal status → ⊥) → Left (outcome_of given) comes.printed status
+  pub told_input : IfSome before.left (λ bytes. bytes ≡ given)
+  pub to : RunsTo (outcome_of given) (Left (outcome_of given)) InputKept before after status
 
 -- a store may hold these files: it tells nothing else
 abbrev pub MayHold : Option Files → Files → Type 0
 MayHold files all = IfSome files (λ these. these ≡ all)
 
 -- a run over a store, for all files that the store may hold
-abbrev pub RunsOnAny : {S : Type 0} → (Files → List ℕ → Outcome) → (Outcome → List ℕ → ℕ → Type 0) → (S → Option (List ℕ)) → S → S → Option (List ℕ) → Option (List ℕ) → Option Files → Option Files → ℕ → Type 0
-RunsOnAny outcome_of Left left input input' written written' files files' status =
-    (all : Files) → MayHold files all → RunsFor (outcome_of all) Left left input input' written written' files' status
+abbrev pub RunsOnAny : (Files → List ℕ → Outcome) → (Outcome → List ℕ → ℕ → Type 0) → Type 0 → Told → Told → ℕ → Type 0
+RunsOnAny outcome_of Left InputKept before after status =
+    (all : Files) → MayHold before.files all → RunsFor (outcome_of all) Left InputKept before after status
 
 -- a run over a store that may hold some files
-pub record RunsOn {S : Type 0} (outcome_of : Files → List ℕ → Outcome) (Left : Outcome → List ℕ → ℕ → Type 0) (left : S → Option (List ℕ)) (input input' : S) (written written' : Option (List ℕ)) (files files' : Option Files) (status : ℕ) : Type 0 where
+pub record RunsOn (outcome_of : Files → List ℕ → Outcome) (Left : Outcome → List ℕ → ℕ → Type 0) (InputKept : Type 0) (before after : Told) (status : ℕ) : Type 0 where
   pub all : Files
-  pub held : MayHold files all
-  pub runs : RunsFor (outcome_of all) Left left input input' written written' files' status
+  pub held : MayHold before.files all
+  pub runs : RunsFor (outcome_of all) Left InputKept before after status
+
+-- a run over a store whose loads may find some files
+pub record RunsSeen (outcome_of : (ℕ → Files) → List ℕ → Outcome) (Left : Outcome → List ℕ → ℕ → Type 0) (InputKept : Type 0) (before after : Told) (status : ℕ) : Type 0 where
+  pub seen : ℕ → Files
+  pub held : AreSeen before.files seen
+  pub runs : RunsFor (outcome_of seen) Left InputKept before after status
 
 -- the statuses of runs that no fault ends
 abbrev pub IsEnd : ℕ → Type 0
@@ -137,9 +136,3 @@ IsEnd status = IsTrue ((status == 0) || (status == 2) || (status == 3) || (statu
 -- without the name of a file, the store isn't used, and so it doesn't fail
 abbrev pub LeavesStore : {D T : Type 0} → Option (List ℕ) → D → D → Result T RunFault → Type 0
 LeavesStore name store store' result = name ≡ None → (store' ≡ store) × IfErr result (λ e. e ≢ fault.Store)
-
--- a run over a store whose loads may find some files
-pub record RunsSeen {S : Type 0} (outcome_of : (ℕ → Files) → List ℕ → Outcome) (Left : Outcome → List ℕ → ℕ → Type 0) (left : S → Option (List ℕ)) (input input' : S) (written written' : Option (List ℕ)) (files files' : Option Files) (status : ℕ) : Type 0 where
-  pub seen : ℕ → Files
-  pub held : AreSeen files seen
-  pub runs : RunsFor (outcome_of seen) Left left input input' written written' files' status

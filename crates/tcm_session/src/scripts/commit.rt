@@ -1,12 +1,13 @@
 //! Runs a script, from an empty log or from the log in a file.
 
-ghost use Rattle.std.specs.Prelude.{◌≡◌, length, None, Some, IfOk, OnErr, OnOk};
+ghost use Rattle.std.specs.Prelude.{◌≡◌, [], length, None, Some, IfOk, OnErr, OnOk};
 ghost use Rattle.std.specs.Option.{option_copied};
 ghost use Rattle.tcm_edges.specs.Shown.{EachLeft, StaysOnly};
 ghost use Rattle.tcm_session.specs.Counts.{counts};
 ghost use Rattle.tcm_session.specs.Commit.{commit_outcome, commit_to_outcome, outcome_in, script_outcome};
 ghost use Rattle.tcm_session.specs.Left.{LeavesFiles, StopsNext};
 ghost use Rattle.tcm_session.specs.Request.{CommitTo};
+ghost use Rattle.tcm_session.specs.Run.{told};
 ghost use Rattle.tcm_session.specs.code.Endings as spec;
 ghost use Rattle.tcm_session.specs.code.Loading.{HoldsFile, IsKeptOrWritten, IsWritten};
 ghost use Rattle.tcm_session.specs.code.RunFaults.{counts_by};
@@ -22,8 +23,9 @@ use crate::files::log_file::{LogFault, LogFile, open_log};
 use crate::files::written::write_file;
 use crate::limits::{FILE_LIMIT, TOO_LARGE};
 use crate::run_fault::RunFault;
-use crate::scripts::answering::answer_line;
+use crate::scripts::answering::answer_begun;
 use crate::scripts::pieces::{ReadEnd, read_script};
+use crate::scripts::script::Script;
 use crate::status::Status;
 use cluster_terms::ByteText;
 use script_session::{RefusedLine, Session};
@@ -45,61 +47,92 @@ fn end_status(ending: ReadEnd) -> Status
 /// text for an input that is too large.
 fn finish<K: Sink, D: Store>(
     alloc: Global,
-    session: &mut Session,
-    begun: &[u8],
+    script: &mut Script<'_>,
     ending: ReadEnd,
-    log: Option<&str>,
     out: &mut K,
     store: &mut D,
 ) -> Result<(), RunFault>
-    ensures writes { Writes (spec.ending_text ending session.old begun.now)
+    ensures writes { Writes (spec.ending_text ending script.old.session script.old.begun.items)
         (K.written out.old) (K.written out.new)
         (counts 0 (K.faults out.old) (D.faults store.old))
         (counts 0 (K.faults out.new) (D.faults store.new)) result }
-    ensures file { OnOk result (Gains (option_copied log.entry)
-        (entry_lines (entries_added session.old (spec.ending_lines ending begun.now)))
+    ensures file { OnOk result (Gains (option_copied script.old.log) (entry_lines
+        (entries_added script.old.session (spec.ending_lines ending script.old.begun.items)))
         (D.files store.old) (D.files store.new)) }
     ensures stays { OnOk result (StaysOnly D.files D.shows store.old store.new) }
     ensures stopped { OnErr result (EachLeft D.files D.shows store.old store.new (λ left. Stopped
-        (StopsNext (spec.ending_text ending session.old begun.now)
-        (entry_lines (entries_added session.old (spec.ending_lines ending begun.now))))
-        (option_copied log.entry) (K.written out.old) (K.written out.new)
+        (StopsNext (spec.ending_text ending script.old.session script.old.begun.items) (entry_lines
+        (entries_added script.old.session (spec.ending_lines ending script.old.begun.items))))
+        (option_copied script.old.log) (K.written out.old) (K.written out.new)
         (D.files store.old) left)) }
-    ensures unnamed { LeavesStore (option_copied log.entry) store.old store.new result }
+    ensures unnamed { LeavesStore (option_copied script.old.log) store.old store.new result }
 {
     match ending {
-        ReadEnd::AtEnd if begun.is_empty() => Ok(()),
-        ReadEnd::AtEnd => answer_line(alloc, session, begun, log, store, out),
+        ReadEnd::AtEnd if script.begun.is_empty() => Ok(()),
+        ReadEnd::AtEnd => answer_begun(alloc, script, store, out),
         ReadEnd::PastLimit => print_text(TOO_LARGE.as_bytes(), out),
     }
 }
 
-/// Runs a script from the log of the session on, which has no followers yet. If a file is named, the lines of new
-/// entries are added to it.
+/// Answers the lines of a script of which nothing was read, and whose session has no followers yet.
+fn run_lines<S: Source, K: Sink, D: Store>(
+    alloc: Global,
+    script: &mut Script<'_>,
+    input: &mut S,
+    out: &mut K,
+    store: &mut D,
+) -> Result<Status, RunFault>
+    requires session { script.old.session ≡ session_over script.old.session.log }
+    requires begun { script.old.begun.items ≡ [] }
+    ensures runs { EachLeft D.files D.shows store.old store.new (λ left. RunsOnAny
+        (λ all. script_outcome (record {
+          log = script.old.session.log;
+          file = option_copied script.old.log;
+          files = all;
+        }))
+        (LeavesScript (option_copied script.old.log) (D.files store.old) left) (input.new ≡ input.old)
+        (told (S.left input.old) (K.written out.old) (D.files store.old))
+        (told (S.left input.new) (K.written out.new) left) (spec.status_by result)) }
+    ensures cause { counts (S.faults input.new) (K.faults out.new) (D.faults store.new)
+        ≡ counts_by result (counts (S.faults input.old) (K.faults out.old) (D.faults store.old)) }
+    ensures ended { IfOk result (λ status. IsEnd status.0) }
+    ensures unnamed { LeavesStore (option_copied script.old.log) store.old store.new result }
+{
+    let ending = read_script(alloc, script, input, out, store)?;
+    finish(alloc, script, ending, out, store)?;
+    Ok(end_status(ending))
+}
+
+/// Runs a script from the log of a session on, which has no followers yet. If a file is named, the lines of new entries
+/// are added to it.
 fn run_script<S: Source, K: Sink, D: Store>(
     alloc: Global,
-    session: &mut Session,
+    session: Session,
     log: Option<&str>,
     input: &mut S,
     out: &mut K,
     store: &mut D,
 ) -> Result<Status, RunFault>
-    requires { session.old ≡ session_over session.old.log }
+    requires { session ≡ session_over session.log }
     ensures runs { EachLeft D.files D.shows store.old store.new (λ left. RunsOnAny
         (λ all. script_outcome
-        (record { log = session.old.log; file = option_copied log.entry; files = all }))
-        (LeavesScript (option_copied log.entry) (D.files store.old) left)
-        S.left input.old input.new (K.written out.old) (K.written out.new)
-        (D.files store.old) left (spec.status_by result)) }
+        (record { log = session.log; file = option_copied log.entry; files = all }))
+        (LeavesScript (option_copied log.entry) (D.files store.old) left) (input.new ≡ input.old)
+        (told (S.left input.old) (K.written out.old) (D.files store.old))
+        (told (S.left input.new) (K.written out.new) left) (spec.status_by result)) }
     ensures cause { counts (S.faults input.new) (K.faults out.new) (D.faults store.new)
         ≡ counts_by result (counts (S.faults input.old) (K.faults out.old) (D.faults store.old)) }
     ensures ended { IfOk result (λ status. IsEnd status.0) }
     ensures unnamed { LeavesStore (option_copied log.entry) store.old store.new result }
 {
-    let mut begun = Vec::new(alloc);
-    let ending = read_script(alloc, session, &mut begun, log, input, out, store)?;
-    finish(alloc, session, begun.as_slice(), ending, log, out, store)?;
-    Ok(end_status(ending))
+    let mut script = Script {
+        session,
+        begun: Vec::new(alloc),
+        log,
+    };
+    let result = run_lines(alloc, &mut script, input, out, store);
+    script.close();
+    result
 }
 
 /// Runs a script from an empty log, without a file.
@@ -111,17 +144,15 @@ pub fn commit<S: Source, K: Sink, D: Store>(
 ) -> Result<Status, RunFault>
     ensures runs { EachLeft D.files D.shows store.old store.new (λ left. RunsOnAny commit_outcome
         (LeavesScript None (D.files store.old) left)
-        S.left input.old input.new (K.written out.old) (K.written out.new)
-        (D.files store.old) left (spec.status_by result)) }
+        (input.new ≡ input.old) (told (S.left input.old) (K.written out.old) (D.files store.old))
+        (told (S.left input.new) (K.written out.new) left) (spec.status_by result)) }
     ensures cause { counts (S.faults input.new) (K.faults out.new) (D.faults store.new)
         ≡ counts_by result (counts (S.faults input.old) (K.faults out.old) (D.faults store.old)) }
     ensures ended { IfOk result (λ status. IsEnd status.0) }
     ensures unnamed { LeavesStore None store.old store.new result }
 {
-    let mut session = Session::empty(alloc)?;
-    let result = run_script(alloc, &mut session, None, input, out, store);
-    session.close();
-    result
+    let session = Session::empty(alloc)?;
+    run_script(alloc, session, None, input, out, store)
 }
 
 /// Prints the text for a log that is refused, and returns status 3.
@@ -185,21 +216,19 @@ fn commit_from<S: Source, K: Sink, D: Store>(
     ensures runs { EachLeft D.files D.shows store.old store.new (λ left. RunsOnAny
         (λ all. outcome_in log.now.name.now log.now.cluster all file)
         (LeavesFiles (Some (CommitTo log.now.name.now log.now.cluster)) (D.files store.old) left)
-        S.left input.old input.new (K.written out.old) (K.written out.new)
-        (D.files store.old) left (spec.status_by result)) }
+        (input.new ≡ input.old) (told (S.left input.old) (K.written out.old) (D.files store.old))
+        (told (S.left input.new) (K.written out.new) left) (spec.status_by result)) }
     ensures cause { counts (S.faults input.new) (K.faults out.new) (D.faults store.new)
         ≡ counts_by result (counts (S.faults input.old) (K.faults out.old) (D.faults store.old)) }
     ensures ended { IfOk result (λ status. IsEnd status.0) }
 {
     match open_log(alloc, Some(&log.cluster), file.as_slice()) {
-        Ok((mut session, tail)) => {
+        Ok((session, tail)) => {
             if let Err(fault) = settle_file(alloc, log, file, tail, store) {
                 session.close();
                 return Err(fault);
             }
-            let result = run_script(alloc, &mut session, Some(log.name), input, out, store);
-            session.close();
-            result
+            run_script(alloc, session, Some(log.name), input, out, store)
         }
         Err(LogFault::Refused(refused)) => refuse_log(alloc, &refused, out),
         Err(LogFault::Memory) => Err(RunFault::Memory),
@@ -217,8 +246,8 @@ pub fn commit_to<S: Source, K: Sink, D: Store>(
     ensures runs { EachLeft D.files D.shows store.old store.new (λ left. RunsOn
         (commit_to_outcome log.now.name.now log.now.cluster)
         (LeavesFiles (Some (CommitTo log.now.name.now log.now.cluster)) (D.files store.old) left)
-        S.left input.old input.new (K.written out.old) (K.written out.new)
-        (D.files store.old) left (spec.status_by result)) }
+        (input.new ≡ input.old) (told (S.left input.old) (K.written out.old) (D.files store.old))
+        (told (S.left input.new) (K.written out.new) left) (spec.status_by result)) }
     ensures cause { counts (S.faults input.new) (K.faults out.new) (D.faults store.new)
         ≡ counts_by result (counts (S.faults input.old) (K.faults out.old) (D.faults store.old)) }
     ensures ended { IfOk result (λ status. IsEnd status.0) }

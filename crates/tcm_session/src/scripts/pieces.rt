@@ -1,18 +1,19 @@
 //! Reads a script piece by piece.
 
-ghost use Rattle.std.specs.Prelude.{◌≡◌, ◌<◌, length, vec_len, IfOk, IfErr, OnErr, OnOk};
+ghost use Rattle.std.specs.Prelude.{◌≡◌, ◌<◌, ◌≤◌, length, vec_len, IfOk, IfErr, OnErr, OnOk};
 ghost use Rattle.std.specs.Io.KnownBytes.{Keeps};
 ghost use Rattle.std.specs.Option.{option_copied};
 ghost use Rattle.tcm_edges.specs.Shown.{EachLeft, StaysOnly};
 ghost use Rattle.tcm_session.specs.Counts.{counts};
 ghost use Rattle.tcm_session.specs.code.RunFaults.{counts_by};
 ghost use Rattle.tcm_session.specs.Outcome.{input_limit};
-ghost use Rattle.tcm_session.specs.code.Runs.{IsBegun, LeavesStore, ReadsOnce, ReadsPast, ReadsTo, StopsAt, standing};
+ghost use Rattle.tcm_session.specs.Run.{told};
+ghost use Rattle.tcm_session.specs.code.Runs.{IsBegun, LeavesStore, ReadsOnce, ReadsPast, ReadsTo, StopsAt, script_at};
 ghost use Rattle.tcm_session.specs.declared.run_fault.RunFault.TheVariants as fault;
 
 use crate::run_fault::RunFault;
 use crate::scripts::answering::feed;
-use script_session::Session;
+use crate::scripts::script::Script;
 use std::alloc::Global;
 use tcm_edges::{Sink, Source, Store};
 
@@ -35,32 +36,31 @@ pub enum ReadEnd {
 /// Reads a piece, answers the lines that end in it, and returns its length: 0 only at the end of the input.
 fn read_piece<S: Source, K: Sink, D: Store>(
     alloc: Global,
-    session: &mut Session,
-    begun: &mut Vec<u8>,
+    script: &mut Script<'_>,
     buffer: &mut [u8],
-    log: Option<&str>,
     input: &mut S,
     out: &mut K,
     store: &mut D,
 ) -> Result<usize, RunFault>
     requires buffer { 0 < length buffer.old }
-    requires begun { IsBegun begun.old.items }
-    ensures ok { IfOk result (λ n. ReadsOnce (option_copied log.entry) n (length buffer.old)
+    requires begun { IsBegun script.old.begun.items }
+    ensures ok { IfOk result (λ n. ReadsOnce (option_copied script.old.log) n
         (S.left input.old) (S.left input.new)
-        (standing session.old begun.old.items (K.written out.old) (D.files store.old))
-        (standing session.new begun.new.items (K.written out.new) (D.files store.new))) }
+        (script_at script.old (K.written out.old) (D.files store.old))
+        (script_at script.new (K.written out.new) (D.files store.new))) }
+    ensures bound { IfOk result (λ n. n ≤ length buffer.old) }
     ensures stays { OnOk result (StaysOnly D.files D.shows store.old store.new) }
     ensures err { IfErr result (λ e. EachLeft D.files D.shows store.old store.new
-        (λ left. StopsAt (option_copied log.entry) e (length buffer.old)
-        (S.left input.old) (S.left input.new)
-        (standing session.old begun.old.items (K.written out.old) (D.files store.old))
-        (K.written out.new) left)) }
+        (λ left. StopsAt (option_copied script.old.log) e (length buffer.old)
+        (S.left input.old) (script_at script.old (K.written out.old) (D.files store.old))
+        (told (S.left input.new) (K.written out.new) left))) }
     ensures cause { counts (S.faults input.new) (K.faults out.new) (D.faults store.new)
         ≡ counts_by result (counts (S.faults input.old) (K.faults out.old) (D.faults store.old)) }
-    ensures unnamed { LeavesStore (option_copied log.entry) store.old store.new result }
+    ensures unnamed { LeavesStore (option_copied script.old.log) store.old store.new result }
+    ensures log { script.new.log ≡ script.old.log }
 {
     let count = input.read(buffer)?;
-    feed(alloc, session, begun, &buffer[..count], log, store, out)?;
+    feed(alloc, script, &buffer[..count], store, out)?;
     Ok(count)
 }
 
@@ -88,38 +88,35 @@ fn read_past<S: Source>(input: &mut S) -> Result<ReadEnd, RunFault>
 }
 
 /// Reads a script to its end or up to the limit. Answers each line that a line feed ends before it reads on, and keeps
-/// the rest in `begun`. At a fault, some of the lines that end among the bytes read are done; at a fault of the source,
-/// all of them.
+/// the rest as the line that has begun. At a fault, some of the lines that end among the bytes read are done; at a fault
+/// of the source, all of them.
 pub fn read_script<S: Source, K: Sink, D: Store>(
     alloc: Global,
-    session: &mut Session,
-    begun: &mut Vec<u8>,
-    log: Option<&str>,
+    script: &mut Script<'_>,
     input: &mut S,
     out: &mut K,
     store: &mut D,
 ) -> Result<ReadEnd, RunFault>
-    requires begun { IsBegun begun.old.items }
-    ensures ok { IfOk result (λ ending. ReadsTo (option_copied log.entry) ending
+    requires begun { IsBegun script.old.begun.items }
+    ensures ok { IfOk result (λ ending. ReadsTo (option_copied script.old.log) ending
         (S.left input.old) (S.left input.new)
-        (standing session.old begun.old.items (K.written out.old) (D.files store.old))
-        (standing session.new begun.new.items (K.written out.new) (D.files store.new))) }
+        (script_at script.old (K.written out.old) (D.files store.old))
+        (script_at script.new (K.written out.new) (D.files store.new))) }
     ensures stays { OnOk result (StaysOnly D.files D.shows store.old store.new) }
     ensures err { IfErr result (λ e. EachLeft D.files D.shows store.old store.new
-        (λ left. StopsAt (option_copied log.entry) e input_limit
-        (S.left input.old) (S.left input.new)
-        (standing session.old begun.old.items (K.written out.old) (D.files store.old))
-        (K.written out.new) left)) }
+        (λ left. StopsAt (option_copied script.old.log) e input_limit
+        (S.left input.old) (script_at script.old (K.written out.old) (D.files store.old))
+        (told (S.left input.new) (K.written out.new) left))) }
     ensures cause { counts (S.faults input.new) (K.faults out.new) (D.faults store.new)
         ≡ counts_by result (counts (S.faults input.old) (K.faults out.old) (D.faults store.old)) }
-    ensures unnamed { LeavesStore (option_copied log.entry) store.old store.new result }
+    ensures unnamed { LeavesStore (option_copied script.old.log) store.old store.new result }
+    ensures log { script.new.log ≡ script.old.log }
 {
     let mut buffer = zeros(alloc, PIECE)?;
     let mut taken = 0;
     while taken < INPUT_LIMIT {
         let room = PIECE.min(INPUT_LIMIT - taken);
-        let piece = &mut buffer[..room];
-        let count = read_piece(alloc, session, begun, piece, log, input, out, store)?;
+        let count = read_piece(alloc, script, &mut buffer[..room], input, out, store)?;
         if count == 0 {
             return Ok(ReadEnd::AtEnd);
         }

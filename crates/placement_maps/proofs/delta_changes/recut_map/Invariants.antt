@@ -7,7 +7,7 @@ use Rattle.placement_maps.proofs.delta_changes.recut_map.Given as goal
 abbrev pub invariant-loop-done : goal.invariant-loop-done
 invariant-loop-done l = record {
   bound : l.done ≤ length l.ranges;
-  rows : edited l.edits l.map ≡ recut_rows l.turn (take l.done l.ranges) l.map l.delta;
+  rows : edited l.edits l.map ≡ recut_rows l.fn.turn (take l.done l.ranges) l.map l.delta;
 }
 
 abbrev pub decreases-loop-done : goal.decreases-loop-done

@@ -7,7 +7,7 @@ use Rattle.placement_maps.proofs.delta_changes.recut_some.Goals as goal
 
 pub returns-then-count-gt0-clause-rows : goal.returns-then-count-gt0-clause-rows
 returns-then-count-gt0-clause-rows c =
-    let rows = c.args.map.now in
+    let rows = c.args.turning.now.map.now in
     let at = c.row_by_hint-row.new.hint in
     let m = c.kept_up_to-end.result - at in
     let count = c.count_same-count.result in
@@ -17,4 +17,4 @@ returns-then-count-gt0-clause-rows c =
     let ends : right_ends (take count (take m (drop at rows))) ≡ map (λ range. range.right) ranges = subst (λ (l : List PlacementRow). right_ends (take count l) ≡ map (λ range. range.right) ranges) is c.count_same-count.ensures.same in
     c.in_ok-keep.ensures.rows rows
     ∙ ap (λ (l : List PlacementRow). edited c.args.edits.now rows ++ l)
-    (kept_rows c.args.turn rows c.args.delta.now at m count ranges c.rows.ensures.map few c.kept_up_to-end.ensures.kept ends)
+    (kept_rows c.args.turning.now.turn rows c.args.turning.now.delta.now at m count ranges c.rows.ensures.map few c.kept_up_to-end.ensures.kept ends)

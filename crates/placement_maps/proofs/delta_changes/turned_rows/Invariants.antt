@@ -6,7 +6,7 @@ use Rattle.placement_maps.proofs.delta_changes.turned_rows.Given as goal
 abbrev pub invariant-loop-at : goal.invariant-loop-at
 invariant-loop-at l = record {
   bound : l.at ≤ length l.map;
-  sets : AreTurned l.turn l.delta l.map l.at l.changes;
+  sets : AreTurned l.fn.turn l.delta l.map l.at l.changes;
 }
 
 abbrev pub decreases-loop-at : goal.decreases-loop-at

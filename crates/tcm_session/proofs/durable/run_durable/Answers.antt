@@ -40,11 +40,11 @@ pub returns-in-Ok-clause-unchanged : goal.returns-in-Ok-clause-unchanged
 returns-in-Ok-clause-unchanged g c = λ kept. rw c.close.ensures (c.run-status.ensures.unchanged kept ∙ told_same _ _ c.in-Ok.ensures.files)
 
 pub returns-in-Err-clause-outcome : goal.returns-in-Err-clause-outcome
-returns-in-Err-clause-outcome g c = unopened (map string_bytes c.args.words.now) g.S.Source.left c.args.input.now _ _ _ (told_same _ _ c.in-Err.ensures.files)
+returns-in-Err-clause-outcome g c = unopened (map string_bytes c.args.words.now) _ refl _ _ _ _ (told_same _ _ c.in-Err.ensures.files)
 
 pub returns-in-Err-clause-crash : goal.returns-in-Err-clause-crash
 returns-in-Err-clause-crash g c = λ stood image here.
-    unopened (map string_bytes c.args.words.now) g.S.Source.left c.args.input.now _ _ _
+    unopened (map string_bytes c.args.words.now) _ refl _ _ _ _
     (image_kept g.D.Disk.moment g.D.Disk.image c.args.disk c.in-Err.disk (g.D.Disk.content c.args.disk) (g.D.Disk.content c.in-Err.disk) c.in-Err.ensures.files c.in-Err.ensures.images (stood refl refl) (g.met.D.Disk.imageless c.in-Err.disk) image here)
 
 pub returns-in-Err-clause-status : goal.returns-in-Err-clause-status

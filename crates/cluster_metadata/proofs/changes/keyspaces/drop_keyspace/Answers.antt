@@ -1,4 +1,4 @@
-use Rattle.std.proofs.Common.{◌≡◌, ◌∙◌, ap, filter, not}
+use Rattle.std.proofs.Common.{◌∙◌, ap, filter, not}
 use Rattle.std.specs.Str.{bytes_eq}
 use Rattle.transformations.specs.declared.keyspace.KeyspaceRow.{KeyspaceRow}
 use Rattle.cluster_metadata.proofs.accepted.KeyspaceLemmas.{drop_valid, drops_keyspace}

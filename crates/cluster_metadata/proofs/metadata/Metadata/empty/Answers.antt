@@ -10,7 +10,7 @@ invariant_of-result c =
       replications = tt;
       directory = c.in_ok-directory.ensures;
       maps = rw c.empty.ensures (record { replications = refl; placements = tt });
-      running = rw c.new.ensures.items refl;
-      deltas = rw c.new.ensures.items tt;
-      locks = rw c.empty-2.ensures tt;
+      running = rw c.empty-2.ensures.running refl;
+      deltas = rw c.empty-2.ensures.running tt;
+      locks = rw c.empty-2.ensures.locks tt;
     })

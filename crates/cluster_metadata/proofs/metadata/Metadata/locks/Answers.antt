@@ -4,4 +4,4 @@ use Rattle.cluster_metadata.proofs.locks.LockPlaces.{lock_nodes, locks_named, ro
 use Rattle.cluster_metadata.proofs.metadata.Metadata.locks.Goals as goal
 
 pub returns-clause-nodes : goal.returns-clause-nodes
-returns-clause-nodes c = subst (λ (i : Image). lock_nodes c.self.inside.locks ≡ row_nodes i.sequences) c.self.view_is (locks_named _ _ _ c.self.invariant.locks)
+returns-clause-nodes c = subst (λ (i : Image). lock_nodes c.self.inside.in_flight.locks ≡ row_nodes i.sequences) c.self.view_is (locks_named _ _ _ c.self.invariant.locks)

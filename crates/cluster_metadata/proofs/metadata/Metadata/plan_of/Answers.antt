@@ -10,7 +10,7 @@ use Rattle.cluster_metadata.proofs.metadata.Metadata.plan_of.Goals as goal
 
 pub returns-in-Some-clause-row : goal.returns-in-Some-clause-row
 returns-in-Some-clause-row c =
-    let values : List Running = c.self.inside.running.items in
+    let values : List Running = c.self.inside.in_flight.running.items in
     let m : Running = c.in-Some.movement.now in
     let running : IsRunning c.args.self.now.sequences values = subst (λ (i : Image). IsRunning i.sequences values) c.self.view_is c.self.invariant.running in
     let found : Some m ≡ value_of values c.args.node = c.in-Some.ensures ∙ ap (λ vs. value_of vs c.args.node) c.as_slice.ensures.value in
@@ -19,7 +19,7 @@ returns-in-Some-clause-row c =
 
 pub returns-in-Some-clause-deltas : goal.returns-in-Some-clause-deltas
 returns-in-Some-clause-deltas c =
-    let values : List Running = c.self.inside.running.items in
+    let values : List Running = c.self.inside.in_flight.running.items in
     let m : Running = c.in-Some.movement.now in
     let deltas : HaveDeltas c.args.self.now values = subst (λ (i : Image). HaveDeltas i values) c.self.view_is c.self.invariant.deltas in
     let found : Some m ≡ value_of values c.args.node = c.in-Some.ensures ∙ ap (λ vs. value_of vs c.args.node) c.as_slice.ensures.value in
@@ -27,6 +27,6 @@ returns-in-Some-clause-deltas c =
 
 pub returns-in-None-clause-row : goal.returns-in-None-clause-row
 returns-in-None-clause-row c =
-    let values : List Running = c.self.inside.running.items in
+    let values : List Running = c.self.inside.in_flight.running.items in
     let running : IsRunning c.args.self.now.sequences values = subst (λ (i : Image). IsRunning i.sequences values) c.self.view_is c.self.invariant.running in
     none_found c.args.self.now values running c.args.node (c.in-None.ensures ∙ ap (λ vs. value_of vs c.args.node) c.as_slice.ensures.value)

@@ -18,5 +18,5 @@ pub invariant_of-self-2 : goal.invariant_of-self-2
 invariant_of-self-2 c =
     let apart = differs c.self.inside.image c.args.self.now c.other.inside.image c.args.other.now c.self.view_is c.other.view_is c.requires in
     let next : c.next_id.result ≡ c.other.inside.image.next = c.next_id.ensures.next ∙ ap (λ (d : Registry). d.next) c.other.invariant.directory in
-    renumbered c.self.inside.image c.other.inside.image apart c.self.inside.directory c.renumber.new.self c.self.inside.maps c.self.inside.running.items c.self.inside.locks c.other.invariant.valid
+    renumbered c.self.inside.image c.other.inside.image apart c.self.inside.directory c.renumber.new.self c.self.inside.maps c.self.inside.in_flight.running.items c.self.inside.in_flight.locks c.other.invariant.valid
     c.other.invariant.replications c.self.invariant (c.in_ok-renumber.ensures.renumbered ∙ ap (λ n. record { rows = c.self.inside.directory.rows; next = n }) next)

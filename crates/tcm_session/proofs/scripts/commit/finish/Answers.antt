@@ -1,4 +1,5 @@
-use Rattle.std.proofs.Common.{◌≡◌, ℕ, List, [], ◌∷◌, ◌++◌, Option, refl, sym, ◌∙◌, subst, append-nil, true≢false}
+use Rattle.std.proofs.Common.{◌≡◌, ℕ, List, [], ◌∷◌, ◌++◌, Option, length, refl, sym, ap, ◌∙◌, subst, append-nil, true≢false, rules}
+use Rattle.std.specs.Vec.{vec_len}
 use Rattle.std.specs.Option.{option_copied}
 use Rattle.tcm_edges.specs.Files.{Files}
 use Rattle.tcm_edges.proofs.ShownLemmas.{left_same}
@@ -17,7 +18,7 @@ returns-in-PastLimit-clause-stopped g c =
     let writes = rw c.as_bytes.ensures.value at c.print_text.ensures in
     rw c.in-PastLimit.is (on_fault _ c.print_text.result (λ left may.
     Stopped-told _ _ _ _ _ _ left (left_same g.D.Store.files g.D.Store.shows c.args.store.now c.args.store.now left refl may)
-    (stopped_text too_large_text (option_copied c.args.log) _ _ (g.D.Store.files c.args.store.now) writes.part)))
+    (stopped_text too_large_text (option_copied c.args.script.now.log) _ _ (g.D.Store.files c.args.store.now) writes.part)))
 
 -- a line that lacks its line feed is the last one
 at_end : (session : SessionState) (begun : List ℕ) (name w w' : Option (List ℕ)) (f left : Option Files) → (begun ≡ [] → ⊥)
@@ -31,7 +32,7 @@ at_end session (byte ∷ begun) name w w' f left some s =
 
 pub returns-in-AtEnd-2-clause-stopped : goal.returns-in-AtEnd-2-clause-stopped
 returns-in-AtEnd-2-clause-stopped g c =
-    rw c.in-AtEnd.is
-    (err_map c.answer_line.result
-    (λ each left may. at_end _ _ _ _ _ _ left (λ none. true≢false (sym (rw none at c.is_empty.ensures) ∙ c.if-is_empty.false)) (each left may))
-    c.answer_line.ensures.stopped)
+    let begun = c.args.script.now.begun in
+    let count : vec_len begun ≡ length begun.items = search rules in
+    let some : begun.items ≡ [] → ⊥ = λ none. true≢false (sym (rw (count ∙ ap length none) at c.is_empty.ensures) ∙ c.if-is_empty.false) in
+    rw c.in-AtEnd.is (err_map c.answer_begun.result (λ each left may. at_end _ _ _ _ _ _ left some (each left may)) c.answer_begun.ensures.stopped)

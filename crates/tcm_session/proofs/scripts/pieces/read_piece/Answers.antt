@@ -15,7 +15,7 @@ pub returns-in_err-feed-clause-err : goal.returns-in_err-feed-clause-err
 returns-in_err-feed-clause-err g c =
     at_fault _ c.from_residual-in_err-feed.result _ c.from_residual-in_err-feed.ensures.1
     (λ left may.
-    StopsAt-piece _ _ _ _ _ _ _ left _ _ _ refl refl c.in_ok-count.ensures.bytes.0 (omega (arith, length-take c.in_ok-count.count c.read.new.buf, c.in_ok-count.ensures.bound)) (c.in_err-feed.ensures.stopped left may) c.in_err-feed.ensures.cause)
+    StopsAt-piece _ _ _ _ _ _ _ _ _ refl refl c.in_ok-count.ensures.bytes.0 (omega (arith, length-take c.in_ok-count.count c.read.new.buf, c.in_ok-count.ensures.bound)) (c.in_err-feed.ensures.stopped left may) c.in_err-feed.ensures.cause)
 
 pub returns-clause-stays : goal.returns-clause-stays
 returns-clause-stays g c = c.in_ok-feed.ensures.stays

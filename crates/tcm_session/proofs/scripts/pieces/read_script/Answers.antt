@@ -16,6 +16,7 @@ loop-taken-init g c =
       counted = refl;
       unnamed = λ _. refl;
       stays = λ only. only;
+      log = refl;
     }
 
 pub read_piece-requires-clause-begun : goal.read_piece-requires-clause-begun
@@ -33,8 +34,9 @@ returns-in_err-count-clause-err g c =
     at_fault _ c.from_residual-in_err-count.result _ c.from_residual-in_err-count.ensures.1
     (λ left may.
     let later = left_after g.D.Store.files g.D.Store.shows c.loop-taken.store c.read_piece.new.store left c.args.store.now c.loop-taken.invariant.stays may in
-    ReadsSoFar-stop _ _ _ _ _ _ c.loop-taken.invariant.reads _ _ input_limit _ _ left
-    (omega (arith, length-take c.min-room.result c.deref_mut.result.now, c.min-room.ensures, c.loop-taken.invariant.limit)) (c.in_err-count.ensures.err left later))
+    let stops = rw c.loop-taken.invariant.log at (c.in_err-count.ensures.err left later) in
+    ReadsSoFar-stop _ _ _ _ _ _ c.loop-taken.invariant.reads _ _ input_limit _
+    (omega (arith, length-take c.min-room.result c.deref_mut.result.now, c.min-room.ensures, c.loop-taken.invariant.limit)) stops)
 
 pub returns-in_err-count-clause-cause : goal.returns-in_err-count-clause-cause
 returns-in_err-count-clause-cause g c =
@@ -43,19 +45,23 @@ returns-in_err-count-clause-cause g c =
 
 pub returns-then-count-eq0-clause-ok : goal.returns-then-count-eq0-clause-ok
 returns-then-count-eq0-clause-ok g c =
-    ReadsTo-end _ _ _ _ _ _ c.loop-taken.invariant.reads c.in_ok-count.count _ _ _ c.loop-taken.invariant.limit c.if-count-eq0.true c.in_ok-count.ensures.ok
+    let once = rw c.loop-taken.invariant.log at c.in_ok-count.ensures.ok in
+    ReadsTo-end _ _ _ _ _ _ c.loop-taken.invariant.reads c.in_ok-count.count _ _ c.loop-taken.invariant.limit c.if-count-eq0.true once
 
 pub loop-taken-preserved : goal.loop-taken-preserved
 loop-taken-preserved g c =
     let limit : c.loop-taken.taken + c.in_ok-count.count ≤ 536870912 =
-    omega (arith, length-take c.min-room.result c.deref_mut.result.now, c.min-room.ensures, c.loop-taken.invariant.limit, c.in_ok-count.ensures.ok.bounded) in
+    omega (arith, length-take c.min-room.result c.deref_mut.result.now, c.min-room.ensures, c.loop-taken.invariant.limit, c.in_ok-count.ensures.bound) in
+    let log = c.loop-taken.invariant.log in
+    let once = rw log at c.in_ok-count.ensures.ok in
     record {
-      reads = ReadsSoFar-more _ _ _ _ _ _ c.loop-taken.invariant.reads _ _ _ _ c.in_ok-count.ensures.ok;
+      reads = ReadsSoFar-more _ _ _ _ _ _ c.loop-taken.invariant.reads _ _ _ once;
       limit = limit;
       buffer = c.loop-taken.invariant.buffer;
       counted = c.in_ok-count.ensures.cause ∙ c.loop-taken.invariant.counted;
-      unnamed = λ none. (c.in_ok-count.ensures.unnamed none).0 ∙ c.loop-taken.invariant.unnamed none;
+      unnamed = λ none. (rw log at c.in_ok-count.ensures.unnamed none).0 ∙ c.loop-taken.invariant.unnamed none;
       stays = λ only. c.in_ok-count.ensures.stays (c.loop-taken.invariant.stays only);
+      log = c.in_ok-count.ensures.log ∙ log;
     }
 
 pub returns-in_err-ending-clause-err : goal.returns-in_err-ending-clause-err
