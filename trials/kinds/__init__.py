@@ -1,0 +1,1 @@
+"""The kinds of trials, one module each: see trials/kind.py for how one is added."""
