@@ -60,7 +60,7 @@ def run(options: argparse.Namespace) -> int:
 
 def differences(ranges: List[TokenRange], keyspace: str, now: State, names: Names) -> List[Difference]:
     """Returns where ranges and the placement of a keyspace differ."""
-    rows = RowsByToken(now.placements[keyspace])
+    rows = RowsByToken(now.place(keyspace))
     tokens = {token for node in now.nodes.nodes for token in node.tokens}
     found = [*unlike_ends(ranges, tokens), *unlike_places(ranges, now, names)]
     for it in ranges:

@@ -73,8 +73,7 @@ def from_log(options: argparse.Namespace) -> Found:
     placements = [
         replace(it, keyspace=names.there("keyspace", it.keyspace))
         for now in states
-        for it in now.placements.values()
-        if not keyspaces or it.keyspace in keyspaces
+        for it in now.places(sorted(keyspaces or now.replications))
     ]
     return placements, [cassandras(it, names) for it in latest_nodes([now.nodes for now in states])]
 

@@ -9,11 +9,11 @@ import tempfile
 from contextlib import contextmanager
 from dataclasses import dataclass
 from functools import cached_property
-from typing import Dict, Iterator, List, Optional, Set
+from typing import Any, Dict, Iterable, Iterator, List, Optional, Set
 
-from tools.answers import Movement, Node, Nodes, Placement, framed, read_nodes, read_placement
+from tools.answers import Movement, Node, Nodes, Placement, read_nodes, read_placement
 from tools.errors import Refused
-from tools.program import Run, run
+from tools.program import Run, Session, run
 
 NO_EPOCH_IS_AS_GREAT = str(2**64 - 1)
 MOST_ID = 2**64 - 1
@@ -21,12 +21,10 @@ MOST_ID = 2**64 - 1
 
 @dataclass
 class State:
-    """A state of a log: the answers to `nodes` and to `place` for each keyspace, and the replications."""
+    """A state of a log: the answer to `nodes`. Replications and placements are asked for once they are needed."""
 
+    log: str
     nodes: Nodes
-    placements: Dict[str, Placement]
-    replications: Dict[str, str]
-    next_id: int
 
     @property
     def epoch(self) -> int:
@@ -48,6 +46,35 @@ class State:
         """The nodes by their names."""
         return {it.name: it for it in self.nodes.nodes}
 
+    @cached_property
+    def image(self) -> Dict[str, Any]:
+        """The state as the program prints it."""
+        ended = run(["snapshot", self.log, str(self.epoch)])
+        if ended.status != 0:
+            raise refusal(self.log, ended)
+        image: Dict[str, Any] = json.loads(ended.out.splitlines()[-1])["snapshot"]
+        return image
+
+    @cached_property
+    def replications(self) -> Dict[str, str]:
+        """The replication of each keyspace."""
+        return {it["name"]: it["replication"] for it in self.image["keyspaces"]}
+
+    @property
+    def next_id(self) -> int:
+        """The id that the next node gets."""
+        return int(self.image["next"])
+
+    def place(self, keyspace: str) -> Placement:
+        """Returns the placement of a keyspace."""
+        return next(iter(self.places([keyspace])))
+
+    def places(self, keyspaces: Iterable[str]) -> Iterator[Placement]:
+        """Gives the placements of keyspaces, one after another, as all of them may have no room."""
+        with copy_of(self.log) as copy, Session(words_on(copy)) as session:
+            for it in keyspaces:
+                yield read_placement(session.ask(f"place @{self.epoch} {it}"))
+
     def distinct(self) -> Dict[str, List[str]]:
         """Returns one keyspace of each replication, the least, with all keyspaces that have it."""
         names: Dict[str, List[str]] = {}
@@ -68,39 +95,33 @@ def last_epoch(log: str) -> int:
 
 def state(log: str, epoch: Optional[int] = None) -> State:
     """Returns the state of a log at an epoch, the last one if none is given. The file isn't changed."""
-    ended = run(["snapshot", log, str(last_epoch(log) if epoch is None else epoch)])
-    if ended.status != 0:
-        raise refusal(log, ended)
-    with tempfile.TemporaryDirectory(prefix="cluster-") as folder:
-        path = os.path.join(folder, "state.log")
-        with open(path, "wb") as it:
-            it.write(ended.out if ended.out.endswith(b"\n") else ended.out + b"\n")
-        report = run(["replay", path])
-    if report.status != 0:
-        raise refusal(log, report)
-    return state_of(json.loads(ended.out.splitlines()[-1])["snapshot"], report.lines)
-
-
-def state_of(image: dict, report: List[str]) -> State:
-    """Returns the state that an image and the report of its replay show."""
-    answers = [it for _, it in framed(report)]
-    placements = [read_placement(it) for it in answers if it[0].startswith("PLACE ")]
-    nodes = next(read_nodes(it) for it in answers if it[0].startswith("NODES "))
-    replications = {it["name"]: it["replication"] for it in image["keyspaces"]}
-    return State(nodes, {it.keyspace: it for it in placements}, replications, image["next"])
+    check_kind(log)
+    if not os.path.exists(log):
+        raise Refused(f"{log}: no such log file")
+    with copy_of(log) as copy, Session(words_on(copy)) as session:
+        answer = session.ask(f"nodes @{NO_EPOCH_IS_AS_GREAT if epoch is None else epoch}")
+        if epoch is None and answer[0].startswith("NO EPOCH "):
+            answer = session.ask(f"nodes @{answer[0].split()[-1]}")
+        if not answer[0].startswith("NODES "):
+            raise refused(log, answer[0], session.close())
+    return State(log, read_nodes(answer))
 
 
 def refusal(log: str, ended: Run) -> Refused:
-    """Returns why a log has no such state."""
-    said = ended.lines[0] if ended.lines else ""
-    refused = re.fullmatch(r"REFUSED 1 (\d+) (.*)", said)
-    if refused:
-        return Refused(f"{log}: line {refused[1]} is refused: {refused[2]}; see docs/operators.md, Refused files")
+    """Returns why a log has no such state, as a run told."""
+    return refused(log, ended.lines[0] if ended.lines else "", ended.status)
+
+
+def refused(log: str, said: str, status: int) -> Refused:
+    """Returns why a log has no such state, by the first line of the answer and the status."""
+    found = re.fullmatch(r"REFUSED 1 (\d+) (.*)", said)
+    if found:
+        return Refused(f"{log}: line {found[1]} is refused: {found[2]}; see docs/operators.md, Refused files")
     if said.startswith("NO FILE"):
         return Refused(f"{log}: no such log file")
     if said.startswith("NO EPOCH"):
         return Refused(f"{log}: its last epoch is {said.split()[-1]}")
-    return Refused(f"{log}: tcm ended with status {ended.status}" + (f": {said}" if said else ""))
+    return Refused(f"{log}: tcm ended with status {status}" + (f": {said}" if said else ""))
 
 
 def check_kind(log: str) -> None:

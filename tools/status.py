@@ -2,7 +2,7 @@
 from __future__ import annotations
 
 import argparse
-from typing import Dict, List
+from typing import Dict, Iterable, List
 
 from tools.answers import Movement, Node
 from tools.log import State, state
@@ -51,9 +51,10 @@ def show(log: str, now: State, names: Names, keyspaces: List[str]) -> None:
         f"{plural(len(now.replications), 'keyspace')}"
     )
     columns = columns_of(now, keyspaces)
+    shares = shares_of(now, columns)
     for dc in sorted({it.dc for it in now.nodes.nodes}):
         print(f"\nDatacenter {names.there('datacenter', dc)}")
-        print_lines(table(rows_of(now, names, dc, columns), right=range(3, 4 + len(columns))), "  ")
+        print_lines(table(rows_of(now, names, dc, shares), right=range(3, 4 + len(columns))), "  ")
     print_keyspaces(now, names, columns)
     if now.movements:
         print("\nMovements in flight")
@@ -71,13 +72,17 @@ def columns_of(now: State, keyspaces: List[str]) -> Dict[str, List[str]]:
     return {same[0]: same for same in found.values() if same}
 
 
-def rows_of(now: State, names: Names, dc: str, columns: Dict[str, List[str]]) -> List[List[str]]:
+def shares_of(now: State, keyspaces: Iterable[str]) -> Dict[str, Dict[int, int]]:
+    """Returns the shares of the nodes that are read, by keyspace."""
+    return {it.keyspace: read_shares(it) for it in now.places(keyspaces)}
+
+
+def rows_of(now: State, names: Names, dc: str, shares: Dict[str, Dict[int, int]]) -> List[List[str]]:
     """Returns the table of a datacenter, by rack and node."""
-    shares = {it: read_shares(now.placements[it]) for it in columns}
-    rows = [["rack", "node", "state", "tokens", *(names.there("keyspace", it) for it in columns)]]
+    rows = [["rack", "node", "state", "tokens", *(names.there("keyspace", it) for it in shares)]]
     for node in sorted((it for it in now.nodes.nodes if it.dc == dc), key=lambda it: (it.rack, it.id)):
         parts = [
-            percent(shares[it].get(node.id, 0)) if node.tokens or shares[it].get(node.id) else "-" for it in columns
+            percent(share.get(node.id, 0)) if node.tokens or share.get(node.id) else "-" for share in shares.values()
         ]
         rows.append(
             [names.there("rack", node.rack), names.there("node", node.name), node.state, str(len(node.tokens)), *parts]
@@ -131,7 +136,9 @@ def tokens_said(movement: Movement) -> str:
 
 def as_json(now: State, names: Names, keyspaces: List[str]) -> dict:
     """Returns the state as JSON has it."""
-    shares = {it: read_shares(now.placements[it]) for it in keyspaces}
+    first = {k: same[0] for same in columns_of(now, keyspaces).values() for k in same}
+    by_first = shares_of(now, sorted(set(first.values())))
+    shares = {it: by_first[first[it]] for it in keyspaces}
     return {
         "epoch": now.epoch,
         "nodes": [node_json(it, shares, names) for it in now.nodes.nodes],

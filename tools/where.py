@@ -71,7 +71,7 @@ def place_of(log: str, now: State, keyspace: str, token: int) -> Place:
         queries = [f"{words.format(epoch=now.epoch)} {token}" for _, words in levels]
         answers = session.ask_all(queries)
     quorums = {level: read_quorum(it[0]) for ((_, level), _), it in zip(levels, answers)}
-    return Place(token, row_at(now.placements[keyspace], token), quorums)
+    return Place(token, row_at(now.place(keyspace), token), quorums)
 
 
 def show(place: Place, key: bytes, now: State, names: Names) -> None:
