@@ -15,6 +15,8 @@ ROW = re.compile(r"\((min|-?\d+),(max|-?\d+)\] read ([\d,]+|-) write ([\d,]+|-)"
 NODE = re.compile(r"(\d+) (\S+) (\S+) (\S+) ([A-Z_]+) (\S+)")
 SEQUENCE = re.compile(r"SEQ (\d+) (join|move|leave|replace) ([A-Z]+) out (\S+) in (\S+)")
 QUORUM = re.compile(r"(?:QUORUM|LOCAL) (\d+) read (\d+) of ([\d,]+|-) write (\d+) of ([\d,]+|-)")
+HEAD_PLAN = re.compile(r"PLAN (\d+) (\d+) ([A-Za-z0-9_.-]+) (\d+)")
+STREAM = re.compile(r"\((min|-?\d+),(max|-?\d+)\] to (\d+) (?:from (\d+)|any ([\d,]+|-))")
 LIST = re.compile(r"-|-?\d+(?:,-?\d+)*")
 OTHER = re.compile(r"(?:OK|AT|OLD|HELD|FULL) \d+|(?:NO|QUORUM|LOCAL|REPLAY|TOO-LARGE|REFUSED) .*")
 
@@ -92,6 +94,22 @@ class Quorum:
     writes: Tuple[int, ...]
 
 
+@dataclass(frozen=True)
+class Stream:
+    """A row of `plan`: the node that is added, and the strict source, or the nodes any of which is a source."""
+
+    left: Optional[int]
+    right: Optional[int]
+    to: int
+    strict: Optional[int]
+    any: Tuple[int, ...]
+
+    @property
+    def width(self) -> int:
+        """How many tokens the row has."""
+        return width(self.left, self.right)
+
+
 def lines_after(head: str) -> int:
     """Returns how many lines follow the first line of an answer."""
     place, nodes = HEAD_PLACE.fullmatch(head), HEAD_NODES.fullmatch(head)
@@ -150,6 +168,25 @@ def check_rows(rows: Sequence[Row], at: int) -> None:
         left, is_open = row.right, row.right is not None and row.right < GREATEST
     if is_open:
         raise Refused(f"line {at + len(rows)}: the rows of the answer end before the ring does")
+
+
+def read_plan(answer: Sequence[str]) -> List[Stream]:
+    """Returns the rows of `plan`."""
+    head = HEAD_PLAN.fullmatch(answer[0])
+    if not head or int(head[4]) != len(answer) - 1:
+        raise Refused(f"this is to be a stream plan: {answer[0][:60]}")
+    return [read_stream(it, i) for i, it in enumerate(answer[1:], 1)]
+
+
+def read_stream(line: str, at: int) -> Stream:
+    """Returns the row of a stream plan in a line."""
+    found = STREAM.fullmatch(line)
+    if not found:
+        raise Refused(f"line {at + 1} is to be a row, as (LEFT,RIGHT] to NODE from NODE, or any LIST")
+    left = None if found[1] == "min" else int(found[1])
+    right = None if found[2] == "max" else int(found[2])
+    strict = int(found[4]) if found[4] else None
+    return Stream(left, right, int(found[3]), strict, read_numbers(found[5], at) if found[5] else ())
 
 
 def read_numbers(text: str, at: int = 0) -> Tuple[int, ...]:

@@ -93,17 +93,14 @@ def last_epoch(log: str) -> int:
     return int(found[1])
 
 
-def state(log: str, epoch: Optional[int] = None) -> State:
-    """Returns the state of a log at an epoch, the last one if none is given. The file isn't changed."""
-    check_kind(log)
-    if not os.path.exists(log):
-        raise Refused(f"{log}: no such log file")
+def state(log: str, epoch: Optional[int] = None, name: str = "") -> State:
+    """Returns the state of a log at an epoch, the last one if none is given; `name` is what messages call the file."""
     with copy_of(log) as copy, Session(words_on(copy)) as session:
         answer = session.ask(f"nodes @{NO_EPOCH_IS_AS_GREAT if epoch is None else epoch}")
         if epoch is None and answer[0].startswith("NO EPOCH "):
             answer = session.ask(f"nodes @{answer[0].split()[-1]}")
         if not answer[0].startswith("NODES "):
-            raise refused(log, answer[0], session.close())
+            raise refused(name or log, answer[0], session.close())
     return State(log, read_nodes(answer))
 
 
@@ -134,6 +131,8 @@ def check_kind(log: str) -> None:
 def copy_of(log: str) -> Iterator[str]:
     """Gives the path of a copy of a log's whole lines, which is removed afterwards."""
     check_kind(log)
+    if not os.path.exists(log):
+        raise Refused(f"{log}: no such log file")
     with tempfile.TemporaryDirectory(prefix="cluster-") as folder:
         path = os.path.join(folder, "copy.log")
         try:

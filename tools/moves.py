@@ -2,17 +2,16 @@
 from __future__ import annotations
 
 import argparse
-from dataclasses import dataclass
-from typing import Dict, List, Sequence, Set, Tuple
+from typing import Dict, List, Sequence
 
 from tools.answers import Movement
 from tools.errors import Refused
-from tools.flight import Change, changes
-from tools.log import State, state
+from tools.log import State, copy_of, state
 from tools.names import Names, names_of
-from tools.placements import Stretch, merged
+from tools.placements import Stretch
 from tools.show import print_json, print_lines, table
 from tools.status import partner
+from tools.streams import ANY, NOT_PROVED, Streams, Taking, streams_of
 from tools.terms import listed, percent, plural
 from tools.words import add_json, add_keyspaces, add_log, chosen_keyspaces
 
@@ -20,19 +19,6 @@ NAME, HELP = "moves", "show what the movements in flight stream, and what to run
 EXAMPLE = """example:
   bin/cluster moves cluster.log --down 10.0.1.12
   bin/cluster moves cluster.log --node 10.0.1.16 --keyspace accounts"""
-
-
-@dataclass(frozen=True)
-class Streams:
-    """What a movement changes under the keyspaces of one replication, neighbouring ranges merged."""
-
-    keyspaces: Tuple[str, ...]
-    stretches: List[Tuple[Stretch, Change]]
-
-    @property
-    def width(self) -> int:
-        """How many tokens are streamed."""
-        return sum(it.width * len(change.gaining) for it, change in self.stretches)
 
 
 def words(parser: argparse.ArgumentParser) -> None:
@@ -48,11 +34,12 @@ def words(parser: argparse.ArgumentParser) -> None:
 
 def run(options: argparse.Namespace) -> int:
     """Shows the movements in flight."""
-    names, now = names_of(options.log), state(options.log)
-    down = {node_id(it, now, names) for it in options.down}
-    keyspaces = chosen_keyspaces(options.keyspace, now, names)
-    wanted = [it for it in now.movements if not options.node or it.node == node_id(options.node, now, names)]
-    shown = [(it, streams_of(options.log, it, now, keyspaces, down)) for it in wanted]
+    with copy_of(options.log) as copy:
+        names, now = names_of(options.log), state(copy, name=options.log)
+        down = {node_id(it, now, names) for it in options.down}
+        keyspaces = chosen_keyspaces(options.keyspace, now, names)
+        wanted = [it for it in now.movements if not options.node or it.node == node_id(options.node, now, names)]
+        shown = [(it, streams_of(copy, it.node, now, keyspaces, down)) for it in wanted]
     if options.json:
         print_json([as_json(it, streams, now, names) for it, streams in shown])
     elif not shown:
@@ -71,30 +58,9 @@ def node_id(said: str, now: State, names: Names) -> int:
     return node.id
 
 
-def streams_of(log: str, movement: Movement, now: State, keyspaces: Sequence[str], down: Set[int]) -> List[Streams]:
-    """Returns what a movement changes, by the keyspaces of one replication."""
-    groups = [tuple(it for it in same if it in keyspaces) for same in now.distinct().values()]
-    groups = [it for it in groups if it]
-    others = [it for it in now.movements if it != movement]
-    found = changes(log, now.epoch, movement, others, [it[0] for it in groups])
-    told = {it: [(row, with_sources(change, now, down)) for row, change in rows] for it, rows in found.items()}
-    return [Streams(it, merged(told[it[0]])) for it in groups]
-
-
 def named(ids: Sequence[int], now: State, names: Names) -> str:
     """Returns nodes by their names of Cassandra."""
     return listed([names.there("node", now.by_id[it].name) for it in ids])
-
-
-def with_sources(change: Change, now: State, down: Set[int]) -> Change:
-    """Returns a change whose holders are those that send the data: up, and in the datacenter of the node that gains.
-
-    Those of other datacenters send only where none is up there. A node that loses the range stands first.
-    """
-    up = [it for it in (*change.losing, *change.holding) if it in change.holding and it not in down]
-    near = {now.by_id[it].dc for it in change.gaining}
-    local = [it for it in up if now.by_id[it].dc in near]
-    return Change(change.gaining, change.losing, tuple(dict.fromkeys(local or up)) if change.gaining else ())
 
 
 def show(it: Movement, streams: List[Streams], now: State, names: Names, is_first: bool) -> None:
@@ -111,30 +77,37 @@ def show(it: Movement, streams: List[Streams], now: State, names: Names, is_firs
             f"{plural(len(group.stretches), 'range')}, {percent(group.width)} of the ring streamed"
         )
         rows = [["range", "share", "to", "from", "loses it"]]
-        rows += [
-            [
-                stretch.name,
-                percent(stretch.width),
-                named(change.gaining, now, names),
-                source_said(change, now, names),
-                named(change.losing, now, names),
-            ]
-            for stretch, change in group.stretches
-        ]
+        rows += [range_row(stretch, taking, now, names) for stretch, taking in group.stretches]
         print_lines(table(rows, right=[1]), "    ")
+    down = {taking.losing for group in streams for _, taking in group.stretches if taking.kind == NOT_PROVED}
+    if down:
+        print(
+            f"\n  not proved: other nodes may lack writes that {named(sorted(filter(None, down)), now, names)} "
+            "acknowledged. Repair the ranges before quorums are trusted."
+        )
 
 
-def source_said(change: Change, now: State, names: Names) -> str:
+def range_row(stretch: Stretch, taking: Taking, now: State, names: Names) -> List[str]:
+    """Returns a range as a row of a table."""
+    losing = [] if taking.losing is None else [taking.losing]
+    ends = [stretch.name, percent(stretch.width), named([taking.to], now, names)]
+    return [*ends, source_said(taking, now, names), named(losing, now, names)]
+
+
+def source_said(taking: Taking, now: State, names: Names) -> str:
     """Returns the sources of a range, or that there are none."""
-    if change.gaining and not change.holding:
+    if not taking.sources:
         return "NO SOURCE IS UP"
-    return named(change.holding, now, names)
+    said = named(taking.sources, now, names)
+    if taking.kind == NOT_PROVED:
+        return f"{said} (not proved)"
+    return f"any of {said}" if taking.kind == ANY and len(taking.sources) > 1 else said
 
 
 def steps_left(it: Movement, streams: List[Streams], now: State, names: Names) -> List[str]:
     """Returns what is still to be done for a movement."""
     node = named([it.node], now, names)
-    losing = {n for group in streams for _, change in group.stretches for n in change.losing}
+    losing = {n for group in streams for n in group.losing}
     gone = {n for _, n in it.outgoing} if it.kind in ("leave", "replace") else set()
     clean = sorted(losing - gone)
     seen = f"check that all coordinators have seen epoch {now.epoch}, then commit"
@@ -173,17 +146,20 @@ def as_json(it: Movement, streams: List[Streams], now: State, names: Names) -> D
             {
                 "keyspaces": [names.there("keyspace", k) for k in group.keyspaces],
                 "share": round(group.width / 2**64, 6),
-                "ranges": [
-                    {
-                        "left": None if stretch.left is None else str(stretch.left),
-                        "right": None if stretch.right is None else str(stretch.right),
-                        "to": [name(n) for n in change.gaining],
-                        "from": [name(n) for n in change.holding],
-                        "losing": [name(n) for n in change.losing],
-                    }
-                    for stretch, change in group.stretches
-                ],
+                "ranges": [range_json(stretch, taking, now, names) for stretch, taking in group.stretches],
             }
             for group in streams
         ],
+    }
+
+
+def range_json(stretch: Stretch, taking: Taking, now: State, names: Names) -> Dict[str, object]:
+    """Returns a range as JSON has it."""
+    losing = [] if taking.losing is None else [taking.losing]
+    nodes = {"to": [taking.to], "from": taking.sources, "losing": losing}
+    return {
+        "left": None if stretch.left is None else str(stretch.left),
+        "right": None if stretch.right is None else str(stretch.right),
+        **{key: [names.there("node", now.by_id[n].name) for n in ids] for key, ids in nodes.items()},
+        "source": taking.kind,
     }

@@ -3,10 +3,12 @@ from __future__ import annotations
 
 from bisect import bisect_left
 from dataclasses import dataclass
-from typing import Dict, Iterable, List, Optional, Sequence, Tuple
+from typing import Dict, Iterable, List, Optional, Tuple, TypeVar, Union
 
-from tools.answers import Placement, Row
-from tools.terms import row_name, width
+from tools.answers import Placement, Row, Stream
+from tools.terms import row_name
+
+Told = TypeVar("Told")
 
 
 def read_shares(placement: Placement) -> Dict[int, int]:
@@ -35,7 +37,7 @@ def row_at(placement: Placement, token: int) -> Row:
 
 @dataclass(frozen=True)
 class Stretch:
-    """Neighbouring rows that are alike in some way; `is_round` where it goes on past the end of the ring."""
+    """Neighbouring rows that are alike in some way; past the end of the ring, its left is above its right."""
 
     left: Optional[int]
     right: Optional[int]
@@ -47,12 +49,12 @@ class Stretch:
         return row_name(self.left, self.right)
 
 
-def merged(rows: Iterable[Tuple[Row, object]]) -> List[Tuple[Stretch, object]]:
+def merged(rows: Iterable[Tuple[Union[Row, Stream], Told]]) -> List[Tuple[Stretch, Told]]:
     """Returns rows with what is told of them, neighbours merged where the same is told.
 
     The last row of the ring is a neighbour of the first: both become a stretch from a greater to a lesser token.
     """
-    found: List[Tuple[Stretch, object]] = []
+    found: List[Tuple[Stretch, Told]] = []
     for row, told in rows:
         if found and found[-1][1] == told and found[-1][0].right == row.left and row.left is not None:
             before = found[-1][0]
@@ -62,7 +64,7 @@ def merged(rows: Iterable[Tuple[Row, object]]) -> List[Tuple[Stretch, object]]:
     return close_ring(found)
 
 
-def close_ring(found: List[Tuple[Stretch, object]]) -> List[Tuple[Stretch, object]]:
+def close_ring(found: List[Tuple[Stretch, Told]]) -> List[Tuple[Stretch, Told]]:
     """Merges the stretch at the end of the ring into that at its beginning, if the same is told of both."""
     if len(found) < 2:
         return found
@@ -71,14 +73,3 @@ def close_ring(found: List[Tuple[Stretch, object]]) -> List[Tuple[Stretch, objec
         return found
     return [(Stretch(last.left, first.right, first.width + last.width), told), *found[1:-1]]
 
-
-def cut(placement: Placement, ends: Sequence[int]) -> List[Row]:
-    """Returns the rows of a placement, cut at some more tokens."""
-    rows: List[Row] = []
-    for row in placement.rows:
-        left = row.left
-        inside = [it for it in ends if (left is None or it > left) and (row.right is None or it < row.right)]
-        for end in [*inside, row.right]:
-            rows.append(Row(left, end, row.reads, row.writes))
-            left = end
-    return [it for it in rows if width(it.left, it.right) > 0]
