@@ -9,6 +9,9 @@ from tools.errors import Refused
 from tools.log import State, copy_of, state
 from tools.names import Names, names_of
 from tools.placements import Stretch
+from tools.runbook.page import page_of
+from tools.runbook.tasks import in_flight
+from tools.runbook.words import add_runbook, loads_of, version_of
 from tools.show import print_json, print_lines, table
 from tools.status import partner
 from tools.streams import ANY, NOT_PROVED, Streams, Taking, streams_of
@@ -29,11 +32,17 @@ def words(parser: argparse.ArgumentParser) -> None:
         "--down", metavar="NAME", action="append", default=[], help="a node that is down, so no source; may be repeated"
     )
     add_keyspaces(parser)
+    add_runbook(parser)
     add_json(parser)
 
 
 def run(options: argparse.Namespace) -> int:
     """Shows the movements in flight."""
+    if options.runbook:
+        tasks = in_flight(options.log, names_of(options.log), options.down, loads_of(options))
+        script = f"bin/cluster apply {options.log} STEPS.script   # the steps that the log lacks, as they stand below"
+        print_lines(page_of(f"What is in flight in {options.log}", [tasks], version_of(options), script))
+        return 0
     with copy_of(options.log) as copy:
         names, now = names_of(options.log), state(copy, name=options.log)
         down = {node_id(it, now, names) for it in options.down}

@@ -7,6 +7,9 @@ from typing import Dict, List, Sequence
 from tools.errors import Refused
 from tools.margins import Level, Margin
 from tools.names import Names, names_of
+from tools.runbook.page import page_of
+from tools.runbook.tasks import planned
+from tools.runbook.words import add_runbook, loads_of, version_of
 from tools.show import print_json, print_lines, table
 from tools.terms import listed, percent, plural
 from tools.text import name_of, read_lines, write_text
@@ -34,6 +37,7 @@ def words(parser: argparse.ArgumentParser) -> None:
         "--seed", metavar="N", type=int, default=1, help="the seed of tokens that are drawn; 1 is the default"
     )
     parser.add_argument("--script", metavar="FILE", help="write the plan as a script for apply")
+    add_runbook(parser)
     add_json(parser)
 
 
@@ -44,7 +48,10 @@ def run(options: argparse.Namespace) -> int:
     made = plan(options.log, dead_first(wishes, down), down, names, options.seed)
     if options.script:
         write_text(options.script, script_of(made, names))
-    if options.json:
+    if options.runbook:
+        waves = planned(options.log, made, names, down, loads_of(options))
+        print_lines(page_of(f"A plan for {options.log}", waves, version_of(options), script_said(options)))
+    elif options.json:
         print_json(as_json(made, names, down))
     else:
         show(made, names, down)
@@ -53,6 +60,11 @@ def run(options: argparse.Namespace) -> int:
             "\n".join(f"{name} has no place in any wave: tcm answers {why}" for name, why in made.impossible.items())
         )
     return 0
+
+
+def script_said(options: argparse.Namespace) -> str:
+    """Returns how the steps of the plan are recorded."""
+    return f"bin/cluster apply {options.log} {options.script or 'PLAN.script'}"
 
 
 # ---- The plan in words
