@@ -27,6 +27,7 @@ class Tree(unittest.TestCase):
         self.addCleanup(shutil.rmtree, self.top)
         for folder in ("bin", "crates/tcm_program/src", "rt"):
             os.makedirs(os.path.join(self.top, folder))
+        shutil.copytree(os.path.join(TOP, "bin", "lib"), os.path.join(self.top, "bin", "lib"))
         for name in ("tcm", "release"):
             shutil.copy(os.path.join(TOP, "bin", name), os.path.join(self.top, "bin", name))
         self.write("crates.txt", "tcm_program:\n")
