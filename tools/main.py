@@ -8,8 +8,8 @@ import sys
 from typing import List
 
 from tools.errors import Refused, WrongWords
+from tools.program import TOP
 
-VERSION = "1.0"
 VERBS = ("importer", "status", "where", "compare", "whatif", "moves", "apply", "lint", "transcript", "draw")
 ABOUT = (
     "Plans the metadata of a Cassandra cluster with bin/tcm, a model of it. "
@@ -21,13 +21,19 @@ EPILOG = """environment:
 statuses: 0 done, 1 refused or a difference found, 2 wrong words. docs/tutorial.md shows the verbs at work."""
 
 
+def version() -> str:
+    """Returns the version that the file VERSION has."""
+    with open(os.path.join(TOP, "VERSION"), encoding="ascii") as it:
+        return it.read().strip()
+
+
 def parser_of(modules: list) -> argparse.ArgumentParser:
     """Returns what reads the words of all verbs."""
     shape = argparse.RawDescriptionHelpFormatter
     parser = argparse.ArgumentParser(
         prog="cluster", description=ABOUT, epilog=EPILOG, formatter_class=shape, allow_abbrev=False
     )
-    parser.add_argument("--version", action="version", version=f"cluster {VERSION}")
+    parser.add_argument("--version", action="version", version=f"cluster {version()}")
     verbs = parser.add_subparsers(dest="verb", metavar="VERB", required=True)
     for module in modules:
         about = module.HELP[0].upper() + module.HELP[1:] + "."

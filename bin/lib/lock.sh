@@ -101,7 +101,7 @@ lock_for() {
         real=$(resolved "$path")
         case $? in
         0) real=${real%x} ;;
-        1) return ;; # (no folder: the program says what is wrong)
+        1) return 0 ;; # (no folder: the program says what is wrong)
         *) die "$path: readlink didn't end by itself, so nothing was run" ;;
         esac
         [ ! -e "$real" ] || { [ -f "$real" ] && [ -r "$real" ]; } || return 0 # (so here)

@@ -10,7 +10,7 @@ is_log() {
 
 # Whether a text is a header, or the beginning of one.
 begins_a_header() {
-    case '{"cluster":"' in "$1"*) return ;; esac
+    case '{"cluster":"' in "$1"*) return 0 ;; esac
     rest=${1#'{"cluster":"'}
     [ "$rest" != "$1" ] || return
     tail=${rest#"${rest%%'"'*}"}

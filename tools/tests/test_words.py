@@ -40,7 +40,7 @@ class Words(unittest.TestCase):
             self.assertEqual((status, said), (0, ""))
             self.assertIn("bin/cluster " + verb, out)
             self.assertIn(verb, cluster("--help")[1])
-        self.assertRegex(cluster("--version")[1], r"^cluster \d+\.\d+\n$")
+        self.assertRegex(cluster("--version")[1], r"^cluster \d+\.\d+\.\d+\n$")
 
     def test_files_that_are_missing_or_empty_are_refused(self):
         with tempfile.TemporaryDirectory() as folder:
