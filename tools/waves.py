@@ -5,6 +5,7 @@ from dataclasses import dataclass, field
 from typing import Dict, List, Sequence, Tuple
 
 from tools.answers import Placement, is_refusal
+from tools.balance import groups_of, spread
 from tools.coupling import Attempt, Coupling, couplings
 from tools.errors import Refused
 from tools.flight import Trial
@@ -13,8 +14,11 @@ from tools.margins import Level, Margin, Quorums, least
 from tools.names import Names
 from tools.placements import pending_shares
 from tools.program import Session
-from tools.wishes import Wish, chosen, command_of, draw_tokens
+from tools.terms import STEPS
+from tools.tokens import Chooser
+from tools.wishes import Wish, chosen, command_of
 
+Spread = Tuple[float, float]  # the least and the greatest share of nodes, as parts of their fair shares
 ORDER = {"PREPARED": 0, "STARTED": 1, "MID": 2}
 
 
@@ -41,6 +45,7 @@ class Plan:
     node_names: Dict[int, str]
     same: Dict[str, List[str]]  # one keyspace of each replication, with all that have it
     after: Dict[Level, Margin]
+    spreads: Dict[Tuple[str, str], Tuple[Spread, Spread]]  # by keyspace and datacenter: before and after the plan
 
 
 class Planner:
@@ -53,8 +58,6 @@ class Planner:
         self.ids = {it.name: it.id for it in now.nodes.nodes}
         self.places = {it.name: (it.dc, it.rack) for it in now.nodes.nodes}
         self.next_id, self.replications, self.same = now.next_id, now.replications, now.distinct()
-        self.taken = {token for node in now.nodes.nodes for token in node.tokens}
-        self.taken |= {token for it in now.movements for token, _ in it.incoming}
         self.quorums = Quorums(self.trial, self.replications, {self.id_of(it) for it in down})
 
     def here(self, name: str) -> str:
@@ -94,13 +97,14 @@ class Planner:
             return self.places[self.here(wish.gone)]
         return self.names.choose("datacenter", wish.dc), self.names.choose("rack", wish.rack)
 
-    def draw(self, wish: Wish, seed: int) -> Wish:
-        """Returns a wish with the tokens that are drawn for it."""
-        if not wish.draws:
-            return wish
-        tokens = draw_tokens(wish.name, wish.draws, seed, self.taken)
-        self.taken |= set(tokens)
-        return chosen(wish, tokens)
+    def spreads(self) -> Dict[Tuple[str, str], Spread]:
+        """Returns how evenly each keyspace is spread in each datacenter now, by one keyspace of each replication."""
+        nodes = state(self.copy).nodes.nodes
+        found = {}
+        for keyspace, placement in self.places_now().items():
+            for dc, group in groups_of(self.replications[keyspace], nodes).items():
+                found[keyspace, dc] = spread(placement, group)
+        return found
 
     def finish_half_way(self) -> List[Tuple[str, int]]:
         """Finishes the movements that are half way, and returns their kinds and nodes."""
@@ -156,11 +160,12 @@ class Planner:
 
 def plan(log: str, wishes: List[Wish], down: List[str], names: Names, seed: int) -> Plan:
     """Tries wishes on a copy of a log, in waves, and returns what was seen."""
+    rest = with_tokens(log, wishes, names, seed)
     with copy_of(log) as copy, Session(words_on(copy)) as session:
         planner = Planner(session, copy, names, down)
+        before = planner.spreads()
         finished = planner.finish_half_way()
         registered = planner.register(wishes)
-        rest = [planner.draw(it, seed) for it in wishes]
         waves: List[Wave] = []
         while rest:
             wave = planner.wave(rest)
@@ -169,6 +174,26 @@ def plan(log: str, wishes: List[Wish], down: List[str], names: Names, seed: int)
             waves.append(wave)
             rest = [it for it in rest if it not in wave.wishes]
         after = planner.quorums.margins(planner.places_now())
+        spreads = {it: (before[it], now) for it, now in planner.spreads().items() if it in before}
         impossible = {it.name: wave.waiting[it.name] for it in rest}
     nodes = {node: name for name, node in planner.ids.items()}
-    return Plan(waves, finished, impossible, registered, nodes, planner.same, after)
+    return Plan(waves, finished, impossible, registered, nodes, planner.same, after, spreads)
+
+
+def with_tokens(log: str, wishes: List[Wish], names: Names, seed: int) -> List[Wish]:
+    """Returns wishes with tokens for those that leave them open; each movement is gone through on a copy of its own."""
+    if not any(it.draws for it in wishes):
+        return wishes
+    found = []
+    with copy_of(log) as copy, Session(words_on(copy)) as session:
+        planner = Planner(session, copy, names, [])
+        chooser = Chooser(copy, planner.trial, seed)
+        chooser.settle_all()
+        planner.register(wishes)
+        for wish in wishes:
+            node = planner.id_of(wish.name)
+            tokens = chooser.choose(wish, node, planner.place_of(wish)) if wish.draws else []
+            found.append(chosen(wish, tokens) if tokens else wish)
+            prepare = command_of(found[-1], node, planner.id_of(wish.gone) if wish.gone else None)
+            chooser.settle([prepare, *(f"{step}-{wish.kind} {node}" for step in STEPS[1:])])
+    return found

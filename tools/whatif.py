@@ -21,8 +21,8 @@ NAME, HELP = "whatif", "plan movements on a copy of a log, in waves that can be 
 EXAMPLE = f"""a file of wishes has one a line (# begins a remark):
 {FORMS}
 
-Tokens that aren't given part the ring evenly: the first is made of the first 8 bytes of the SHA-256 of `SEED NAME`,
-each further one stands 2^64 / n after the one before it, and a token that is taken gives way to the next.
+Tokens that aren't given are chosen so that the node gets its fair share of the keyspace with most replicas in its
+datacenter, and relieves the nodes that have most. What the program places then is shown.
 
 example:
   bin/cluster whatif cluster.log wishes.txt --script plan.script
@@ -85,6 +85,7 @@ def show(made: Plan, names: Names, down: List[str]) -> None:
     if made.waves:
         print("After the last wave")
         show_margins(made.after, made, names, down)
+        show_spreads(made, names)
 
 
 def show_movements(wave: Wave, made: Plan, names: Names) -> None:
@@ -142,6 +143,16 @@ def show_margins(margins: Dict[Level, Margin], made: Plan, names: Names, down: L
     print_lines([*table(rows, right=(2, 3)), *notes], "    ")
 
 
+def show_spreads(made: Plan, names: Names) -> None:
+    """Prints how evenly keyspaces are spread before and after the plan."""
+    print("  Shares of nodes, as parts of their fair shares")
+    rows = [["keyspace", "datacenter", "before", "after"]]
+    for (keyspace, dc), spreads in made.spreads.items():
+        there = names.there("datacenter", dc) if dc else "all"
+        rows.append([keyspaces_said(made.same[keyspace], names), there, *(f"{a:.2f} to {b:.2f}" for a, b in spreads)])
+    print_lines(table(rows), "    ")
+
+
 def level_said(level: str, names: Names) -> str:
     """Returns a consistency level with the name of its datacenter."""
     said, _, dc = level.partition(" ")
@@ -182,6 +193,7 @@ def as_json(made: Plan, names: Names, down: List[str]) -> dict:
         "register": [dict(zip(("name", "datacenter", "rack"), it)) for it in made.registered],
         "waves": [wave_json(it, made, names) for it in made.waves],
         "after": margins_json(made.after, made, names),
+        "spreads": spreads_json(made, names),
         "impossible": made.impossible,
     }
 
@@ -225,6 +237,19 @@ def wish_json(wish: Wish) -> dict:
     return {
         "node": wish.name, "kind": wish.kind, "replaces": wish.gone or None, "tokens": [str(it) for it in wish.tokens]
     }
+
+
+def spreads_json(made: Plan, names: Names) -> List[dict]:
+    """Returns how evenly keyspaces are spread, as JSON has it."""
+    return [
+        {
+            "keyspaces": [names.there("keyspace", it) for it in made.same[keyspace]],
+            "datacenter": names.there("datacenter", dc) if dc else None,
+            "before": [round(it, 4) for it in before],
+            "after": [round(it, 4) for it in after],
+        }
+        for (keyspace, dc), (before, after) in made.spreads.items()
+    ]
 
 
 def margins_json(margins: Dict[Level, Margin], made: Plan, names: Names) -> List[dict]:

@@ -105,7 +105,7 @@ class Runbooks(InTutorial):
         replace, join = page.split("### join")
         self.assertIn("(not the strict source: not proved)", replace.split("### replace")[1])
         self.assertNotIn("not proved", join)
-        self.assertRegex(join, r"\| 10\.0\.0\.6 \| 10\.0\.0\.2 \| shop \| 67\.80% \| [\d.]+ KiB \|")
+        self.assertRegex(join, r"\| 10\.0\.0\.6 \| 10\.0\.0\.2 \| shop \| 50\.00% \| [\d.]+ KiB \|")
 
     def test_a_movement_in_flight_has_the_steps_that_are_left(self) -> None:
         self.write("join.script", "register n dc1 rack2\nprepare-join n 5\nstart-join n\n")
