@@ -27,6 +27,11 @@ def version() -> str:
         return it.read().strip()
 
 
+def every_verb() -> list:
+    """Returns the modules of all verbs."""
+    return [importlib.import_module(f"tools.{it}") for it in VERBS]
+
+
 def parser_of(modules: list) -> argparse.ArgumentParser:
     """Returns what reads the words of all verbs."""
     shape = argparse.RawDescriptionHelpFormatter
@@ -52,7 +57,7 @@ def parser_of(modules: list) -> argparse.ArgumentParser:
 
 def main(words: List[str]) -> int:
     """Runs a verb, and returns the status."""
-    parser = parser_of([importlib.import_module(f"tools.{it}") for it in VERBS])
+    parser = parser_of(every_verb())
     try:
         try:
             return run(parser.parse_args(words))

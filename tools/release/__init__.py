@@ -1,0 +1,1 @@
+"""Makes what is installed: man pages, completions, and the packages."""
