@@ -15,7 +15,10 @@ ABOUT = (
     "Plans the metadata of a Cassandra cluster with bin/tcm, a model of it. "
     "No Cassandra process is asked or changed."
 )
-EPILOG = """environment:
+EPILOG = """example:
+  bin/cluster status cluster.log
+
+environment:
   TCM     the program to run in the place of bin/tcm
 
 statuses: 0 done, 1 refused or a difference found, 2 wrong words. docs/tutorial.md shows the verbs at work."""

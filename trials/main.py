@@ -31,7 +31,7 @@ def parser_of(kinds: Dict[str, Kind]) -> argparse.ArgumentParser:
     parser = argparse.ArgumentParser(
         "trials",
         description="Tries the program, by cases that are drawn from a seed.",
-        epilog=f"kinds:\n{listed}\n\nStatus 1 tells that something differed; docs/trials.md has more.",
+        epilog=f"kinds:\n{listed}\n\nStatus 1 tells that something differed; docs/trials.md has more.\n\nexample:\n  bin/trials kills --minutes 2",
         formatter_class=argparse.RawDescriptionHelpFormatter,
     )
     parser.add_argument("kinds", metavar="KIND", nargs="*", help="what to try: all kinds, if none is named")

@@ -106,6 +106,13 @@ class Told(Installed):
             status, out, _ = self.run_tcm(*words)
             self.assertEqual((status, out[:10]), (2, b"usage: tcm"), words)
 
+    def test_each_script_has_help_with_an_example(self):
+        for name in sorted(it for it in os.listdir(os.path.join(TOP, "bin")) if it not in ("lib", "__pycache__")):
+            run = subprocess.run([os.path.join(TOP, "bin", name), "--help"], stdout=subprocess.PIPE, stdin=subprocess.DEVNULL)
+            with self.subTest(name):
+                self.assertEqual(run.returncode, 0)
+                self.assertRegex(run.stdout.decode(), r"\bexamples?:|tcm commit < join.script")
+
     def test_one_version(self):
         with open(os.path.join(TOP, "VERSION"), encoding="ascii") as it:
             version = it.read().strip()
