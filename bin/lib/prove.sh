@@ -57,7 +57,8 @@ build() {
 # Says in `program` which program runs: dist/tcm if it is of these sources, else the one that was built here.
 find_program() {
     program=$top/dist/tcm
-    [ -n "$prove" ] || ! "$top/bin/release" --fits || return 0
+    [ -n "$prove" ] || "$top/bin/release" --fits
+    case $?$prove in 0) return ;; 1 | 0yes) ;; *) die "bin/release --fits didn't tell whether dist/tcm is of these sources" ;; esac
     program=$top/crates/tcm_program/out/tcm_program
     [ -z "$prove" ] && "$top/bin/release" --is-built || build
 }
