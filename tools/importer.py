@@ -15,6 +15,7 @@ from tools.errors import Refused, WrongWords
 from tools.log import is_absent_or_empty
 from tools.names import Names
 from tools.nodetool import RingNode, read_ring
+from tools.on_disk import write_log
 from tools.program import Session
 from tools.schema import Keyspace, read_schema
 from tools.terms import (
@@ -27,7 +28,7 @@ from tools.terms import (
     listed,
     plural,
 )
-from tools.text import fault, name_of, read_lines, read_text, write_text
+from tools.text import fault, name_of, read_bytes, read_lines, read_text, write_text
 from tools.words import add_cluster
 
 NAME, HELP = "import", "make a script or a log of what nodetool ring and cqlsh print"
@@ -258,7 +259,8 @@ def make_log(log: str, cluster: str, imported: Imported) -> None:
         with tempfile.TemporaryDirectory(prefix=".import-", dir=folder) as inside:
             path = os.path.join(inside, "new.log")
             commit_all([path, cluster], imported.script.splitlines())
-            shutil.move(path, log)
+            if not write_log(log, read_bytes(path)):
+                shutil.move(path, log)
     except OSError as why:
         raise Refused(f"{log}: {why.strerror}") from why
 

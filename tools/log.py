@@ -13,6 +13,7 @@ from typing import Any, Dict, Iterable, Iterator, List, Optional, Set
 
 from tools.answers import Movement, Node, Nodes, Placement, read_nodes, read_placement
 from tools.errors import Refused
+from tools.on_disk import check_no_disk, is_there, open_log
 from tools.program import Run, Session, run
 
 NO_EPOCH_IS_AS_GREAT = str(2**64 - 1)
@@ -49,7 +50,8 @@ class State:
     @cached_property
     def image(self) -> Dict[str, Any]:
         """The state as the program prints it."""
-        ended = run(["snapshot", self.log, str(self.epoch)])
+        with copy_of(self.log) as copy:
+            ended = run(["snapshot", copy, str(self.epoch)])
         if ended.status != 0:
             raise refusal(self.log, ended)
         image: Dict[str, Any] = json.loads(ended.out.splitlines()[-1])["snapshot"]
@@ -85,8 +87,8 @@ class State:
 
 def last_epoch(log: str) -> int:
     """Returns the last epoch of a log, whose lines are all checked."""
-    check_kind(log)
-    ended = run(["snapshot", log, NO_EPOCH_IS_AS_GREAT])
+    with copy_of(log) as copy:
+        ended = run(["snapshot", copy, NO_EPOCH_IS_AS_GREAT])
     found = re.fullmatch(rb"NO EPOCH (\d+)\s*", ended.out)
     if not found:
         raise refusal(log, ended)
@@ -125,18 +127,24 @@ def check_kind(log: str) -> None:
     """Checks that a path that is there is a file: a device may have no end."""
     if os.path.exists(log) and not os.path.isfile(log):
         raise Refused(f"{log}: this is no file, so it can't be a log file")
+    if os.path.exists(log):
+        try:
+            check_no_disk(log)
+        except OSError as why:
+            raise Refused(f"{log}: {why.strerror}") from why
 
 
 @contextmanager
 def copy_of(log: str) -> Iterator[str]:
     """Gives the path of a copy of a log's whole lines, which is removed afterwards."""
     check_kind(log)
-    if not os.path.exists(log):
+    if not is_there(log):
         raise Refused(f"{log}: no such log file")
     with tempfile.TemporaryDirectory(prefix="cluster-") as folder:
         path = os.path.join(folder, "copy.log")
         try:
-            shutil.copyfile(log, path)
+            with open_log(log) as held, open(path, "wb") as it:
+                shutil.copyfileobj(held, it)
         except OSError as why:
             raise Refused(f"{log}: {why.strerror}") from why
         yield path
@@ -144,10 +152,10 @@ def copy_of(log: str) -> Iterator[str]:
 
 def cluster_of(log: str) -> Optional[str]:
     """Returns the cluster that the header of a log file names, if there is one."""
-    if not os.path.exists(log):
+    if not is_there(log):
         return None
     try:
-        with open(log, "rb") as lines:
+        with open_log(log) as lines:
             header = object_in(lines.readline())
     except OSError as why:
         raise Refused(f"{log}: {why.strerror}") from why
@@ -162,10 +170,10 @@ def words_on(copy: str) -> List[str]:
 
 def used_ids(log: str) -> Set[int]:
     """Returns the ids of the commits in a log file; an absent file has none."""
-    if not os.path.exists(log):
+    if not is_there(log):
         return set()
     try:
-        with open(log, "rb") as lines:
+        with open_log(log) as lines:
             return {it for it in map(id_of, lines) if it is not None}
     except OSError as why:
         raise Refused(f"{log}: {why.strerror}") from why
@@ -196,4 +204,7 @@ def fresh_ids(log: str) -> Iterator[int]:
 def is_absent_or_empty(log: str) -> bool:
     """Returns whether a log file has nothing yet."""
     check_kind(log)
-    return not os.path.exists(log) or os.path.getsize(log) == 0
+    if not is_there(log):
+        return True
+    with open_log(log) as it:
+        return not it.read(1)

@@ -9,6 +9,7 @@ from typing import List, Sequence
 
 from tools.answers import lines_after
 from tools.errors import Refused
+from tools.on_disk import commit_words
 
 TOP = os.path.dirname(os.path.dirname(os.path.realpath(__file__)))
 
@@ -49,7 +50,7 @@ class Session:
         """Starts `tcm commit` with these words: none, or a log file and the name of its cluster."""
         try:
             self.process = subprocess.Popen(
-                [program(), "commit", *words], stdin=subprocess.PIPE, stdout=subprocess.PIPE
+                [program(), *commit_words(words)], stdin=subprocess.PIPE, stdout=subprocess.PIPE
             )
         except OSError as why:
             raise Refused(f"{program()} can't be run: {why.strerror}") from why

@@ -13,7 +13,7 @@ from tools.terms import NAME, listed
 
 def add_log(parser: argparse.ArgumentParser) -> None:
     """Declares the log file."""
-    parser.add_argument("log", metavar="LOG", help="the log file; LOG.names beside it has names that differ")
+    parser.add_argument("log", metavar="LOG", help="the log file, or DISK:LOG; LOG.names beside it has names that differ")
 
 
 def add_json(parser: argparse.ArgumentParser) -> None:
