@@ -1,10 +1,10 @@
-# One writer for each file. `lock_for PATH KIND` takes exclusive locks (flock) for a run that writes PATH, a `log`, a `disk`
-# or a `new` file, on descriptors that the program inherits: they last until it has ended, however it ends. Nothing is
-# written for a lock.
+# One writer for each file. `lock_for PATH KIND` takes exclusive locks (flock) for a run that writes PATH, a `log`, a
+# `disk` or a `new` file, on descriptors that the program inherits: they last until it has ended, however it ends. Nothing
+# is written for a lock.
 #
 # A program replaces a log that is absent, or that has no line feed at its end, by rename. A lock on such a file says
-# nothing of the next one, so there the folder is locked. The program then runs once without input: this makes the file, or
-# cuts it, as the run itself does first. From there on the file is locked alone, and others may begin in the folder.
+# nothing of the next one, so there the folder is locked. The program then runs once without input: this makes the file,
+# or cuts it, as the run itself does first. From there on the file is locked alone, and others may begin in the folder.
 #
 # TCM_LOCK_FDS names descriptors of a caller that has locks already, such as 5,6: they count if they are of these files.
 
@@ -57,10 +57,10 @@ holder() {
     [ -z "$pid" ] || echo ", process $pid ($(tr '\0' ' ' <"/proc/$pid/cmdline" | cut -c 1-100 | sed 's/ *$//'))"
 }
 
-# Waits a moment without locks after one wasn't had, or ends: STATUS, what the other process does, the file, tries at most.
+# Waits a moment without locks after one wasn't had, or ends: STATUS, what the other process does, the file, most tries.
 refused() {
     [ "$1" = "$busy" ] ||
-        die "$path: the file system of $3 has no locks. Make sure that no other process writes it, and say --no-lock first"
+        die "$path: the file system of $3 has no locks. Make sure that no other process writes it, and say --no-lock"
     let_go
     tries=$((tries + 1))
     [ "$tries" -le "$4" ] && sleep 0.1 && return

@@ -30,7 +30,7 @@ watch() {
 no_rt() {
     if [ -e "$top/dist/tcm" ]; then
         echo "tcm: dist/tcm is of other sources than these, and rt, which proves and builds these, isn't on the PATH" >&2
-        echo "tcm: go back to sources that fit (git status, git log -- dist), or install the toolchain that the README names" >&2
+        echo "tcm: go back to sources that fit (git status, git log -- dist), or install the toolchain of the README" >&2
     else
         echo "tcm: there is no dist/tcm, and rt, which proves and builds the program, isn't on the PATH" >&2
         echo "tcm: check out a commit that has dist/, or install the toolchain that the README names" >&2
@@ -58,7 +58,11 @@ build() {
 find_program() {
     program=$top/dist/tcm
     [ -n "$prove" ] || "$top/bin/release" --fits
-    case $?$prove in 0) return ;; 1 | 0yes) ;; *) die "bin/release --fits didn't tell whether dist/tcm is of these sources" ;; esac
+    case $?$prove in
+    0) return ;;
+    1 | 0yes) ;;
+    *) die "bin/release --fits didn't tell whether dist/tcm is of these sources" ;;
+    esac
     program=$top/crates/tcm_program/out/tcm_program
     [ -z "$prove" ] && "$top/bin/release" --is-built || build
 }

@@ -28,7 +28,9 @@ has_a_line() {
 # Ends if a file that is to be a disk is none, or one that is to be a log is a disk or would be overwritten.
 look_at() {
     [ -n "$look" ] && [ -s "$1" ] || return 0
-    case "$2 $(head -c 100 -- "$1" 2>/dev/null)$line_feed" in 'log {"cluster":"'*'","format":2}'"$line_feed"*) return 0 ;; esac
+    case "$2 $(head -c 100 -- "$1" 2>/dev/null)$line_feed" in
+    'log {"cluster":"'*'","format":2}'"$line_feed"*) return 0 ;;
+    esac
     case $2 in
     disk)
         is_disk "$1" && return

@@ -12,9 +12,10 @@ version() {
 
 # Says what is safe after a call of a disk failed.
 tell_of_disk() {
-    shell_words="$name disk get $2 LOG > LOG && $name disk put NEW-DISK LOG < LOG && $name on NEW-DISK commit LOG CLUSTER"
-    echo "tcm: a device whose sync failed may have forgotten what it had taken, though the disk still reads well. If the" \
-        "system's log tells of such a fault, go on with a new disk on another device: $shell_words" >&2
+    commands="$name disk get $2 LOG > LOG && $name disk put NEW-DISK LOG < LOG"
+    commands="$commands && $name on NEW-DISK commit LOG CLUSTER"
+    echo "tcm: a device whose sync failed may have forgotten what it had taken, though the disk still reads well. Unless" \
+        "you know that no sync failed, go on with a new disk on another device: $commands" >&2
 }
 
 # Says which files of `mend2 OLD NEW` are there.

@@ -14,7 +14,6 @@ from typing import Iterator, List, Tuple
 
 from tools.errors import Refused
 from tools.main import version
-from tools.program import TOP
 from tools.release.tree import bytes_of, install, put, said_by_git
 
 MAINTAINER = "Vongxeli maintainers <maintainers@users.noreply.vongxeli.example>"
@@ -148,9 +147,8 @@ def make_deb(into: str, seconds: int) -> str:
         put_debian(root, seconds)
         settle(root, seconds)
         words = ["dpkg-deb", "--root-owner-group", "-Zxz", "-z6", "--build", root, path]
-        built = subprocess.run(
-            words, stdout=subprocess.DEVNULL, env={**os.environ, "SOURCE_DATE_EPOCH": str(seconds)}
-        )
+        settings = {**os.environ, "SOURCE_DATE_EPOCH": str(seconds)}
+        built = subprocess.run(words, stdout=subprocess.DEVNULL, env=settings, check=False)
     if built.returncode != 0:
         raise Refused(f"{path}: dpkg-deb ended with status {built.returncode}")
     return path

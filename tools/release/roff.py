@@ -4,11 +4,14 @@ from __future__ import annotations
 import re
 from typing import List
 
+LITERAL = str.maketrans(
+    {"\\": "\\e", "-": "\\-", "'": "\\(aq", "`": "\\(ga", "^": "\\(ha", "~": "\\(ti"}
+)
+
 
 def escaped(text: str) -> str:
     """Returns a text as roff shows it literally."""
-    text = text.replace("\\", "\\e").replace("-", "\\-").replace("'", "\\(aq").replace("`", "\\(ga").replace("^", "\\(ha")
-    return re.sub(r"^\.", r"\\&.", text.replace("~", "\\(ti"))
+    return re.sub(r"^\.", r"\\&.", text.translate(LITERAL))
 
 
 def inline(text: str) -> str:

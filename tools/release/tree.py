@@ -1,4 +1,4 @@
-"""The tree that is installed under a prefix: the program, bin/tcm, the planner, the pages, man pages and completions."""
+"""The tree that is installed under a prefix: the program, bin/tcm, the planner, pages, man pages and completions."""
 from __future__ import annotations
 
 import glob
@@ -45,14 +45,15 @@ def link(prefix: str, path: str, to: str) -> None:
 
 def check_program() -> None:
     """Checks that dist/tcm is the program of these sources."""
-    if subprocess.run([os.path.join(TOP, "bin", "release"), "--fits"]).returncode != 0:
+    if subprocess.run([os.path.join(TOP, "bin", "release"), "--fits"], check=False).returncode != 0:
         raise Refused("dist/tcm isn't the program of these sources: bin/tcm --prove, and then bin/release")
 
 
 def said_by_git(*words: str) -> str:
     """Returns what git prints of this clone, nothing without git or a clone."""
     try:
-        ended = subprocess.run(["git", "-C", TOP, *words], stdout=subprocess.PIPE, stderr=subprocess.DEVNULL)
+        words = ("git", "-C", TOP, *words)
+        ended = subprocess.run(words, stdout=subprocess.PIPE, stderr=subprocess.DEVNULL, check=False)
     except OSError:
         return ""
     return ended.stdout.decode().strip() if ended.returncode == 0 else ""
@@ -77,10 +78,10 @@ def put_program(prefix: str) -> None:
 
 
 def put_planner(prefix: str, python: str) -> None:
-    """Puts the planner and bin/disk, which this Python runs."""
+    """Puts the planner and bin/disk, which this Python runs. Their texts name the commands that are installed."""
     shutil.rmtree(os.path.join(prefix, "lib", "vongxeli", "tools"), ignore_errors=True)
     for path in planner_files():
-        put(prefix, f"lib/vongxeli/{path}", bytes_of(path))
+        put(prefix, f"lib/vongxeli/{path}", manual.with_installed_names(bytes_of(path).decode()).encode())
     for name in ("cluster", "disk"):
         script = bytes_of("bin", name).replace(b"#!/usr/bin/env python3", f"#!{python}".encode(), 1)
         put(prefix, f"lib/vongxeli/bin/{name}", script, 0o755)
@@ -91,7 +92,8 @@ def planner_files() -> List[str]:
     """Returns the modules of the planner, and what they read, without tests and without what makes packages."""
     found = glob.glob(f"{TOP}/tools/**/*", recursive=True)
     paths = (os.path.relpath(it, TOP) for it in found if os.path.isfile(it))
-    return sorted(it for it in paths if not it.startswith(("tools/tests/", "tools/release/")) and "__pycache__" not in it)
+    left_out = ("tools/tests/", "tools/release/")
+    return sorted(it for it in paths if not it.startswith(left_out) and "__pycache__" not in it)
 
 
 def put_pages(prefix: str) -> None:

@@ -1,4 +1,4 @@
-"""Tests of bin/install and bin/package: what they leave runs without the clone, and the same clone makes the same bytes."""
+"""Tests of bin/install and bin/package: what they leave runs without the clone, and has the same bytes each time."""
 import glob
 import gzip
 import os
@@ -51,9 +51,11 @@ class Install(InFolder):
             status, out = run("sh", "-c", f"'{name}' commit < join.script", cwd=self.folder)
             self.assertEqual((status, out.startswith("OK 1\n")), (0, True), out)
             self.assertEqual(run(name, "cluster", "--version")[1], f"cluster {version()}\n")
+        self.assertNotIn("bin/", run(self.installed("tcm"), "cluster", "status", "--help")[1])
         status, out = run(self.installed("tcm"), "cluster", "answers", "join.script", cwd=self.folder)
         self.assertIn("> commit 12 start-join 5\nOK 12\n", out)
-        self.assertEqual(run(self.installed("tcm-disk"), "put", "d", "a", cwd=self.folder, stdin=subprocess.DEVNULL)[0], 0)
+        nothing = {"cwd": self.folder, "stdin": subprocess.DEVNULL}
+        self.assertEqual(run(self.installed("tcm-disk"), "put", "d", "a", **nothing)[0], 0)
         self.assertEqual(run(self.installed("tcm"), "disk", "list", "d", cwd=self.folder), (0, "a 0 1\n"))
 
     def test_it_tells_what_it_is(self):
@@ -71,7 +73,10 @@ class Install(InFolder):
         self.assertEqual(run("find", self.prefix)[1], before)
 
     def test_the_man_pages_name_all_verbs(self):
-        pages = {os.path.basename(it): gzip.open(it, "rt").read() for it in glob.glob(f"{self.prefix}/share/man/*/*.gz")}
+        pages = {}
+        for path in glob.glob(f"{self.prefix}/share/man/*/*.gz"):
+            with gzip.open(path, "rt") as it:
+                pages[os.path.basename(path)] = it.read()
         self.assertEqual(sorted(pages), ["tcm-cluster.1.gz", "tcm-disk.1.gz", "tcm-log.5.gz", "tcm.1.gz"])
         for module in every_verb():
             self.assertIn(f'.SH "{module.NAME.upper()}"', pages["tcm-cluster.1.gz"])
@@ -83,8 +88,9 @@ class Install(InFolder):
     def test_the_man_pages_can_be_shown(self):
         for page in glob.glob(f"{self.prefix}/share/man/*/*.gz"):
             words = ["man", "--warnings=w", "-l", page]
-            ended = subprocess.run(words, stdout=subprocess.PIPE, stderr=subprocess.PIPE, env={**BARE, "MANWIDTH": "120"})
-            self.assertEqual((ended.returncode, ended.stderr), (0, b""))
+            status, shown = run(*words, env={**BARE, "MANWIDTH": "120"}, stderr=subprocess.PIPE)
+            self.assertEqual(status, 0)
+            self.assertIn("Vongxeli", shown)
 
     @unittest.skipUnless(shutil.which("bash"), "no bash")
     def test_bash_completes(self):
@@ -107,7 +113,11 @@ class Install(InFolder):
     def test_zsh_completes(self):
         script = os.path.join(self.prefix, "share", "zsh", "site-functions", "_tcm")
         stub = "_describe() { print -r -- ${words_of}; }; _files() { print files; }"
-        for words, found in (("tcm ''", "mend2:writes a log"), ("tcm cluster ''", "status:"), ("tcm cluster status x", "files")):
+        for words, found in (
+            ("tcm ''", "mend2:writes a log"),
+            ("tcm cluster ''", "status:"),
+            ("tcm cluster status x", "files"),
+        ):
             count = len(words.split())
             said = run("zsh", "-fc", f"{stub}; words=({words}) CURRENT={count} PREFIX=; . '{script}'")
             self.assertEqual(said[0], 0, said)

@@ -108,7 +108,8 @@ class Told(Installed):
 
     def test_each_script_has_help_with_an_example(self):
         for name in sorted(it for it in os.listdir(os.path.join(TOP, "bin")) if it not in ("lib", "__pycache__")):
-            run = subprocess.run([os.path.join(TOP, "bin", name), "--help"], stdout=subprocess.PIPE, stdin=subprocess.DEVNULL)
+            words = [os.path.join(TOP, "bin", name), "--help"]
+            run = subprocess.run(words, stdout=subprocess.PIPE, stdin=subprocess.DEVNULL)
             with self.subTest(name):
                 self.assertEqual(run.returncode, 0)
                 self.assertRegex(run.stdout.decode(), r"\bexamples?:|tcm commit < join.script")

@@ -80,8 +80,9 @@ class OneWriter(Installed):
         self.assertEqual(self.run_tcm("commit", "a.log", "c1", script=COMMIT)[:2], (0, b"OK 1\n"))
 
     def test_words_that_fit_no_command_make_no_file(self):
-        for words in (["commit", "a.log"], ["commit", "a.log", "c 1"], ["mend2", "a.log", "b.log"], ["on"], ["commit", "", "c1"]):
-            self.assertEqual(self.run_tcm(*words)[0], 2, words)
+        for words in ("commit a.log", "commit a.log c:1", "mend2 a.log b.log", "on", "nothing a.log b.log"):
+            self.assertEqual(self.run_tcm(*words.split())[0], 2, words)
+        self.assertEqual(self.run_tcm("commit", "", "c1")[0], 2)
         self.assertEqual(self.run_tcm("commit", "absent/a.log", "c1")[0], 6)
         self.assertEqual(os.listdir(self.folder), [])
 
@@ -121,8 +122,8 @@ class Writers:
     def names(self):
         """The ways to a log: its name, its path, by a link to it, by a link to the folder, and from another folder."""
         folder = self.test.folder
-        ways = (("a.log", folder), (f"{folder}/a.log", "/"), ("link.log", folder), ("f/a.log", folder), ("../a.log", f"{folder}/in"))
-        return self.draw.choice(ways)
+        here = [(it, folder) for it in ("a.log", "link.log", "f/a.log")]
+        return self.draw.choice([*here, (f"{folder}/a.log", "/"), ("../a.log", f"{folder}/in")])
 
     def run(self):
         threads = [threading.Thread(target=self.write, args=(at,)) for at in range(8)]
@@ -138,7 +139,8 @@ class Writers:
             name, cwd = self.names()
             first, number = number * 1000 + 1, number + 8
             lines = [f"commit {first + i} register n{first + i} dc1 r1\n".encode() for i in range(40)]
-            run = self.test.start(*self.draw.choice(([], ["--wait", "1"])), "commit", name, "c1", cwd=cwd, start_new_session=True)
+            words = [*self.draw.choice(([], ["--wait", "1"])), "commit", name, "c1"]
+            run = self.test.start(*words, cwd=cwd, start_new_session=True)
             killer = threading.Timer(self.draw.uniform(0, 0.2), self.kill, (run,))
             killer.start()
             log = "link.log" if name == "link.log" else "a.log"
@@ -171,7 +173,8 @@ class Writers:
     def kill(self, run):
         """Kills a run, its program alone, or both."""
         try:
-            children = subprocess.run(["ps", "-o", "pid=", "--ppid", str(run.pid)], stdout=subprocess.PIPE).stdout.split()
+            words = ["ps", "-o", "pid=", "--ppid", str(run.pid)]
+            children = subprocess.run(words, stdout=subprocess.PIPE).stdout.split()
             self.draw.choice((
                 run.kill,
                 lambda: os.killpg(run.pid, signal.SIGKILL),
@@ -197,7 +200,8 @@ class Kills(Installed):
         return len(entries)
 
     def test_no_epoch_skips(self):
-        for seed, begin in enumerate((None, b"", b'{"cluster":"c1","format":2}\n{"comm', b'{"cluster":"c1","format":2}\n')):
+        header = b'{"cluster":"c1","format":2}\n'
+        for seed, begin in enumerate((None, b"", header + b'{"comm', header)):
             os.mkdir(self.path("in"))
             os.symlink(".", self.path("f"))
             os.symlink("a.log", self.path("link.log"))
