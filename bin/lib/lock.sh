@@ -12,8 +12,8 @@ ours=            # descriptors that were opened here
 theirs=          # descriptors of the caller
 [ -z "${TCM_LOCK_FDS:-}" ] || theirs=$(printf %s "$TCM_LOCK_FDS" | tr -c 0-9 ' ')
 busy=75          # the status of flock if another process has the lock
-tries=0          # how often it was looked whether the other process has ended, ten times a second
-longest=50       # tries for a process that only begins in this folder
+tries=0          # how often it was looked whether the other process has ended: ten times a second, five for a folder
+longest=25       # tries for a process that only begins in this folder
 
 # Prints the resolved path of a file and then x, since a name may end with a line feed. Fails if its folder is absent.
 resolved() {
@@ -70,10 +70,10 @@ refused() {
 # Takes the locks of the folder of the resolved path, and of the folder of a link, which the program may replace.
 hold_folders() {
     folder=${real%/*}/
-    hold "$folder" 1 || return
+    hold "$folder" 0.1 || return
     [ ! -L "$path" ] && return
     case $path in */*) folder=${path%/*}/ ;; *) folder=. ;; esac
-    hold "$folder" 1
+    hold "$folder" 0.1
 }
 
 # Whether the file stays in its place: it needs no rename.
@@ -96,7 +96,7 @@ settle() {
 
 lock_for() {
     path=$1 kind=$2 settled=
-    [ "$wait" -eq 0 ] || longest=$((wait * 10))
+    [ $((wait * 5)) -lt "$longest" ] || longest=$((wait * 5))
     while :; do
         real=$(resolved "$path")
         case $? in
@@ -106,9 +106,12 @@ lock_for() {
         esac
         [ ! -e "$real" ] || { [ -f "$real" ] && [ -r "$real" ]; } || return 0 # (so here)
         hold_folders || { refused $? "makes a file in its folder" "$folder" "$longest"; continue; }
-        fd=
-        [ ! -e "$real" ] || hold "$real" 0 || { refused $? "writes this file" "$real" $((wait * 10)); continue; }
-        [ ! -e "$real" ] || [ "/proc/self/fd/$fd" -ef "$path" ] || { let_go; continue; }
+        if [ -e "$real" ]; then
+            hold "$real" 0 || { refused $? "writes this file" "$real" $((wait * 10)); continue; }
+            [ "/proc/self/fd/$fd" -ef "$path" ] || { let_go; continue; }
+        else
+            [ "$(resolved "$path")" = "${real}x" ] || { let_go; continue; }
+        fi
         look_at "$path" "$kind"
         is_settled && { let_go "$fd"; return; }
         [ "$kind" != new ] && [ -z "$settled" ] && settle || return 0

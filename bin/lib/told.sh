@@ -48,5 +48,5 @@ explain() {
     '6 replay') files=${*#replay} && files=${files# } ;;
     esac
     echo "tcm: status $status: $why${files:+ ($files)}; see $page" >&2
-    [ "$status ${1:-}" != '6 on' ] || tell_of_disk "$@"
+    [ "$status ${1:-}" != '6 on' ] || [ ! -f "$2" ] || tell_of_disk "$@"
 }
