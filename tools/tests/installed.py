@@ -8,6 +8,15 @@ import unittest
 from tools.program import TOP, program
 
 
+def can_trace():
+    """Returns whether strace is here and may trace."""
+    words = ["strace", "-qq", "-o", "/dev/null", "true"]
+    return bool(shutil.which("strace")) and subprocess.run(words, stderr=subprocess.DEVNULL).returncode == 0
+
+
+needs_strace = unittest.skipUnless(can_trace(), "strace, which lets calls of the system fail, isn't here or may not trace")
+
+
 def install(prefix):
     """Puts bin/tcm, what it reads and the program into a folder, and returns the path of bin/tcm there."""
     lib = os.path.join(prefix, "lib", "vongxeli")

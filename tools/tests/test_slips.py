@@ -1,13 +1,12 @@
 """Tests of slips that bin/tcm refuses before the program writes, of what it says after a run, and of its help."""
 import os
 import re
-import shutil
 import subprocess
 import unittest
 
 from tools.program import TOP
 from tools.tests.cluster import needs_program
-from tools.tests.installed import Installed
+from tools.tests.installed import Installed, needs_strace
 
 COMMIT = b"commit 1 register a dc1 r1\n"
 HEADER = b'{"cluster":"c1","format":2}'
@@ -71,7 +70,7 @@ class Slips(Installed):
             self.assertEqual(status, 7 if said else 0)
             self.assertIn(said, err)
 
-    @unittest.skipUnless(shutil.which("strace"), "no strace, which makes a disk whose sync fails")
+    @needs_strace
     def test_after_a_failed_sync_it_says_what_is_safe(self):
         self.run_tcm("on", "a.disk", "commit", "x", "c1")
         fails = ["strace", "-f", "-qq", "-o", "/dev/null", "-e", "inject=fdatasync:error=EIO:when=3+"]

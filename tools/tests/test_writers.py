@@ -2,7 +2,6 @@
 import json
 import os
 import random
-import shutil
 import signal
 import subprocess
 import threading
@@ -10,7 +9,7 @@ import time
 import unittest
 
 from tools.tests.cluster import needs_program
-from tools.tests.installed import Installed
+from tools.tests.installed import Installed, needs_strace
 
 COMMIT = b"commit 1 register a dc1 r1\n"
 SECONDS = float(os.environ.get("WRITERS_SECONDS", "8"))  # of runs that are killed at random
@@ -100,7 +99,7 @@ class OneWriter(Installed):
             self.assert_refused("commit", "a.log", "c1", **given)
         self.assertEqual(self.end(first), 0)
 
-    @unittest.skipUnless(shutil.which("strace"), "no strace, which makes a file system without locks")
+    @needs_strace
     def test_a_file_system_without_locks(self):
         without = ["strace", "-f", "-qq", "-o", "/dev/null", "-e", "inject=flock:error=ENOLCK", self.tcm]
         run = subprocess.run([*without, "commit", "a.log", "c1"], cwd=self.folder, input=COMMIT, stderr=subprocess.PIPE)
@@ -173,15 +172,15 @@ class Writers:
     def kill(self, run):
         """Kills a run, its program alone, or both."""
         try:
-            words = ["ps", "-o", "pid=", "--ppid", str(run.pid)]
-            children = subprocess.run(words, stdout=subprocess.PIPE).stdout.split()
+            with open(f"/proc/{run.pid}/task/{run.pid}/children", encoding="ascii") as it:
+                children = it.read().split()
             self.draw.choice((
                 run.kill,
                 lambda: os.killpg(run.pid, signal.SIGKILL),
                 lambda: [os.kill(int(it), signal.SIGKILL) for it in children],
             ))()
-        except ProcessLookupError:
-            pass
+        except (ProcessLookupError, FileNotFoundError):
+            pass  # (it has ended)
 
 
 @needs_program
