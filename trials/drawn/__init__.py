@@ -1,0 +1,1 @@
+"""What the kinds random and mangled draw: lines, logs, states and words."""
