@@ -28,9 +28,11 @@ class Both:
         self.files: Dict[bytes, bytes] = {}
         self.differences: List[str] = []
         self.lines: List[bytes] = []  # of the last script
+        self.made = 0  # files
 
     def put(self, name: bytes, data: bytes) -> None:
         """Makes a file."""
+        self.made += 1
         self.files[name] = data
         self.case.write(os.fsdecode(name), data)
 
