@@ -24,9 +24,9 @@ resolved() {
 open_free() {
     for fd in 9 8 7 6 5 4 3; do
         case " $ours " in *" $fd "*) continue ;; esac
-        [ -e "/proc/self/fd/$fd" ] || { eval "command exec $fd<\"\$1\"" 2>/dev/null && return; return 1; }
+        [ -e "/proc/self/fd/$fd" ] || { eval "command exec $fd<\"\$1\"" 2>/dev/null; return; }
     done
-    return 1
+    die "$path: the descriptors 3 to 9 are all in use, so none is left for a lock"
 }
 
 # Takes the lock of PATH within SECONDS; `fd` is its descriptor.
@@ -60,7 +60,8 @@ holder() {
 # Waits a moment without locks after one wasn't had, or ends: STATUS, what the other process does, the file, most tries.
 refused() {
     [ "$1" = "$busy" ] ||
-        die "$path: the file system of $3 has no locks. Make sure that no other process writes it, and say --no-lock"
+        die "$path: $3 can't be read, or its file system has no locks." \
+            "Make sure that no other process writes the file, and say --no-lock first"
     let_go
     tries=$((tries + 1))
     [ "$tries" -le "$4" ] && sleep 0.1 && return

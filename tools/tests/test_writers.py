@@ -104,7 +104,7 @@ class OneWriter(Installed):
         without = ["strace", "-f", "-qq", "-o", "/dev/null", "-e", "inject=flock:error=ENOLCK", self.tcm]
         run = subprocess.run([*without, "commit", "a.log", "c1"], cwd=self.folder, input=COMMIT, stderr=subprocess.PIPE)
         self.assertEqual((run.returncode, os.listdir(self.folder)), (125, []))
-        self.assertIn(b"has no locks", run.stderr)
+        self.assertIn(b"its file system has no locks", run.stderr)
         words = [*without, "--no-lock", "commit", "a.log", "c1"]
         run = subprocess.run(words, cwd=self.folder, input=COMMIT, stdout=subprocess.PIPE)
         self.assertEqual((run.returncode, run.stdout), (0, b"OK 1\n"))
