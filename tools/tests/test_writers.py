@@ -145,6 +145,7 @@ class Writers:
             log = "link.log" if name == "link.log" else "a.log"
             out = b"".join(self.talk(run, lines))
             killer.cancel()
+            killer.join()  # (before the id of the process is free)
             run.wait()
             oks = out.count(b"OK ")
             self.answered.setdefault(log, set()).update(range(first, first + oks))
