@@ -10,7 +10,7 @@ from typing import List
 from tools.errors import Refused, WrongWords
 from tools.program import TOP
 
-VERBS = ("importer", "status", "where", "compare", "whatif", "moves", "apply", "lint", "transcript", "draw")
+VERBS = ("importer", "status", "where", "compare", "whatif", "moves", "apply", "lint", "transcript", "draw", "page")
 ABOUT = (
     "Plans the metadata of a Cassandra cluster with bin/tcm, a model of it. "
     "No Cassandra process is asked or changed."
