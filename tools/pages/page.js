@@ -38,7 +38,7 @@ function filled(made, attributes, children) {
     if (typeof value === "function") made.addEventListener(key, value);
     else if (value !== null && value !== false) made.setAttribute(key, value === true ? "" : value);
   }
-  made.append(...children.flat().filter((it) => it !== null));
+  made.append(...children.flat(2).filter((it) => it !== null));
   return made;
 }
 
@@ -264,8 +264,8 @@ function showTicks() {
   const at = (place) => `${(100 * place) / Math.max(1, lastPlace)}%`;
   const ticks = data.epochs.map((it, place) => {
     const tick = element("i", { class: it.epoch > data.last ? "planned" : it.movements.length ? "moving" : "" });
-    tick.style.left = at(place - 0.4);
-    tick.style.width = at(0.8);
+    tick.style.left = at(place);
+    tick.style.width = `min(${at(0.8)}, 10px)`;
     return tick;
   });
   byId("ticks").replaceChildren(...ticks);
@@ -307,7 +307,9 @@ function showFlights() {
   const isComing = place > shown.place;
   const title = flights.length ? (isComing ? `Next: from epoch ${data.epochs[place].epoch} on` : "In flight now") : "No movement is in flight";
   byId("movements-title").textContent = title;
-  byId("flights").replaceChildren(...flights.map((it) => flightCard(it, isComing)));
+  const streams = flights.map((it) => streamsOf(it, shown.epoch.epoch, shown.group));
+  const isOpen = streams.reduce((sum, it) => sum + it.ranges.length, 0) <= 12;
+  byId("flights").replaceChildren(...flights.map((it, i) => flightCard(it, streams[i], isComing, isOpen)));
 }
 
 function flightTitle(flight) {
@@ -317,17 +319,16 @@ function flightTitle(flight) {
   return [nameOf(flight.node), verb, ...gone, element("span", { class: "soft" }, ` in ${dc}, ${rack}`)];
 }
 
-function flightCard(flight, isComing) {
-  const streams = streamsOf(flight, shown.epoch.epoch, shown.group);
+function flightCard(flight, streams, isComing, isOpen) {
   return element(
     "article",
     { class: isComing ? "flight coming" : "flight" },
     element("h3", {}, flightTitle(flight)),
     phasesOf(flight, isComing),
-    element("p", {}, takesSaid(streams)),
+    element("p", {}, takesSaid(flight, streams)),
     riskOf(flight, streams, isComing),
     nextOf(flight, isComing),
-    streamTable(streams),
+    streamTable(streams, isOpen),
   );
 }
 
@@ -353,8 +354,8 @@ function counted(ids) {
   return all.length > 6 ? [...said, ` and ${plural(all.length - 6, "node")} more`] : said;
 }
 
-function takesSaid({ share, ranges }) {
-  if (!ranges.length) return [`Nothing is streamed under ${shown.names.join(", ") || "no keyspace"}.`];
+function takesSaid(flight, { share, ranges }) {
+  if (!ranges.length) return [`Nothing is streamed under ${shown.names.join(", ")}. `, ...othersOf(flight)];
   const strict = ranges.filter((it) => it.strict);
   const from = strict.length ? [" from ", ...counted(strict.map((it) => it.sources[0]))] : [" from any replica"];
   return [
@@ -365,6 +366,15 @@ function takesSaid({ share, ranges }) {
     ...from,
     ".",
   ];
+}
+
+/** The other keyspaces under which a movement streams. */
+function othersOf(flight) {
+  const all = shown.epoch.keyspaces.filter(([group]) => streamsOf(flight, shown.epoch.epoch, group).ranges.length);
+  return all.flatMap(([group, names]) => {
+    const said = `${names.join(", ")}: ${streamsOf(flight, shown.epoch.epoch, group).share} of the ring`;
+    return [button(said, () => choose({ keyspace: names[0] })), " "];
+  });
 }
 
 function marginsSaid(margins) {
@@ -392,14 +402,16 @@ function riskOf(flight, { ranges }, isComing) {
 }
 
 function nextOf(flight, isComing) {
-  const next = data.plan.find((it) => it.epoch > shown.epoch.epoch);
+  const isNext = (it) => isComing || !it.movements.some(([at, phase]) => at === flight.at && phase === flight.phase);
+  const next = data.epochs.findIndex((it, place) => place > shown.place && isNext(it));
+  const { epoch, said } = data.epochs[next] || {};
+  const jump = next < 0 ? null : [" ", button(`Epoch ${epoch}: ${said}`, () => goTo(next))];
+  if (isComing) return element("p", {}, element("b", {}, "Next step: "), jump);
   const todo = flight.steps[flight.phase];
-  const jump = next && [" ", button(`Epoch ${next.epoch}: ${saidAt(next.epoch)}`, () => goTo(placeOf(next.epoch)))];
-  if (isComing) return element("p", {}, element("b", {}, "Next step: "), jump || `epoch ${shown.epoch.epoch + 1}`);
   return element(
     "div",
     {},
-    element("p", {}, element("b", {}, "Next steps"), jump || null),
+    element("p", {}, element("b", {}, "Next steps"), jump),
     element("ol", { class: "todo" }, todo.map((it) => element("li", {}, coded(it)))),
   );
 }
@@ -407,7 +419,7 @@ function nextOf(flight, isComing) {
 /** A text whose parts in backticks are code. */
 const coded = (said) => said.split("`").map((it, i) => (i % 2 ? element("code", {}, it) : it));
 
-function streamTable({ ranges }) {
+function streamTable({ ranges }, isOpen) {
   if (!ranges.length) return null;
   const row = (it) =>
     element(
@@ -422,7 +434,7 @@ function streamTable({ ranges }) {
   const most = ranges.slice(0, 4 * PAGE);
   return element(
     "details",
-    { open: ranges.length <= 24 },
+    { open: isOpen },
     element("summary", {}, `${plural(ranges.length, "range")}, from whom to whom`),
     element("div", { class: "wide" }, element("table", {}, element("thead", {}, head), element("tbody", {}, most.map(row)))),
   );
@@ -431,7 +443,6 @@ function streamTable({ ranges }) {
 // ---- Steps
 
 const placeOf = (epoch) => data.epochs.findIndex((it) => it.epoch === epoch);
-const saidAt = (epoch) => data.epochs[placeOf(epoch)].said;
 
 function showSteps() {
   const key = JSON.stringify([shown.group]);
@@ -455,7 +466,7 @@ function stepLists() {
   let title = null;
   data.epochs.forEach((epoch, place) => {
     const step = plannedAt.get(epoch.epoch);
-    const wanted = step ? (step.wave ? `Wave ${step.wave}` : "Before the waves") : `In the log, up to epoch ${data.last}`;
+    const wanted = step ? (step.wave ? `Wave ${step.wave}` : "The plan begins") : `In the log, up to epoch ${data.last}`;
     if (wanted !== title) {
       title = wanted;
       parts.push(element("section", { class: step ? "" : "past" }, element("h3", {}, wanted), element("ol")));
@@ -583,7 +594,7 @@ function bandElement(band) {
   }
   const { id, name, rack } = band.node;
   const { read, pending } = (state.shares[shown.group] || {})[id] || {};
-  const share = [read, pending].filter((it) => it).join(" + ");
+  const share = pending ? `${read || "0.00%"} + ${pending}` : read || "";
   return element(
     "div",
     { class: band.isMoving ? "band moving" : "band" },
