@@ -12,7 +12,7 @@ from typing import Dict, List, Optional
 
 from tools.errors import WrongWords
 from tools.history import History
-from tools.log import cluster_of, copy_of, last_epoch, object_in, words_on
+from tools.log import cluster_of, copy_of, object_in, state, words_on
 from tools.names import names_of
 from tools.page_data import Data
 from tools.planned import PlannedStep, try_plan
@@ -57,7 +57,7 @@ def run(options: argparse.Namespace) -> int:
 
 def data_of(options: argparse.Namespace, copy: str, since: Optional[int]) -> Dict[str, object]:
     """Returns the data of the page."""
-    names, last = names_of(options.log), last_epoch(copy)
+    names, last = names_of(options.log), state(copy, name=options.log).epoch
     first = max(0, last - MOST_EPOCHS) if since is None else min(since, last)
     with Session(words_on(copy)) as session, tempfile.TemporaryDirectory(prefix="cluster-") as folder:
         steps: List[PlannedStep] = []

@@ -99,7 +99,7 @@ def planner_files() -> List[str]:
 def put_pages(prefix: str) -> None:
     """Puts the texts and the pages, as the README's links name them."""
     texts = [it for it in TEXTS if os.path.exists(os.path.join(TOP, it))]
-    pages = glob.glob(f"{TOP}/docs/*.md") + glob.glob(f"{TOP}/docs/pictures/*.svg")
+    pages = glob.glob(f"{TOP}/docs/*.md") + glob.glob(f"{TOP}/docs/pictures/*")
     for path in [*texts, *sorted(os.path.relpath(it, TOP) for it in pages)]:
         put(prefix, f"share/doc/vongxeli/{path}", bytes_of(path))
 
