@@ -13,7 +13,7 @@ from tools.log import state
 from tools.names import Names, names_of
 from tools.rings import draw_rings
 from tools.text import name_of, read_lines, write_text
-from tools.words import epoch_of, keyspace_named
+from tools.words import add_output, epoch_of, keyspace_named
 
 NAME, HELP = "draw", "draw placements as a picture: rings for few rows, bands for many"
 EXAMPLE = """example:
@@ -47,7 +47,7 @@ def words(parser: argparse.ArgumentParser) -> None:
         help="draw this node alone, by name or id; may be repeated",
     )
     parser.add_argument("--shape", choices=("rings", "bands"), help="the shape, whatever the number of rows")
-    parser.add_argument("--to", metavar="FILE", help="write the picture to this file; standard output is the default")
+    add_output(parser, parser, "--to", "write the picture to this file; standard output is the default")
 
 
 def run(options: argparse.Namespace) -> int:

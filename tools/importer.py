@@ -29,7 +29,7 @@ from tools.terms import (
     plural,
 )
 from tools.text import fault, name_of, read_bytes, read_lines, read_text, write_text
-from tools.words import add_cluster
+from tools.words import add_cluster, add_output
 
 NAME, HELP = "import", "make a script or a log of what nodetool ring and cqlsh print"
 EXAMPLE = """example:
@@ -60,11 +60,8 @@ def words(parser: argparse.ArgumentParser) -> None:
     parser.add_argument("schema", metavar="SCHEMA", help="what DESCRIBE SCHEMA or DESCRIBE KEYSPACE of cqlsh printed")
     to = parser.add_mutually_exclusive_group(required=True)
     to.add_argument("--log", metavar="LOG", help="the log to make, with LOG.names where names differ; needs --cluster")
-    to.add_argument(
-        "--script",
-        metavar="FILE",
-        help="the script to make, with FILE.names where names differ: copy it to LOG.names of the log that you make",
-    )
+    script = "the script to make, with FILE.names where names differ: copy it to LOG.names of the log that you make"
+    add_output(to, parser, "--script", script)
     add_cluster(parser)
     parser.add_argument(
         "--leave-out",

@@ -5,7 +5,6 @@ import json
 import os
 import re
 import shutil
-import tempfile
 from contextlib import contextmanager
 from dataclasses import dataclass
 from functools import cached_property
@@ -13,6 +12,7 @@ from typing import Any, Dict, Iterable, Iterator, List, Optional, Set
 
 from tools.answers import Movement, Node, Nodes, Placement, read_nodes, read_placement
 from tools.errors import Refused
+from tools.files import MOST_HEADER, object_in, scratch
 from tools.on_disk import check_no_disk, is_there, open_log
 from tools.program import Run, Session, run
 
@@ -140,7 +140,7 @@ def copy_of(log: str) -> Iterator[str]:
     check_kind(log)
     if not is_there(log):
         raise Refused(f"{log}: no such log file")
-    with tempfile.TemporaryDirectory(prefix="cluster-") as folder:
+    with scratch() as folder:
         path = os.path.join(folder, "copy.log")
         try:
             with open_log(log) as held, open(path, "wb") as it:
@@ -156,7 +156,7 @@ def cluster_of(log: str) -> Optional[str]:
         return None
     try:
         with open_log(log) as lines:
-            header = object_in(lines.readline())
+            header = object_in(lines.readline(MOST_HEADER + 1))
     except OSError as why:
         raise Refused(f"{log}: {why.strerror}") from why
     name = header.get("cluster")
@@ -182,15 +182,6 @@ def used_ids(log: str) -> Set[int]:
 def id_of(line: bytes) -> Optional[int]:
     """Returns the id in a line, if it is a whole entry."""
     return object_in(line).get("entry")
-
-
-def object_in(line: bytes) -> dict:
-    """Returns the JSON object in a whole line, an empty one if there is none."""
-    try:
-        value = json.loads(line) if line.endswith(b"\n") else None
-    except ValueError:
-        return {}
-    return value if isinstance(value, dict) else {}
 
 
 def fresh_ids(log: str) -> Iterator[int]:

@@ -5,10 +5,14 @@ import argparse
 import importlib
 import os
 import sys
-from typing import List
+import traceback
+from typing import IO, List, NoReturn, Optional
 
 from tools.errors import Refused, WrongWords
+from tools.process import close_output, settle
 from tools.program import TOP
+from tools.text import shown
+from tools.words import check_outputs
 
 VERBS = ("importer", "status", "where", "compare", "whatif", "moves", "apply", "lint", "transcript", "draw", "page")
 ABOUT = (
@@ -21,7 +25,23 @@ EPILOG = """example:
 environment:
   TCM     the program to run in the place of bin/tcm
 
-statuses: 0 done, 1 refused or a difference found, 2 wrong words. docs/tutorial.md shows the verbs at work."""
+statuses: 0 done, 1 something doesn't fit or a difference found, 2 wrong words; apply: 3 a command is refused, 4 a question
+isn't answered with yes, 5 an answer is missing; 125 no program, or another process writes the log.
+docs/tutorial.md shows the verbs at work."""
+
+MOST_SHOWN = 600  # characters of a message
+
+
+class Parser(argparse.ArgumentParser):
+    """A parser whose messages are short, and without control characters."""
+
+    def error(self, message: str) -> NoReturn:
+        """Ends with the usage and a message."""
+        super().error(shown(message, MOST_SHOWN))
+
+    def _print_message(self, message: str, file: Optional[IO[str]] = None) -> None:
+        """Prints, and doesn't pass over an output that can't be written, as some versions of argparse do."""
+        (file or sys.stderr).write(message)
 
 
 def version() -> str:
@@ -38,9 +58,7 @@ def every_verb() -> list:
 def parser_of(modules: list) -> argparse.ArgumentParser:
     """Returns what reads the words of all verbs."""
     shape = argparse.RawDescriptionHelpFormatter
-    parser = argparse.ArgumentParser(
-        prog="cluster", description=ABOUT, epilog=EPILOG, formatter_class=shape, allow_abbrev=False
-    )
+    parser = Parser(prog="cluster", description=ABOUT, epilog=EPILOG, formatter_class=shape, allow_abbrev=False)
     parser.add_argument("--version", action="version", version=f"cluster {version()}")
     verbs = parser.add_subparsers(dest="verb", metavar="VERB", required=True)
     for module in modules:
@@ -60,34 +78,46 @@ def parser_of(modules: list) -> argparse.ArgumentParser:
 
 def main(words: List[str]) -> int:
     """Runs a verb, and returns the status."""
-    parser = parser_of(every_verb())
+    if not settle():
+        return fail("cluster", "standard output is closed")
     try:
         try:
-            return run(parser.parse_args(words))
+            return run(parser_of(every_verb()).parse_args(words))
         finally:
             sys.stdout.flush()
     except BrokenPipeError:
-        return close_quietly()
+        close_output()
+        return 141
+    except OSError as why:
+        close_output()
+        return fail("cluster", f"{why.filename or 'standard output'}: {why.strerror}")
     except KeyboardInterrupt:
         return 130
 
 
 def run(options: argparse.Namespace) -> int:
     """Runs the verb of some words, and returns the status."""
+    name = f"cluster {options.verb}"
     try:
+        check_outputs(options)
         return options.run(options)
     except WrongWords as why:
         options.parser.print_usage(sys.stderr)
-        print(f"cluster {options.verb}: {why}", file=sys.stderr)
-        return 2
+        return fail(name, str(why), 2)
     except Refused as why:
         sys.stdout.flush()
-        for line in str(why).splitlines():
-            print(f"cluster {options.verb}: {line}", file=sys.stderr)
-        return 1
+        return fail(name, str(why), why.status)
+    except MemoryError:
+        return fail(name, "memory ran out")
+    except (OSError, KeyboardInterrupt):
+        raise
+    except Exception as why:  # pylint: disable=broad-exception-caught
+        at = traceback.extract_tb(why.__traceback__)[-1]
+        return fail(name, f"a fault of the planner, at {os.path.basename(at.filename)}:{at.lineno}: {why!r}")
 
 
-def close_quietly() -> int:
-    """Ends without a word after the reader has gone; the status is that of a program whose pipe was closed."""
-    os.dup2(os.open(os.devnull, os.O_WRONLY), sys.stdout.fileno())
-    return 141
+def fail(name: str, why: str, status: int = 1) -> int:
+    """Says on standard error why a verb ends, and returns the status."""
+    for line in why.split("\n"):
+        print(f"{name}: {shown(line, MOST_SHOWN)}", file=sys.stderr)
+    return status

@@ -6,17 +6,25 @@ import sys
 from typing import List
 
 from tools.errors import Refused
+from tools.files import write_whole
+
+MOST_BYTES = 2**28  # of a file that is read
+MOST_SHOWN = 60  # characters of an input that a message shows
 
 
 def read_bytes(path: str) -> bytes:
     """Returns the bytes of a file; `-` is standard input."""
     try:
         if path == "-":
-            return sys.stdin.buffer.read()
-        with open(path, "rb") as it:
-            return it.read()
+            data = sys.stdin.buffer.read(MOST_BYTES + 1)
+        else:
+            with open(path, "rb") as it:
+                data = it.read(MOST_BYTES + 1)
     except OSError as why:
-        raise Refused(f"{path}: {why.strerror}") from why
+        raise Refused(f"{name_of(path)}: {why.strerror}") from why
+    if len(data) > MOST_BYTES:
+        raise Refused(f"{name_of(path)}: more than {MOST_BYTES:,} bytes, and no input is so long")
+    return data
 
 
 def read_text(path: str) -> str:
@@ -42,18 +50,18 @@ def script_lines(path: str) -> List[str]:
 
 def write_text(path: str, text: str) -> None:
     """Writes a file at once: a reader finds the old text or the new one."""
-    partial = f"{path}.partial"
-    try:
-        with open(partial, "w", encoding="utf-8") as it:
-            it.write(text)
-        os.replace(partial, path)
-    except OSError as why:
-        raise Refused(f"{path}: {why.strerror}") from why
+    write_whole(path, text.encode("utf-8", "surrogateescape"))
 
 
 def name_of(path: str) -> str:
     """Returns what messages call a file."""
     return "standard input" if path == "-" else path
+
+
+def shown(said: str, most: int = MOST_SHOWN) -> str:
+    """Returns a text of an input as a message can show it: shortened, and without control characters."""
+    printable = "".join(it if it.isprintable() else f"\\x{ord(it):02x}" for it in said[: most + 1])
+    return printable if len(printable) <= most else printable[:most] + ".."
 
 
 def fault(path: str, line: int, why: str) -> Refused:

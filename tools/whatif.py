@@ -15,7 +15,7 @@ from tools.terms import listed, percent, plural
 from tools.text import name_of, read_lines, write_text
 from tools.waves import Plan, Wave, plan
 from tools.wishes import FORMS, Wish, command_of, dead_first, read_wishes
-from tools.words import add_json, add_log
+from tools.words import add_json, add_log, add_output
 
 NAME, HELP = "whatif", "plan movements on a copy of a log, in waves that can be in flight together"
 EXAMPLE = f"""a file of wishes has one a line (# begins a remark):
@@ -36,7 +36,7 @@ def words(parser: argparse.ArgumentParser) -> None:
     parser.add_argument(
         "--seed", metavar="N", type=int, default=1, help="the seed of tokens that are drawn; 1 is the default"
     )
-    parser.add_argument("--script", metavar="FILE", help="write the plan as a script for apply")
+    add_output(parser, parser, "--script", "write the plan as a script for apply")
     add_runbook(parser)
     add_json(parser)
 

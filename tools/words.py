@@ -3,9 +3,10 @@ from __future__ import annotations
 
 import argparse
 import re
-from typing import List, Optional
+from typing import Iterator, List, Optional
 
 from tools.errors import Refused, WrongWords
+from tools.files import check_output
 from tools.log import State
 from tools.names import Names
 from tools.terms import NAME, listed
@@ -19,6 +20,29 @@ def add_log(parser: argparse.ArgumentParser) -> None:
 def add_json(parser: argparse.ArgumentParser) -> None:
     """Declares `--json`."""
     parser.add_argument("--json", action="store_true", help="print JSON, with tokens as texts")
+
+
+def add_output(group: argparse._ActionsContainer, parser: argparse.ArgumentParser, word: str, said: str) -> None:
+    """Declares a file that is written: no input, no log, and no file that is there unless `--force` is given."""
+    group.add_argument(word, metavar="FILE", help=said)
+    parser.add_argument("--force", action="store_true", help="write over a FILE that is there")
+    parser.set_defaults(output=word.lstrip("-"))
+
+
+def check_outputs(options: argparse.Namespace) -> None:
+    """Checks the file that a verb is to write, before anything else is done."""
+    said = vars(options)
+    path = said.get(said.get("output", ""))
+    if path:
+        check_output(path, inputs_of(options), options.force)
+
+
+def inputs_of(options: argparse.Namespace) -> Iterator[str]:
+    """Gives each file that words may name as an input, and the file of names beside it."""
+    for name, value in vars(options).items():
+        if isinstance(value, str) and name not in ("output", options.output, "verb"):
+            yield "/dev/stdin" if value == "-" else value
+            yield f"{value}.names"
 
 
 def add_keyspaces(parser: argparse.ArgumentParser) -> None:
