@@ -5,8 +5,9 @@ import os
 from typing import Callable, Dict, Iterable, List, Sequence, Tuple
 
 from trials.kind import Case, Ended
+from trials.machine.commands import FORMS as COMMAND_FORMS
 from trials.machine.runs import Run, Script, given, run_on
-from trials.machine.session import Session
+from trials.machine.session import FORMS, Session
 
 Draws = Callable[[Session], Iterable[bytes]]
 MOST_SHOWN = 300  # characters of a line that differed
@@ -102,7 +103,8 @@ COMMANDS = (b"commit", b"replay", b"snapshot", b"plan", b"cms", b"mend2", b"gen"
 def word_of(line: bytes) -> str:
     """Returns the word that says what a line does: that of the command, in a commit."""
     words = line.decode("latin-1").split(" ")
-    return (words[2] if len(words) > 2 else "") if words[0] == "commit" else words[0]
+    word = (words[2] if len(words) > 2 else "") if words[0] == "commit" else words[0]
+    return word if word in FORMS or word in COMMAND_FORMS else "another line"
 
 
 def said_in(answer: str) -> str:

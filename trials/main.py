@@ -11,7 +11,7 @@ from typing import Dict, List, Sequence
 
 import trials.kinds
 from trials.kind import Kind
-from trials.rows import RELEASE, add
+from trials.rows import RELEASE, add, faults_of_page
 from trials.trial import Outcome, Plan, tried
 
 MOST_SHOWN = 12  # of what didn't come up
@@ -41,7 +41,9 @@ def parser_of(kinds: Dict[str, Kind]) -> argparse.ArgumentParser:
     length.add_argument("--count", type=int, help="how much of what it counts each kind tries")
     parser.add_argument("--program", default=os.environ.get("TCM") or RELEASE, help="the program (dist/tcm)")
     parser.add_argument("--kept", default="failed-trials", help="the folder of cases that differed (failed-trials)")
+    parser.add_argument("--most", type=int, default=5, help="how many cases may differ before a kind ends (5)")
     parser.add_argument("--covered", action="store_true", help="print how often each thing came up")
+    parser.add_argument("--check", action="store_true", help="only print what is wrong with docs/trials.md")
     parser.add_argument("--record", action="store_true", help="add rows to trials/rows.csv and docs/trials.md")
     return parser
 
@@ -78,11 +80,15 @@ def main(words: Sequence[str]) -> int:
     for name in given.kinds:
         if name not in kinds:
             parser.error(f"no kind {name}; there are {', '.join(kinds)}")
+    if given.check:
+        faults = faults_of_page(kinds)
+        print("".join(f"{it}\n" for it in faults), end="")
+        return 1 if faults else 0
     program = os.path.abspath(given.program)
     if not os.access(program, os.X_OK):
         parser.error(f"{program} can't be run")
     seed = int(time.time()) if given.seed is None else given.seed
-    plan = Plan(seed, given.minutes, given.count, program, os.path.abspath(given.kept))
+    plan = Plan(seed, given.minutes, given.count, program, os.path.abspath(given.kept), given.most)
     outcomes = []
     for name in given.kinds or kinds:
         outcomes.append(tried(kinds[name], plan))

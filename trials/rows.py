@@ -5,7 +5,7 @@ import csv
 import datetime
 import hashlib
 import os
-from typing import Dict, List, Sequence
+from typing import Dict, Iterable, List, Sequence
 
 from trials.trial import Outcome
 
@@ -90,8 +90,11 @@ def add(outcomes: Sequence[Outcome], program: str) -> None:
         it.write(with_table(page, table(rows, name_of(RELEASE))))
 
 
-def is_shown() -> bool:
-    """Returns whether the page shows the rows of the released program."""
+def faults_of_page(kinds: Iterable[str]) -> List[str]:
+    """Returns what is wrong with the page: a kind that has no row, or other rows than those of the released program."""
     with open(PAGE, encoding="utf-8") as it:
         page = it.read()
-    return with_table(page, table(read_rows(), name_of(RELEASE))) == page
+    faults = [f"no row with the kind {it}" for it in kinds if f"\n| {it} |" not in page]
+    if with_table(page, table(read_rows(), name_of(RELEASE))) != page:
+        faults.append("the last table isn't that of trials/rows.csv: bin/trials --record makes it")
+    return [f"docs/trials.md:1: {it}" for it in faults]

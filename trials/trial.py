@@ -13,7 +13,6 @@ from typing import List, Optional
 
 from trials.kind import Case, Kind
 
-MOST_DIFFERENCES = 5  # after which a kind isn't tried on
 
 
 @dataclass(frozen=True)
@@ -25,6 +24,7 @@ class Plan:
     count: Optional[int]
     program: str
     kept: str
+    most: int = 5  # differences, after which a kind isn't tried on
 
     def is_done(self, counted: int, seconds: float) -> bool:
         """Returns whether as much was counted as is asked for, or the time is over."""
@@ -101,7 +101,7 @@ def tried(kind: Kind, plan: Plan) -> Outcome:
     """Tries a kind as the plan says."""
     outcome = Outcome(kind, plan.seed, skipped=kind.missing())
     begun = shown = time.monotonic()
-    while not outcome.skipped and len(outcome.differences) < MOST_DIFFERENCES:
+    while not outcome.skipped and len(outcome.differences) < plan.most:
         one(kind, plan, outcome)
         now = time.monotonic()
         outcome.seconds = now - begun

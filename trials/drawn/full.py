@@ -48,7 +48,7 @@ def followers_full(draw: random.Random) -> Lines:
     """Makes as many followers and replies as there may be, and more."""
     yield from commits(f"register n{it} dc1 r1" for it in range(5))
     yield from (f"follower f{it}" for it in range(18))
-    for number in range(MOST_REPLIES + 2):
+    for number in range(MOST_REPLIES + 10):
         yield f"ask f{draw.randrange(17)} {draw.randint(1, 5)}"
         yield f"give f{draw.randrange(17)} {draw.randint(0, number + 2)}"
 

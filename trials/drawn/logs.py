@@ -153,7 +153,9 @@ def damaged(draw: random.Random, lines: Lines, times: int = 1) -> Lines:
 def other_entry(draw: random.Random, session: Session, epoch: int) -> bytes:
     """Returns an entry that a log doesn't have at this epoch: another id or command, maybe a refused one."""
     number, command = session.entries[epoch - 1]
-    way = draw.randrange(4)
+    way = draw.randrange(5)
+    if way == 4 and len(command.tokens) > 1:
+        return entry_line(epoch, (number, replace(command, tokens=command.tokens[::-1])))
     if way == 0:
         return entry_line(epoch, (session.entries[draw.randrange(epoch)][0], command))
     if way == 1:
@@ -174,6 +176,9 @@ def wrong_log(draw: random.Random, session: Session) -> Lines:
     at = draw.randrange(1, len(lines))
     if draw.random() < 0.15:
         return [*lines[:at], image_line(session.images[at - 1]), *lines[at:]]
+    several = [epoch for epoch, (_, command) in enumerate(session.entries, 1) if len(command.tokens) > 1]
+    if several and draw.random() < 0.3:
+        at = draw.choice(several)
     return [*lines[:at], other_entry(draw, session, at), *lines[at + 1 :]]
 
 

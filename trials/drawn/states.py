@@ -104,6 +104,21 @@ def movement_added(draw: random.Random, image: Image) -> Image:
     return image.with_movement(movement)
 
 
+def movement_shared(draw: random.Random, image: Image) -> Image:
+    """Adds a movement by which a node takes part in two: it leaves, or is replaced, while another movement moves it."""
+    moving = [it for it in image.movements if it.out]
+    if not moving:
+        return movement_added(draw, image)
+    gone = draw.choice(moving).out[0][1]
+    out, there = tuple(it for it in image.tokens if it[1] == gone), image.node(gone)
+    free = [it.id for it in image.nodes if not it.left and not image.tokens_of(it.id) and image.movement(it.id) is None]
+    near = [it for it in free if there and (image.by_id[it].dc, image.by_id[it].rack) == (there.dc, there.rack)]
+    if near and draw.random() < 0.7:
+        node = draw.choice(near)
+        return image.with_movement(Movement(node, "replace", "PREPARED", out, tuple((token, node) for token, _ in out)))
+    return image.with_movement(Movement(gone, "leave", draw.choice(PHASES), out, ()))
+
+
 def movements_changed(draw: random.Random, image: Image) -> Image:
     """Mixes the movements, or changes one."""
     if not image.movements or draw.random() < 0.4:
@@ -130,6 +145,8 @@ WAYS: Sequence[Way] = (
     keyspaces_changed,
     movement_added,
     movement_added,
+    movement_shared,
+    movement_shared,
     movements_changed,
 )
 

@@ -159,8 +159,9 @@ def replay(both: Both) -> None:
 def states(both: Both) -> None:
     """Replays of states, each near one of a log: some break a rule, others are taken."""
     draw, session = both.case.random, drawn_session(both.case, 60)
-    for _ in range(8):
-        at = draw.randrange(len(session.images) // 2, len(session.images))
+    moving = [it.epoch for it in session.images if it.movements]
+    for _ in range(12):
+        at = draw.choice(moving) if moving and draw.random() < 0.7 else draw.randrange(len(session.images))
         found = [image_line(state_drawn(draw, session.images[at])), *log_lines(session)[at + 1 : at + 4]]
         both.put(b"state", b"".join(damaged(draw, found) if draw.random() < 0.1 else found))
         both.run([b"replay", b"state"])

@@ -1,30 +1,31 @@
 """The deltas of movements, and stream plans."""
 from __future__ import annotations
 
-from typing import List, Tuple
+from itertools import zip_longest
+from typing import List, Optional, Tuple
 
 from trials.machine.image import Image, Movement, applied
-from trials.machine.placement import group_replicas
+from trials.machine.placement import group_replicas, placed
 from trials.machine.terms import Group, Replication, last_of, list_text, row_text, rows_of
 
-Streams = List[Tuple[int, str]]  # a node gained, and from where it streams
+Streams = List[Tuple[int, Optional[int]]]  # a node gained, and the lost node whose place it takes, if any
 
 
 def group_streams(image: Image, movement: Movement, group: Group, token: int) -> Streams:
-    """Returns the streams of a group: the i-th gained node takes the place of the i-th lost one."""
+    """Returns the nodes gained in a group, the i-th with the i-th node lost, from which it streams, if there is one."""
     before = group_replicas(group, image.by_id, image.low, token)
     after = group_replicas(group, image.by_id, applied(image.low, [movement]), token)
     gained, lost = sorted(after - before), sorted(before - after)
-    sources = [f"from {it}" for it in lost] + [f"any {list_text(sorted(before))}"] * len(gained)
-    return list(zip(gained, sources))
+    return list(zip_longest(gained, lost[: len(gained)]))
 
 
 def plan_rows(image: Image, movement: Movement, replication: Replication) -> List[str]:
     """Returns the rows of a plan: one for each range between cuts and each node gained there."""
     rows = []
     for row in rows_of(image.cuts):
-        streams = [
-            it for group in replication.groups for it in group_streams(image, movement, group, last_of(row))
-        ]
-        rows += [f"{row_text(row)} to {node} {source}" for node, source in sorted(streams)]
+        token = last_of(row)
+        anyone = list_text(sorted(placed(replication, image.by_id, image.low, token)))
+        streams = dict(it for group in replication.groups for it in group_streams(image, movement, group, token))
+        for node, lost in sorted(streams.items()):
+            rows.append(f"{row_text(row)} to {node} {f'any {anyone}' if lost is None else f'from {lost}'}")
     return rows
