@@ -14,6 +14,7 @@ from trials.kind import Kind
 from trials.rows import RELEASE, add, faults_of_page
 from trials.trial import Outcome, Plan, tried
 
+EPILOG = "Status 1 tells that something differed; docs/trials.md has more.\n\nexample:\n  bin/trials kills --minutes 2"
 MOST_SHOWN = 12  # of what didn't come up
 
 
@@ -31,7 +32,7 @@ def parser_of(kinds: Dict[str, Kind]) -> argparse.ArgumentParser:
     parser = argparse.ArgumentParser(
         "trials",
         description="Tries the program, by cases that are drawn from a seed.",
-        epilog=f"kinds:\n{listed}\n\nStatus 1 tells that something differed; docs/trials.md has more.\n\nexample:\n  bin/trials kills --minutes 2",
+        epilog=f"kinds:\n{listed}\n\n{EPILOG}",
         formatter_class=argparse.RawDescriptionHelpFormatter,
     )
     parser.add_argument("kinds", metavar="KIND", nargs="*", help="what to try: all kinds, if none is named")

@@ -5,7 +5,8 @@ import random
 from typing import Callable, Iterable, Iterator, Sequence
 
 from trials.machine.session import Session
-from trials.machine.terms import MOST_EPOCHS, MOST_KEYSPACES, MOST_NODES, MOST_REPLIES, MOST_TOKENS_OF_NODE, MOST_WAITING
+from trials.machine.terms import MOST_EPOCHS, MOST_KEYSPACES, MOST_NODES
+from trials.machine.terms import MOST_REPLIES, MOST_TOKENS_OF_NODE, MOST_WAITING
 
 Lines = Iterator[str]
 Script = Callable[[random.Random], Lines]
@@ -30,8 +31,8 @@ def token_commands() -> Iterator[str]:
     for node in range(1, 65):
         count = most - (2 if node == 64 else 0)
         yield f"unsafe-join {node} {' '.join(str(node * most + it) for it in range(count))}"
-    yield from ("unsafe-join 65 -1", "unsafe-join 66 -2 -3", "prepare-join 66 -2", "prepare-join 67 -3")
-    yield from ("cancel 66", "prepare-move 65 -5", "cancel 65", "unsafe-join 66 -2", "prepare-move 65 -5", "unsafe-join 67 -7")
+    yield from ("unsafe-join 65 -1", "unsafe-join 66 -2 -3", "prepare-join 66 -2", "prepare-join 67 -3", "cancel 66")
+    yield from ("prepare-move 65 -5", "cancel 65", "unsafe-join 66 -2", "prepare-move 65 -5", "unsafe-join 67 -7")
 
 
 def tokens_full(_: random.Random) -> Lines:
@@ -64,7 +65,8 @@ def waiting_full(draw: random.Random) -> Lines:
     yield from commits(toggles(last))
     yield from ("follower f", "follower g", "follower h")
     yield from (f"deliver f {it}" for it in range(last, 1, -1))
-    yield from ("deliver f 3", "deliver f 1", "nodes f", "deliver f 1027", "nodes f", f"snapshot f {last - 2}", "nodes f")
+    yield from ("deliver f 3", "deliver f 1", "nodes f", "deliver f 1027", "nodes f")
+    yield from (f"snapshot f {last - 2}", "nodes f")
     for _ in range(12):
         yield f"ask {draw.choice('fgh')} {draw.choice((1, 5, 100, 256, 1000, 1024))}"
         yield f"give {draw.choice('fgh')} {draw.randint(1, 12)}"

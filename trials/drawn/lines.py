@@ -227,7 +227,8 @@ class Drawn:
         if word == "ask":
             return f"ask {name} {self.random.choice((1, 2, 5, 100, 1024))}"
         if word == "give":
-            return f"give {name} {self.random.randint(0 if self.random.random() < 0.1 else 1, len(session.replies) + 1)}"
+            least = 0 if self.random.random() < 0.1 else 1
+            return f"give {name} {self.random.randint(least, len(session.replies) + 1)}"
         near = at + self.random.choice((1, 1, 1, 2, 3, 0))
         far = self.random.randint(0, last + 1)
         return f"{word} {name} {near if word == 'deliver' and self.random.random() < 0.6 else far}"

@@ -44,11 +44,11 @@ def other_value(draw: random.Random, value: Any) -> Any:
     if isinstance(value, bool):
         return draw.choice((not value, None, 0))
     if isinstance(value, int):
-        near = (value + 1, value - 1, -value, 0, 2**32 - 1, 2**32, 2**63, 2**64 - 1, 2**64, 1.5, str(value), 10**30)
-        return draw.choice(near)
+        far = (0, 2**32 - 1, 2**32, 2**63, 2**64 - 1, 2**64, 1.5, str(value), 10**30)
+        return draw.choice((value + 1, value - 1, -value, *far))
     if isinstance(value, str):
-        words = ("", "a", value + "x", value * 20, "simple 3", "topology dc1:2 dc1:1", "join", "MID", "é", 7, None, [value])
-        return draw.choice(words)
+        near = ("", "a", value + "x", value * 20, "é", 7, None, [value])
+        return draw.choice((*near, "simple 3", "topology dc1:2 dc1:1", "join", "MID"))
     if isinstance(value, list) and value and draw.random() < 0.7:
         return draw.choice((value[::-1], value[1:], value + value[-1:], [*value[:-1], other_value(draw, value[-1])]))
     return draw.choice(([], {}, None, True, value))
@@ -104,7 +104,8 @@ def with_bytes(draw: random.Random, lines: Lines, at: int) -> Lines:
     line = bytearray(lines[at])
     for _ in range(draw.randint(1, 3)):
         to = draw.randrange(len(line) + 1)
-        line[to : to + draw.randint(0, 2)] = draw.choice((b"", b'"', b"\\", b"0", b"[", b"\n", bytes([draw.randrange(256)])))
+        other = (b"", b'"', b"\\", b"0", b"[", b"\n", bytes([draw.randrange(256)]))
+        line[to : to + draw.randint(0, 2)] = draw.choice(other)
     return [*lines[:at], bytes(line), *lines[at + 1 :]]
 
 

@@ -48,7 +48,8 @@ def files_of_a_replay(both: Both) -> None:
 def members(both: Both) -> None:
     """Nodes in FROM or TO."""
     both.put(b"log", header_line("c1"))
-    both.run([b"commit", b"log", b"c1"], given(b"".join(b"commit %d register n%d d r\n" % (it, it) for it in range(40))))
+    sent = b"".join(b"commit %d register n%d d r\n" % (it, it) for it in range(40))
+    both.run([b"commit", b"log", b"c1"], given(sent))
     for one, other in ((16, 17), (17, 16), (16, 16)):
         ids = [",".join(map(str, range(1, it + 1))).encode() for it in (one, other)]
         both.run([b"cms", b"log", *ids])

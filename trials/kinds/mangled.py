@@ -13,7 +13,8 @@ from trials.kinds.random_lines import CLUSTER, DISK, LOG, drawn_session
 from trials.machine.lines import image_line
 from trials.machine.store import Disk
 
-SOME = (b"", b'"', b"\\", b"\\u00", b"0", b"-0", b"1e400", b"9" * 30, b"{", b"[" * 130, b"}", b",", b":", b"\n", b"\r", b"\0", b"\xff", b"\xc3\xa9")
+SOME = [b"", b'"', b"\\", b"\\u00", b"0", b"-0", b"1e400", b"9" * 30, b"{", b"[" * 130, b"}", b",", b":"]
+SOME += [b"\n", b"\r", b"\0", b"\xff", b"\xc3\xa9"]
 
 
 def bytes_mangled(draw: random.Random, data: bytes) -> bytes:

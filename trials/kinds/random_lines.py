@@ -44,9 +44,10 @@ ANSWERS = {
     "ask": "REPLIES-FULL FOLLOWER",
     "give": "AT REPLY FOLLOWER",
 }
+RULES = [f"LINE {it}" for it in range(2, 8)]
 ENDS = {
-    "commit": [*(f"LINE {it}" for it in range(2, 8)), "FORMAT", "HEADER", "CLUSTER", "NOT-ENTRY", "EPOCH", "ID", "COMMAND"],
-    "replay": [*(f"LINE {it}" for it in range(2, 8)), "HEADER", "CLUSTER", "FORK", "COMMAND", "NO FILE", "printed"],
+    "commit": [*RULES, "FORMAT", "HEADER", "CLUSTER", "NOT-ENTRY", "EPOCH", "ID", "COMMAND"],
+    "replay": [*RULES, "HEADER", "CLUSTER", "FORK", "COMMAND", "NO FILE", "printed"],
     "snapshot": ["NO EPOCH", "NO FILE", "printed"],
     "plan": ["NO SEQUENCE", "NO KEYSPACE", "NO FILE", "printed"],
     "cms": ["NO NO-NODE", "NO NODE-STATE", "NO FILE", "printed"],
@@ -177,7 +178,8 @@ def words(both: Both) -> None:
 def generated(both: Both) -> None:
     """A generated script."""
     draw = both.case.random
-    both.run([b"gen", str(draw.choice((draw.getrandbits(64), draw.getrandbits(31)))).encode(), b"%d" % draw.randint(0, 6)])
+    start = draw.getrandbits(draw.choice((31, 64)))
+    both.run([b"gen", b"%d" % start, b"%d" % draw.randint(0, 6)])
 
 
 def full(both: Both) -> None:

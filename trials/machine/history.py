@@ -2,7 +2,7 @@
 from __future__ import annotations
 
 from dataclasses import replace
-from typing import Callable, Dict, Iterator, List, Optional, Sequence
+from typing import Callable, Dict, Iterator, Optional, Sequence
 
 from trials.machine.commands import Command
 from trials.machine.image import MID, PREPARED, STARTED, STEPS, Image, Keyspace, Movement, Node, applied, pair_list
@@ -203,7 +203,8 @@ def stepped(image: Image, command: Command) -> Image:
     movement = image.movement(command.node)
     assert movement is not None
     if command.word == "cancel":
-        return image.with_movement(replace(movement, phase=STARTED)) if movement.phase == MID else ended(image, movement)
+        is_mid = movement.phase == MID
+        return image.with_movement(replace(movement, phase=STARTED)) if is_mid else ended(image, movement)
     phase = STEPS[command.word.split("-")[0]][1]
     return image.with_movement(replace(movement, phase=phase)) if phase else finished(image, movement)
 
@@ -232,11 +233,3 @@ def changed(image: Image, command: Command) -> Image:
 def next_image(image: Image, command: Command) -> Image:
     """Returns the image after a command that isn't refused."""
     return replace(changed(image, command), epoch=image.epoch + 1)
-
-
-def state_after(commands: Sequence[Command]) -> List[Image]:
-    """Returns the images of a history: the state at each epoch from 0 on."""
-    images = [Image()]
-    for it in commands:
-        images.append(next_image(images[-1], it))
-    return images

@@ -133,14 +133,14 @@ def given(script: bytes) -> Script:
 
 def answered(session: Session, script: Script, keep: Callable[[bytes], None]) -> Run:
     """Answers a script, and keeps the line of each accepted command before it is answered."""
-    run = Run(0)
+    ended = Run(0)
     for line in script(session):
         before = session.image.epoch
         answer = session.answer(line)
         if session.image.epoch > before:
             keep(entry_line(session.image.epoch, session.entries[-1]))
-        run.answers.append(answer)
-    return run
+        ended.answers.append(answer)
+    return ended
 
 
 def commit(_: Store, words: Words, script: Script) -> Optional[Run]:
