@@ -6,17 +6,19 @@ where the node is read, hatched where it is written and not read. Its shares of 
 from __future__ import annotations
 
 from dataclasses import dataclass
-from typing import Dict, List, Sequence, Tuple
+from typing import Dict, List, Optional, Sequence, Tuple
 
 from tools.answers import Node, Placement
 from tools.placements import pending_shares, read_shares
-from tools.svg import GAP, GREY, LABEL, TITLE, colour_at, legend, length, number, picture, text
-from tools.terms import WHOLE, percent
+from tools.svg import GAP, GREY, LABEL, TITLE, colour_at, legend, length, number, picture, text, tip
+from tools.terms import WHOLE, percent, row_name
 
 BREADTH = 840.0  # of the ring
 MOST_TALL = 120  # nodes, from which on bands are lower
 MOST_LINES = 64  # rows, up to which their ends are drawn
+MOST_TOLD = 40  # parts of a band, up to which each has the name of its range
 AXIS = (("min", 0), ("-2^62", 0.25), ("0", 0.5), ("2^62", 0.75), ("max", 1))
+BOLD = ' font-weight="bold"'
 SHARES = "100.00% + 100.00%"
 CAPTION = (
     "From min at the left to max at the right, to scale; a colour for each rack. "
@@ -24,7 +26,17 @@ CAPTION = (
 )
 
 
-Spans = Dict[int, List[Tuple[float, float]]]  # by node: parts of the ring, from 0 to 1
+@dataclass
+class Span:
+    """Neighbouring rows as a part of the ring: where they begin and end, from 0 to 1, and by which tokens."""
+
+    begin: float
+    end: float
+    left: Optional[int]
+    right: Optional[int]
+
+
+Spans = Dict[int, List[Span]]  # by node
 
 
 @dataclass
@@ -94,17 +106,21 @@ def draw_placement(look: Look, placement: Placement, y: float) -> Tuple[List[str
     parts = [text(GAP, y, said, "start", f' font-size="{TITLE}" font-weight="bold"'), *draw_axis(look, y + 20)]
     y += 26
     reads, pending, before = read_shares(placement), pending_shares(placement), ("", "")
-    spans = spans_of(placement)
+    spans, top, held = spans_of(placement), y, {it.dc for it in look.nodes if it.id in reads or it.id in pending}
     for node in look.nodes:
         if node.dc != before[0]:
             y += LABEL + 8
-            parts.append(text(GAP, y - 3, f"Datacenter {node.dc}" if node.dc else "", "start", ' font-weight="bold"'))
+            said = f"Datacenter {node.dc}" if node.dc else ""
+            parts.append(text(GAP, y - 3, said + ("" if node.dc in held else ": no replicas"), "start", BOLD))
+        if node.dc not in held:
+            before = (node.dc, node.rack)
+            continue
         shares = percent(reads.get(node.id, 0)) + (f" + {percent(pending[node.id])}" if node.id in pending else "")
         if (node.dc, node.rack) != before:
             parts.append(text(GAP, look.base(y), node.rack, "start", look.size))
         parts += draw_band(look, spans, node, y, shares)
         before, y = (node.dc, node.rack), y + look.height
-    return parts + draw_lines(look, placement, y), y
+    return parts + draw_lines(look, placement, top, y), y
 
 
 def draw_axis(look: Look, y: float) -> List[str]:
@@ -124,9 +140,16 @@ def draw_band(look: Look, spans: Tuple[Spans, Spans], node: Node, y: float, shar
     fills = ((colour, "read and written"), (f"url(#pending-{place})", "written, not read"))
     for (fill, said), found in zip(fills, spans):
         if node.id in found:
-            path = "".join(box(look, begin, end, y) for begin, end in found[node.id])
-            parts.append(f'<path d="{path}" fill="{fill}"><title>{node.name}: {said}</title></path>')
+            parts += draw_spans(look, found[node.id], y, fill, f"{node.name}: {said}")
     return [*parts, text(look.left + BREADTH + 8, base, shares, "start", size)]
+
+
+def draw_spans(look: Look, spans: List[Span], y: float, fill: str, said: str) -> List[str]:
+    """Draws parts of a band, each with its range if they aren't too many."""
+    paths = [(box(look, it.begin, it.end, y), f"{row_name(it.left, it.right)} {said}") for it in spans]
+    if len(spans) > MOST_TOLD:
+        paths = [("".join(path for path, _ in paths), said)]
+    return [f'<path d="{path}" fill="{fill}">{tip(told)}</path>' for path, told in paths]
 
 
 def spans_of(placement: Placement) -> Tuple[Spans, Spans]:
@@ -138,17 +161,17 @@ def spans_of(placement: Placement) -> Tuple[Spans, Spans]:
         at += row.width
         for nodes, spans in ((row.reads, read), (row.pending, pending)):
             for node in nodes:
-                add_span(spans.setdefault(node, []), begin, at / WHOLE)
+                add_span(spans.setdefault(node, []), Span(begin, at / WHOLE, row.left, row.right))
         begin = at / WHOLE
     return read, pending
 
 
-def add_span(spans: List[Tuple[float, float]], begin: float, end: float) -> None:
-    """Adds a span after others; if it touches the last of them, both become one."""
-    if spans and spans[-1][1] == begin:
-        spans[-1] = (spans[-1][0], end)
+def add_span(spans: List[Span], span: Span) -> None:
+    """Adds a span after others; if it follows the last of them, both become one."""
+    if spans and spans[-1].right == span.left:
+        spans[-1] = Span(spans[-1].begin, span.end, spans[-1].left, span.right)
     else:
-        spans.append((begin, end))
+        spans.append(span)
 
 
 def box(look: Look, begin: float, end: float, y: float) -> str:
@@ -157,11 +180,10 @@ def box(look: Look, begin: float, end: float, y: float) -> str:
     return f"M{number(x)} {number(y + 1)}h{number(wide)}v{number(tall)}h{number(-wide)}z"
 
 
-def draw_lines(look: Look, placement: Placement, below: float) -> List[str]:
+def draw_lines(look: Look, placement: Placement, top: float, below: float) -> List[str]:
     """Draws where rows end, if they aren't too many."""
     if len(placement.rows) > MOST_LINES:
         return []
-    top = below - look.height * len(look.nodes)
     lines, at = "", 0
     for row in placement.rows[:-1]:
         at += row.width

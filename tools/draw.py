@@ -4,14 +4,15 @@ from __future__ import annotations
 import argparse
 import sys
 from dataclasses import replace
-from typing import Dict, List, Sequence, Tuple
+from typing import Dict, List, Sequence, Set, Tuple
 
 from tools.answers import Node, Nodes, Placement, framed, read_nodes, read_placement
 from tools.bands import draw_bands
 from tools.errors import Refused, WrongWords
-from tools.log import state
+from tools.log import State, state
 from tools.names import Names, names_of
 from tools.rings import draw_rings
+from tools.terms import NUMBER, listed
 from tools.text import name_of, read_lines, write_text
 from tools.words import add_output, epoch_of, keyspace_named
 
@@ -22,6 +23,7 @@ EXAMPLE = """example:
   bin/tcm replay cluster.log | bin/cluster draw --node 10.0.1.16 > replay.svg"""
 
 MOST_ROWS, MOST_NODES = 40, 16  # rows and nodes, up to which rings are drawn
+MOST_IN_RINGS = 100  # rows, up to which rings are drawn if they are asked for
 
 
 def words(parser: argparse.ArgumentParser) -> None:
@@ -52,7 +54,7 @@ def words(parser: argparse.ArgumentParser) -> None:
 
 def run(options: argparse.Namespace) -> int:
     """Draws."""
-    if not all(it.isascii() and it.isdigit() for it in options.epochs):
+    if not all(is_epoch(it) for it in options.epochs):
         raise WrongWords("the words are to be epochs, such as 12")
     drawn = picture_of(*(from_log(options) if options.log else from_answers(options)), options)
     if options.to:
@@ -60,6 +62,11 @@ def run(options: argparse.Namespace) -> int:
     else:
         sys.stdout.write(drawn)
     return 0
+
+
+def is_epoch(word: str) -> bool:
+    """Returns whether a word is the number of an epoch."""
+    return bool(NUMBER.fullmatch(word)) and len(word) <= 19
 
 
 Found = Tuple[List[Placement], List[Node]]
@@ -71,11 +78,18 @@ def from_log(options: argparse.Namespace) -> Found:
     states = [state(options.log, epoch_of(f"@{it}")) for it in options.epochs] or [state(options.log)]
     keyspaces = {keyspace_named(it, now, names) for it in options.keyspace for now in states}
     placements = [
-        replace(it, keyspace=names.there("keyspace", it.keyspace))
+        replace(placement, keyspace=listed([names.there("keyspace", it) for it in same]))
         for now in states
-        for it in now.places(sorted(keyspaces or now.replications))
+        for same in alike(now, keyspaces)
+        for placement in now.places(same[:1])
     ]
     return placements, [cassandras(it, names) for it in latest_nodes([now.nodes for now in states])]
+
+
+def alike(now: State, keyspaces: Set[str]) -> List[List[str]]:
+    """Returns the keyspaces to draw, or all, those with the same replication together: they are one picture."""
+    found = ([it for it in same if not keyspaces or it in keyspaces] for same in now.distinct().values())
+    return [it for it in found if it]
 
 
 def cassandras(node: Node, names: Names) -> Node:
@@ -95,11 +109,11 @@ def from_answers(options: argparse.Namespace) -> Found:
         nodes = latest_nodes([read_nodes(it, at) for at, it in answers if it[0].startswith("NODES ")])
     except Refused as why:
         raise Refused(f"{name_of(options.answers)}: {why}") from why
-    epochs, keyspaces = {int(it) for it in options.epochs}, set(options.keyspace)
+    epochs, keyspaces = [int(it) for it in options.epochs], set(options.keyspace)
     chosen = [
         it for it in placements if (not epochs or it.epoch in epochs) and (not keyspaces or it.keyspace in keyspaces)
     ]
-    return chosen, nodes
+    return sorted(chosen, key=lambda it: epochs.index(it.epoch)) if epochs else chosen, nodes
 
 
 def latest_nodes(answers: Sequence[Nodes]) -> List[Node]:
@@ -124,6 +138,8 @@ def picture_of(placements: List[Placement], nodes: List[Node], options: argparse
     if options.node and not shown:
         raise Refused(f"no replica {' or '.join(options.node)} is in these placements")
     is_small = max(len(it.rows) for it in placements) <= MOST_ROWS and len(shown) <= MOST_NODES
+    if options.shape == "rings" and max(len(it.rows) for it in placements) > MOST_IN_RINGS:
+        raise Refused(f"more than {MOST_IN_RINGS} ranges can't be told apart in a ring: draw them by --shape bands")
     if (options.shape or ("rings" if is_small else "bands")) == "rings" or not shown:
         return draw_rings(placements, shown, {n: f"node {n}" + named(n, known) for n in shown} if options.log else {})
     return draw_bands(placements, [known.get(n) or Node(n, f"node {n}", "", "", "", ()) for n in shown])

@@ -10,12 +10,13 @@ from dataclasses import dataclass
 from typing import Dict, List, Optional, Sequence, Tuple
 
 from tools.answers import Placement, Row
-from tools.svg import GAP, GREY, LABEL, TITLE, colour_at, legend, length, number, picture, text, title
+from tools.svg import COLOURS, GAP, GREY, LABEL, TITLE, colour_at, legend, length, number, picture, text, tip, title
 from tools.terms import GREATEST, LEAST, row_name
 
 HOLE = 46  # the radius inside the tracks
 BAND = 132  # the least breadth of all tracks together
 TRACK = (7, 24)  # the least and the greatest breadth of a track
+NUMBERED = 12  # the least breadth where colours come again, so that there is room for the numbers of nodes
 APART = 15.0  # degrees between neighbouring tokens, from which on they stand by their share of the ring
 MOST_ACROSS = 20  # rows, from which on the labels of tokens turn with the ring
 
@@ -83,7 +84,8 @@ def look_of(placements: List[Placement], nodes: List[int], names: Dict[int, str]
     rows = max(len(it.rows) for it in placements)
     widest = max((label(row.right) for it in placements for row in it.rows), key=len)
     turned = rows > MOST_ACROSS
-    track = max(TRACK[0], min(TRACK[1], BAND / max(1, len(nodes))))
+    least = TRACK[0] if len(nodes) <= len(COLOURS) else NUMBERED
+    track = max(least, min(TRACK[1], BAND / max(1, len(nodes))))
     # (many rows need a greater ring, so that their labels don't touch)
     track = max(track, (rows * 1.3 * LABEL / (2 * math.pi) - HOLE) / max(1, len(nodes)))
     by_share = all(are_apart(turns_by_share(it.rows)) for it in placements)
@@ -163,7 +165,7 @@ def draw_part(look: Look, node: int, row: Row, begin: float, end: float) -> List
         return []
     told = f"{row_name(row.left, row.right)} {look.names.get(node, f'node {node}')}: {said}"
     return [
-        f'<path d="{path}" fill="{fill}"><title>{told}</title></path>', *draw_id(look, node, row, inner, (begin, end))
+        f'<path d="{path}" fill="{fill}">{tip(told)}</path>', *draw_id(look, node, row, inner, (begin, end))
     ]
 
 

@@ -1,6 +1,7 @@
 """What pictures share: numbers, texts, colours, hatching, and legends whose lines break before the border."""
 from __future__ import annotations
 
+import re
 from typing import Dict, List, Tuple
 from xml.sax.saxutils import escape
 
@@ -16,6 +17,14 @@ COLOURS = [
     ("#999999", "#000000"),
 ]
 GREY = "#555555"
+# Characters that XML doesn't have, and those by which a terminal would do something.
+UNFIT = re.compile("[\x00-\x1f\x7f-\x9f\ud800-\udfff\ufffe\uffff]")
+# Viewers that are dark show these in the place of the colours that pictures have on white.
+DARK = """<style>@media (prefers-color-scheme: dark) {
+  :not(text)[fill="#ffffff"] { fill: #14181d } [stroke="#ffffff"] { stroke: #14181d }
+  [fill="#f3f3f3"] { fill: #2a3138 } [fill="#555555"] { fill: #b0b8c0 } [stroke="#222222"] { stroke: #d0d7de }
+  text:not([fill]), text[stroke] { fill: #e8ecf0 }
+}</style>"""
 LABEL = 11  # the size of letters
 TITLE = 15  # and of those of titles
 GAP = 26  # between pictures and the border, and between lines of the legend
@@ -37,9 +46,19 @@ def length(said: str, size: float = LABEL) -> float:
     return 0.68 * size * len(said)
 
 
+def escaped(said: str) -> str:
+    """Returns a text as a picture can have it, between tags and in quotes."""
+    return escape(UNFIT.sub("\ufffd", said), {'"': "&quot;"})
+
+
+def tip(said: str) -> str:
+    """Returns the text that a viewer shows beside a part."""
+    return f"<title>{escaped(said)}</title>"
+
+
 def text(x: float, y: float, said: str, anchor: str = "middle", more: str = "") -> str:
     """Returns a text at a place."""
-    return f'<text x="{number(x)}" y="{number(y)}" text-anchor="{anchor}"{more}>{escape(said)}</text>'
+    return f'<text x="{number(x)}" y="{number(y)}" text-anchor="{anchor}"{more}>{escaped(said)}</text>'
 
 
 def title(x: float, y: float, said: str) -> str:
@@ -91,6 +110,7 @@ def picture(width: float, height: float, hatchings: Dict[object, str], parts: Li
         f'<svg xmlns="http://www.w3.org/2000/svg" viewBox="0 0 {number(width)} {number(height)}"'
         f' width="{number(width)}" height="{number(height)}"'
         f' font-family="DejaVu Sans, Verdana, sans-serif" font-size="{LABEL}">',
+        DARK,
         '<rect width="100%" height="100%" fill="#ffffff"/>',
         "<defs>" + "".join(pattern(name, it) for name, it in hatchings.items()) + "</defs>",
         *parts,

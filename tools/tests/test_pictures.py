@@ -86,9 +86,19 @@ class Pictures(unittest.TestCase):
         drawn = draw_bands(
             [read_placement(PLACE)], [Node(1, "a", "dc1", "r1", "", ()), Node(2, "b", "dc1", "r1", "", ())]
         )
-        self.assertEqual(drawn.count("<title>a: read and written</title>"), 1)
-        self.assertEqual(drawn.count("<title>b: written, not read</title>"), 1)
+        for told in ("(min,0] a: read and written", "(100,max] a: read and written"):
+            self.assertEqual(drawn.count(f"<title>{told}</title>"), 1)
+        self.assertEqual(drawn.count("<title>(min,0] b: written, not read</title>"), 1)
         self.assertIn("0.00% + 50.00%", drawn)
+
+    def test_a_datacenter_without_replicas_is_one_line(self):
+        nodes = [Node(1, "a", "dc1", "r1", "", ()), Node(2, "b", "dc1", "r1", "", ()), Node(3, "c", "dc2", "r1", "", ())]
+        drawn = draw_bands([read_placement(PLACE)], nodes)
+        self.assertIn(">Datacenter dc2: no replicas<", drawn)
+        self.assertNotIn(">c<", drawn)
+
+    def test_dark_viewers_get_other_colours(self):
+        self.assertIn("prefers-color-scheme: dark", draw_rings([read_placement(PLACE)], [1, 2], {}))
 
     def test_captions_break(self):
         self.assertEqual(wrapped("a bb ccc", length("a bb")), ["a bb", "ccc"])

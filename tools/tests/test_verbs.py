@@ -221,10 +221,18 @@ class Plans(InTutorial):
         )
         self.assertEqual(cluster("status", "shop.log", "@11")[0], 1)
 
+    def same_keyspace(self):
+        """Writes a script that makes a keyspace like another one, and returns its path."""
+        self.write("again.script", "keyspace again simple 2\n")
+        return "again.script"
+
     def test_logs_and_answers_are_drawn(self):
         for words in ([], ["10", "--shape", "bands"], ["--node", "10.0.0.1"], ["--keyspace", "logs"]):
             status, out, _ = cluster("draw", "--log", "shop.log", *words)
             self.assertEqual((status, out[:4]), (0, "<svg"))
+        self.assertIn("keyspace logs, epoch 10", cluster("draw", "--log", "shop.log")[1])
+        self.assertEqual(cluster("apply", "shop.log", self.same_keyspace())[0], 0)
+        self.assertIn("keyspace again, logs, epoch 11", cluster("draw", "--log", "shop.log")[1])
         for words in (["8"], ["99"], ["--node", "nobody"], ["--keyspace", "none"]):
             self.assertEqual(cluster("draw", "--log", "shop.log", *words)[:2], (1, ""))
 
