@@ -7,12 +7,12 @@ import hashlib
 import json
 import os
 import sys
-import tempfile
 from typing import Dict, List, Optional
 
 from tools.errors import WrongWords
+from tools.files import object_in, scratch
 from tools.history import History
-from tools.log import cluster_of, copy_of, object_in, state, words_on
+from tools.log import cluster_of, copy_of, state, words_on
 from tools.names import names_of
 from tools.page_data import Data
 from tools.planned import PlannedStep, try_plan
@@ -59,7 +59,7 @@ def data_of(options: argparse.Namespace, copy: str, since: Optional[int]) -> Dic
     """Returns the data of the page."""
     names, last = names_of(options.log), state(copy, name=options.log).epoch
     first = max(0, last - MOST_EPOCHS) if since is None else min(since, last)
-    with Session(words_on(copy)) as session, tempfile.TemporaryDirectory(prefix="cluster-") as folder:
+    with Session(words_on(copy)) as session, scratch() as folder:
         steps: List[PlannedStep] = []
         if options.plan:
             steps = try_plan(options.plan, options.begin, copy, names, session)

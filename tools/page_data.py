@@ -1,4 +1,4 @@
-"""The data of a page: what `tcm` answered, epoch by epoch, with tokens as texts and places in lists for what comes often."""
+"""The data of a page: what `tcm` answered, epoch by epoch, with tokens as texts."""
 from __future__ import annotations
 
 import os
@@ -14,7 +14,7 @@ from tools.names import Names
 from tools.placements import Stretch
 from tools.status import replication_said
 from tools.streams import STRICT, Streams, Taking, by_node, plan_of, taking_of
-from tools.terms import GREATEST, percent, plural, width
+from tools.terms import GREATEST, percent, plural
 
 BEFORE_ALL, PAST_ALL = -1, GREATEST + 1  # the place of `min`, and the token that stands for `max`
 
@@ -174,7 +174,7 @@ class Json:
                 for it, names in moment.groups.items()
             ],
             "rows": {it: self.rows(change) for it, change in changes.items()},
-            "shares": {it: [[n, *map(share_said, s)] for n, s in change.shares.items()] for it, change in changes.items()},
+            "shares": {it: shares_said(change) for it, change in changes.items()},
             "margins": {it: change.margins for it, change in changes.items()},
         }
 
@@ -192,7 +192,8 @@ class Json:
         """Returns a command in words, by the names of Cassandra."""
         kind = command.get("kind", "")
         if kind == "register":
-            rest = [self.there(k, command[key]) for k, key in (("node", "name"), ("datacenter", "dc"), ("rack", "rack"))]
+            keys = (("node", "name"), ("datacenter", "dc"), ("rack", "rack"))
+            rest = [self.there(of, command[key]) for of, key in keys]
         elif kind in ("keyspace", "drop-keyspace"):
             replication = visible(replication_said(command.get("replication", ""), self.data.names))
             rest = [self.there("keyspace", command["name"]), replication]
@@ -202,6 +203,11 @@ class Json:
             tokens = command.get("tokens", [command["token"]] if "token" in command else [])
             rest += [str(it) for it in tokens] if len(tokens) < 2 else [f"({plural(len(tokens), 'token')})"]
         return " ".join([kind, *rest]).strip()
+
+
+def shares_said(change: Change) -> List[List[object]]:
+    """Returns nodes with their shares."""
+    return [[node, *map(share_said, shares)] for node, shares in change.shares.items()]
 
 
 def share_said(tokens: int) -> str:

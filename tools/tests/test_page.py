@@ -24,16 +24,17 @@ from tools.text import write_text
 READ = """(() => {
   const at = (id) => document.getElementById(id);
   const say = (it) => it.dispatchEvent(new Event("input", { bubbles: true }));
-  const cells = (kind) => [...at(`${kind}-table`).querySelectorAll("tbody tr")].map((row) => [...row.children].map(told));
+  const rows = (kind) => [...at(`${kind}-table`).querySelectorAll("tbody tr")];
+  const cells = (kind) => rows(kind).map((row) => [...row.children].map(told));
   const told = (it) => [...(it.querySelector("div") ? it.children : [it])].map((part) => part.textContent).join("; ");
   const next = (kind) => [...at(`${kind}-pager`).querySelectorAll("button")].find((it) => it.textContent === "Next");
   const all = (kind) => {
-    const rows = cells(kind);
+    const read = cells(kind);
     for (let it = next(kind); it && !it.disabled; it = next(kind)) {
       it.click();
-      rows.push(...cells(kind));
+      read.push(...cells(kind));
     }
-    return rows;
+    return read;
   };
   const slider = at("epoch"), select = at("filters").elements.keyspace, found = [];
   for (let place = 0; place <= Number(slider.max); place++) {
@@ -41,7 +42,7 @@ READ = """(() => {
     say(slider);
     const now = { title: at("title").textContent, nodes: all("nodes"), places: [] };
     const current = [...document.querySelectorAll(".flight:not(.coming)")];
-    now.flights = current.map((it) => [it.querySelector("h3").textContent, it.querySelector("[aria-current]").textContent]);
+    now.flights = current.map((it) => ["h3", "[aria-current]"].map((part) => it.querySelector(part).textContent));
     for (const { value, textContent } of [...select.options]) {
       select.value = value;
       say(select);
@@ -125,8 +126,9 @@ class Compared(unittest.TestCase):
             ]
             self.assertEqual([it[: 3 + len(levels)] for it in place["rows"]], wanted, (epoch, keyspace))
             quorums = needs[:: len(levels)]
-            least = [min(len(it.reads) - it.read_need for it in quorums), min(len(it.writes) - it.write_need for it in quorums)]
-            self.assertEqual(place["step"], f"{least[0]} / {least[1]}")
+            reads = min(len(it.reads) - it.read_need for it in quorums)
+            writes = min(len(it.writes) - it.write_need for it in quorums)
+            self.assertEqual(place["step"], f"{reads} / {writes}")
 
     def named(self, ids):
         """Returns nodes as a page names them."""
@@ -160,8 +162,9 @@ class Examples(Compared):
             for script in scripts:
                 name = os.path.basename(script)[:-7]
                 log = os.path.join(self.folder, f"{name}.log")
+                words = [program(), "commit", log, "example"]
                 with open(script, "rb") as it:
-                    subprocess.run([program(), "commit", log, "example"], stdin=it, stdout=subprocess.DEVNULL, check=False)
+                    subprocess.run(words, stdin=it, stdout=subprocess.DEVNULL, check=False)
                 with self.subTest(name):
                     self.check(browser, log, page(log))
 
@@ -180,7 +183,8 @@ class Plans(InTutorial, Compared):
         with Browser() as browser:
             shown = browser.open(page("shop.log", "--plan", "plan.script"))
             self.assertEqual(shown.run("document.querySelectorAll('#step-list .step').length"), 21)
-            self.assertEqual(shown.run("document.querySelector('.next').previousSibling.textContent"), "register 10.0.0.5 dc1 rack1")
+            said = shown.run("document.querySelector('.next').previousSibling.textContent")
+            self.assertEqual(said, "register 10.0.0.5 dc1 rack1")
             shown.run("document.querySelector('.phases button:nth-of-type(1)').click()")
             self.assertIn("epoch 13", shown.run("document.title"))
             self.assertEqual(shown.faults(), [])
@@ -194,7 +198,8 @@ class Plans(InTutorial, Compared):
 
     def test_streams_are_those_of_the_program(self):
         self.assertEqual(cluster("apply", "shop.log", "plan.script")[0], 1)
-        table = "[...document.querySelectorAll('.flight tbody tr')].map((row) => [...row.children].map((it) => it.textContent))"
+        rows = "[...document.querySelectorAll('.flight tbody tr')]"
+        table = f"{rows}.map((row) => [...row.children].map((it) => it.textContent))"
         now = state("shop.log")
         name = {it.id: it.name for it in now.nodes.nodes}
         with Browser() as browser:
@@ -241,7 +246,7 @@ class Plans(InTutorial, Compared):
         self.assertEqual(cluster("apply", "shop.log", "plan.script")[0], 1)
         status, _, said = cluster("page", "shop.log", "--plan", "plan.script")
         self.assertEqual(status, 1)
-        self.assertIn("plan.script:2: register 10.0.0.5 dc1 rack1: NO NAME-TAKEN 5; if a part of the plan is done", said)
+        self.assertIn("plan.script:2: register 10.0.0.5 dc1 rack1: NO NAME-TAKEN 5; if a part of the", said)
         self.assertEqual(cluster("page", "shop.log", "--plan", "plan.script", "--from", "8")[0], 0)
 
 
