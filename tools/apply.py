@@ -1,25 +1,26 @@
-"""The verb `apply`: commands with names in the place of ids go to a log, one after another, up to the first refusal."""
+"""The verb `apply`: commands with names in the place of ids go to a log, one after another, with a question where it matters."""
 from __future__ import annotations
 
 import argparse
-import re
 import sys
 from contextlib import ExitStack
-from dataclasses import dataclass
-from typing import Dict, Iterator, List, Optional, Union
+from typing import Dict, List, Sequence
 
 from tools import names as naming
-from tools.answers import is_refusal
+from tools.committer import Committer, Done, in_order
 from tools.errors import Refused
-from tools.grammar import COMMANDS, fault_of_command
-from tools.log import cluster_of, copy_of, fresh_ids, is_absent_or_empty, state, words_on
+from tools.grammar import fault_of_command
+from tools.lock import Lock
+from tools.log import cluster_of, copy_of, epochs_by_id, is_absent_or_empty, last_epoch, words_on
 from tools.names import Names, names_of
+from tools.on_disk import place_of
 from tools.program import Session
-from tools.terms import NUMBER, plural
-from tools.text import fault, name_of, read_lines
+from tools.questions import KINDS, confirm, kind_of, question
+from tools.script import Script, Step, read_script, translate
+from tools.terms import plural
 from tools.words import add_cluster
 
-NAME, HELP = "apply", "commit a script with names in the place of ids, up to the first refusal"
+NAME, HELP = "apply", "commit a script with names in the place of ids, and ask before each step that changes reads or writes"
 EXAMPLE = """example of a script (# begins a remark):
   register 10.0.1.16 east rack1
   prepare-replace 10.0.1.16 10.0.1.12
@@ -28,26 +29,15 @@ EXAMPLE = """example of a script (# begins a remark):
   mid-replace 10.0.1.16
   finish-replace 10.0.1.16
 
+The program first answers the whole script on a copy: if it refuses a line, nothing is done. Lines that are in the log
+already are passed over, so the same words go on where a run was stopped.
+
 example:
   bin/cluster apply cluster.log replace.script --dry-run
   bin/cluster apply cluster.log replace.script
-  bin/cluster apply cluster.log replace.script --from 6    # after a stop: go on with line 6"""
+  bin/cluster apply cluster.log replace.script --yes start   # another kind of question is still asked"""
 
 LONG = 100  # lines, from which on progress is shown
-
-
-@dataclass(frozen=True)
-class Step:
-    """A command of the script: its line, the id that it brings itself, if any, and its words."""
-
-    line: int
-    id: Optional[str]
-    words: List[str]
-
-    @property
-    def said(self) -> str:
-        """The command as the script has it."""
-        return " ".join(self.words)
 
 
 def words(parser: argparse.ArgumentParser) -> None:
@@ -61,179 +51,135 @@ def words(parser: argparse.ArgumentParser) -> None:
     )
     parser.add_argument("--dry-run", action="store_true", help="try it on a copy: the log stays as it is")
     parser.add_argument(
-        "--yes", action="store_true", help="don't ask before a mid- step, from which on new nodes are read"
+        "--yes", metavar="KIND", choices=KINDS, action="append", default=[],
+        help="answer the questions of this kind with yes: start, mid, finish, or epoch; may be repeated",
     )
+    parser.add_argument("--wait", metavar="SECONDS", type=float, default=0.0, help="wait for another writer of the log")
+    parser.add_argument("--no-lock", action="store_true", help="go on without a lock: nothing else may write the log")
     add_cluster(parser)
 
 
 def run(options: argparse.Namespace) -> int:
-    """Applies a script, and returns 1 where a line was refused or not confirmed."""
-    steps = [it for it in read_steps(options.script) if it.line >= options.begin]
+    """Applies a script."""
+    script = read_script(options.script)
+    steps = [it for it in script.steps if it.line >= options.begin]
     if not steps:
-        raise Refused(f"{name_of(options.script)}: no command is there from line {options.begin} on")
+        raise Refused(f"{script.name}: no command is there from line {options.begin} on")
+    names = names_of(options.log)
+    check_forms(script, steps, names)
     with ExitStack() as stack:
-        log = options.log
-        if options.dry_run and not is_absent_or_empty(log):
-            log = stack.enter_context(copy_of(log))
-        applier = Applier(options, names_of(options.log), log)
-        applier.check(steps)
-        commit = words_for(options, log)
-        if not options.dry_run:
-            applier.names.save(naming.path_of(options.log))
-        return applier.apply(steps, stack.enter_context(Session(commit)))
-
-
-def words_for(options: argparse.Namespace, log: str) -> List[str]:
-    """Returns the words after `tcm commit`: for the log, or for a trial those for its copy, none without a log."""
-    named, given = cluster_of(log), options.cluster
-    if named and given not in (None, named):
-        raise Refused(f"{options.log}: this is the log of the cluster {named}, and not of {given}")
-    if options.dry_run:
-        return words_on(log) if log != options.log else []
-    if not named and not given:
-        raise Refused(f"{log}: a log that is made needs the name of its cluster: --cluster NAME")
-    return [log, named or given]
-
-
-def read_steps(path: str) -> Iterator[Step]:
-    """Gives the commands of a script; empty lines and lines that begin with # are passed over."""
-    for number, line in enumerate(read_lines(path), 1):
-        said = line.strip().split()
-        if not said or said[0].startswith("#"):
-            continue
-        has_id = len(said) > 2 and said[0] == "commit" and re.fullmatch(r"\d+", said[1])
-        step = Step(number, said[1], said[2:]) if has_id else Step(number, None, said)
-        if step.words[0] not in COMMANDS:
-            raise fault(name_of(path), number, f"`{step.words[0][:40]}` is no command: {', '.join(COMMANDS)}")
-        yield step
-
-
-class Applier:
-    """Sends commands to a log; it knows the ids of nodes and the ids that commits may have."""
-
-    def __init__(self, options: argparse.Namespace, names: Names, log: str) -> None:
-        """Reads the last state of the log."""
-        self.options, self.names = options, names
-        self.script = name_of(options.script)
-        self.ids: Dict[str, int] = {}
-        self.epoch, self.next_id = 0, 1
-        is_new = is_absent_or_empty(log)
-        self.fresh = fresh_ids(log)
-        if not is_new:
-            now = state(log)
-            self.ids = {it.name: it.id for it in now.nodes.nodes}
-            self.epoch, self.next_id = now.epoch, now.next_id
-
-    def apply(self, steps: List[Step], session: Session) -> int:
-        """Sends commands up to the first that is refused or not confirmed, and returns the status."""
-        for done, step in enumerate(steps):
-            self.progress(done, len(steps))
-            command = self.command_of(step)
-            if step.words[0].startswith("mid-") and not self.confirmed(step):
-                print(
-                    f"{self.script}:{step.line}: not confirmed, so nothing from here on is done; later: --from "
-                    f"{step.line}",
-                    file=sys.stderr,
-                )
-                return 1
-            answer = self.ask(step, session, command)
-            self.say(f"{self.script}:{step.line}: {step.said}: {answer}")
-            if is_refusal([answer]):
-                print(
-                    f"{self.script}:{step.line}: refused, so nothing from here on is done; see docs/operators.md, "
-                    "What each refusal means",
-                    file=sys.stderr,
-                )
-                return 1
-            self.learn(step, int(answer.split()[1]))
-        self.progress(len(steps), len(steps))
-        where = " on a copy; the log is as it was" if self.options.dry_run else f"; the last epoch is {self.epoch}"
-        print(f"{plural(len(steps), 'command')} accepted{where}")
+        locks: Sequence[int] = []
+        if not options.dry_run and not options.no_lock:
+            locks = stack.enter_context(Lock(locked_path(options.log), options.wait)).held
+        commit = words_for(options, script)
+        epoch = 0 if is_absent_or_empty(options.log) else last_epoch(options.log)
+        used = epochs_by_id(options.log)
+        found = tried(options, script, steps, Committer(None, names, epoch, dict(used)))
+        if options.dry_run:
+            print(f"{plural(len(steps), 'command')} accepted on a copy; the log is as it was")
+            return 0
+        rest = passed_over(script, found)
+        if rest and script.cluster:
+            check_epoch(options, script, epoch, used)
+        if rest:
+            names.save(naming.path_of(options.log))
+            session = stack.enter_context(Session(commit, locks))
+            apply(options, script, rest, Committer(session, names, epoch, used))
         return 0
 
-    def ask(self, step: Step, session: Session, command: str) -> str:
-        """Commits a command, and returns its answer."""
-        try:
-            return session.ask(f"commit {step.id or next(self.fresh)} {command}")[0]
-        except Refused as why:
-            look = "it may be in the log: look by bin/cluster status, then go on with --from"
-            raise fault(self.script, step.line, f"no answer came ({why}); {look}") from why
 
-    def check(self, steps: List[Step]) -> None:
-        """Checks the form of all commands, and that their nodes are in the log or registered before."""
-        known = set(self.ids)
+def locked_path(log: str) -> str:
+    """Returns the file that is locked for a log: its disk, if it is on one."""
+    place = place_of(log)
+    return place.disk if place else log
+
+
+def words_for(options: argparse.Namespace, script: Script) -> List[str]:
+    """Returns the words after `tcm commit`, once cluster and plan are seen to fit the log."""
+    named, given = cluster_of(options.log), options.cluster
+    if named and given not in (None, named):
+        raise Refused(f"{options.log}: this is the log of the cluster {named}, and not of {given}")
+    cluster = named or given
+    if script.cluster and cluster and script.cluster != cluster:
+        raise Refused(f"{script.name}: this is a plan of the cluster {script.cluster}, and {options.log} is of {cluster}")
+    if not cluster and not options.dry_run:
+        raise Refused(f"{options.log}: a log that is made needs the name of its cluster: --cluster NAME")
+    return [options.log, cluster or "copy"]
+
+
+def check_forms(script: Script, steps: List[Step], names: Names) -> None:
+    """Checks the form of all commands."""
+    for step in steps:
+        wrong = fault_of_command(" ".join(translate(step.words, names)), lambda _: True)
+        if wrong:
+            raise script.at(step, f"{wrong.why}; nothing is done")
+
+
+def check_epoch(options: argparse.Namespace, script: Script, epoch: int, used: Dict[int, int]) -> None:
+    """Asks where the log has commands since the plan was made that aren't the plan's."""
+    if epoch < script.epoch:
+        raise Refused(f"{script.name}: the plan is of epoch {script.epoch}, and {options.log} has only {epoch} epochs")
+    ours = {it.id for it in script.steps}
+    since = [at for number, at in used.items() if at > script.epoch and number not in ours]
+    if since:
+        said = f"the log has {plural(len(since), 'command')} since epoch {script.epoch} that aren't of this plan. Go on?"
+        confirm(script.name, said, "epoch", options.yes)
+
+
+def tried(options: argparse.Namespace, script: Script, steps: List[Step], committer: Committer) -> List[Done]:
+    """Returns what becomes of the commands on a copy, where each has to be accepted."""
+    with ExitStack() as stack:
+        is_new = is_absent_or_empty(options.log)
+        copy = [] if is_new else words_on(stack.enter_context(copy_of(options.log)))
+        committer.session = stack.enter_context(Session(copy))
+        found: List[Done] = []
         for step in steps:
-            said = translate(step.words, self.names)
-            wrong = fault_of_command(" ".join(said), lambda it: it in known or bool(NUMBER.fullmatch(it)))
-            if wrong:
-                raise fault(self.script, step.line, f"{wrong.why}; nothing is done")
-            if said[0] == "register":
-                known.add(said[1])
+            try:
+                found.append(committer.commit(script, step))
+            except Refused as why:
+                raise type(why)(f"{why}; tried on a copy, and nothing is done") from why
+            if options.dry_run:
+                say(f"{script.name}:{step.line}: {step.said}: OK {found[-1].epoch}")
+        in_order(script, found)
+        return found
 
-    def command_of(self, step: Step) -> str:
-        """Returns a command with the names of the log, and ids in the place of names of nodes."""
-        said = translate(step.words, self.names)
-        is_node = [it in ("NODE", "GONE") for it in COMMANDS[said[0]]]
-        first = [str(self.id_of(it)) if node else it for it, node in zip(said[1:], is_node)]
-        return " ".join([said[0], *first, *said[1 + len(is_node) :]])
 
-    def id_of(self, name: str) -> Union[int, str]:
-        """Returns the id of the node with a name; a number that is no name is an id itself."""
-        return self.ids.get(name, name)
-
-    def learn(self, step: Step, epoch: int) -> None:
-        """Keeps in mind what an accepted command changed."""
-        if epoch <= self.epoch:  # (a commit that came again)
-            return
-        self.epoch = epoch
-        if step.words[0] == "register":
-            self.ids[self.names.here("node", step.words[1])] = self.next_id
-            self.next_id += 1
-        elif step.words[0] == "unregister":
-            gone = str(self.id_of(self.names.here("node", step.words[1])))
-            self.ids = {name: it for name, it in self.ids.items() if str(it) != gone}
-
-    def confirmed(self, step: Step) -> bool:
-        """Returns whether the one who runs this says that the data is there."""
-        if self.options.yes or self.options.dry_run:
-            return True
-        if not sys.stdin.isatty():
-            print("a mid- step is to be confirmed on a terminal, or by --yes", file=sys.stderr)
-            return False
+def passed_over(script: Script, found: List[Done]) -> List[Step]:
+    """Returns the commands that are still to be committed, and tells which are in the log already."""
+    before = [it for it in found if it.again]
+    if before:
+        last = before[-1]
+        are = "is" if len(before) == 1 else "are"
         print(
-            f"{step.said}: from this step on the new replicas are read. Have they streamed all their data? [y/N] ",
-            end="",
-            file=sys.stderr,
+            f"{script.name}:{last.step.line}: {plural(len(before), 'command')} up to here {are} in the log already, up "
+            f"to epoch {last.epoch}, and {are} passed over",
             flush=True,
         )
-        return sys.stdin.readline().strip().lower() in ("y", "yes")
-
-    def say(self, line: str) -> None:
-        """Prints a line over the one that shows progress."""
-        if sys.stderr.isatty():
-            print("\r\033[K", end="", file=sys.stderr, flush=True)
-        print(line, flush=True)
-
-    def progress(self, done: int, all_: int) -> None:
-        """Shows on a terminal how far a long script is."""
-        if all_ >= LONG and sys.stderr.isatty():
-            end = "\r\033[K" if done == all_ else ""
-            print(f"\r\033[K{done} of {all_}{end}", end="", file=sys.stderr, flush=True)
+    return [it.step for it in found if not it.again]
 
 
-def translate(said: List[str], names: Names) -> List[str]:
-    """Returns the words of a command with the names that the log has for those of Cassandra."""
-    head, rest = said[0], said[1:]
-    if head == "register" and len(rest) == 3:
-        return [head, names.choose("node", rest[0]), names.choose("datacenter", rest[1]), names.choose("rack", rest[2])]
-    if head in ("keyspace", "drop-keyspace") and rest:
-        factors = [topology_word(it, names) if rest[1] == "topology" else it for it in rest[2:]]
-        return [head, names.choose("keyspace", rest[0]), *rest[1:2], *factors]
-    count = sum(it in ("NODE", "GONE") for it in COMMANDS[head])
-    return [head, *(names.here("node", it) for it in rest[:count]), *rest[count:]]
+def apply(options: argparse.Namespace, script: Script, steps: List[Step], committer: Committer) -> None:
+    """Commits commands, with the questions before them."""
+    for done, step in enumerate(steps):
+        progress(done, len(steps))
+        kind = kind_of(step)
+        if kind:
+            where = f"{script.name}:{step.line}: {step.said}"
+            confirm(where, question(script, step, committer.epoch), kind, options.yes)
+        say(f"{script.name}:{step.line}: {step.said}: OK {committer.commit(script, step).epoch}")
+    progress(len(steps), len(steps))
+    print(f"{plural(len(steps), 'command')} accepted; the last epoch is {committer.epoch}")
 
 
-def topology_word(said: str, names: Names) -> str:
-    """Returns DC:RF with the name that the log has for a datacenter."""
-    dc, colon, factor = said.rpartition(":")
-    return f"{names.choose('datacenter', dc)}:{factor}" if colon else said
+def say(line: str) -> None:
+    """Prints a line over the one that shows progress."""
+    if sys.stderr.isatty():
+        print("\r\033[K", end="", file=sys.stderr, flush=True)
+    print(line, flush=True)
+
+
+def progress(done: int, all_: int) -> None:
+    """Shows on a terminal how far a long script is."""
+    if all_ >= LONG and sys.stderr.isatty():
+        end = "\r\033[K" if done == all_ else ""
+        print(f"\r\033[K{done} of {all_}{end}", end="", file=sys.stderr, flush=True)

@@ -7,6 +7,7 @@ from itertools import count
 from typing import Callable, Dict, Iterator, List, Tuple
 
 from tools.answers import is_refusal
+from tools.commits import accepted
 from tools.log import State
 from tools.program import Session
 
@@ -45,8 +46,8 @@ def couplings(now: State, attempts: List[Attempt]) -> Dict[int, List[Coupling]]:
         def send(command: str) -> List[str]:
             return session.ask(f"commit {next(numbers)} {command}")
 
-        for command in set_up(now, ids):
-            send(command)
+        for epoch, command in enumerate(set_up(now, ids), 1):
+            accepted(send(command), epoch)
         for first, keyspaces in now.distinct().items():
             send(f"keyspace {first} {now.replications[first]}")
             for node, other, end in try_all(send, tries, ids):

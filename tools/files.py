@@ -15,7 +15,7 @@ from typing import BinaryIO, Iterable, Iterator, Optional
 from tools.errors import Refused
 
 MOST_HEADER = 16384
-SCRATCH = "tcm-scratch-"
+SCRATCH, HELD = "tcm-scratch-", "held"
 OLD = 60.0  # seconds, after which a folder for a while that nobody holds is left over
 
 
@@ -101,8 +101,11 @@ def scratch() -> Iterator[str]:
 
 
 def hold(folder: str) -> Optional[int]:
-    """Locks a folder as long as this process lives, and returns the descriptor; None if another holds it."""
-    held = os.open(folder, os.O_RDONLY | os.O_DIRECTORY)
+    """Locks a folder as long as this process lives, and returns the descriptor; None if another holds it.
+
+    The lock is on a file in it: that on the folder is for writers of logs there.
+    """
+    held = os.open(os.path.join(folder, HELD), os.O_RDWR | os.O_CREAT, 0o600)
     try:
         fcntl.flock(held, fcntl.LOCK_EX | fcntl.LOCK_NB)
         return held

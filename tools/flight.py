@@ -4,6 +4,7 @@ from __future__ import annotations
 from typing import Dict, List, Sequence
 
 from tools.answers import Placement, is_refusal, read_placement
+from tools.commits import accepted
 from tools.errors import Refused
 from tools.log import fresh_ids
 from tools.program import Session
@@ -19,7 +20,7 @@ class Trial:
         """Commits a command, and returns its answer."""
         answer = self.session.ask(f"commit {next(self.fresh)} {command}")
         if not is_refusal(answer):
-            self.epoch = int(answer[0].split()[1])
+            self.epoch = accepted(answer, self.epoch + 1)
         return answer
 
     def commit(self, command: str) -> None:

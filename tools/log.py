@@ -8,7 +8,7 @@ import shutil
 from contextlib import contextmanager
 from dataclasses import dataclass
 from functools import cached_property
-from typing import Any, Dict, Iterable, Iterator, List, Optional, Set
+from typing import Any, Dict, Iterable, Iterator, List, Optional
 
 from tools.answers import Movement, Node, Nodes, Placement, read_nodes, read_placement
 from tools.errors import Refused
@@ -168,25 +168,26 @@ def words_on(copy: str) -> List[str]:
     return [copy, cluster_of(copy) or "copy"]
 
 
-def used_ids(log: str) -> Set[int]:
-    """Returns the ids of the commits in a log file; an absent file has none."""
+def epochs_by_id(log: str) -> Dict[int, int]:
+    """Returns the epochs of the commits in a log file by their ids; an absent file has none."""
     if not is_there(log):
-        return set()
+        return {}
     try:
         with open_log(log) as lines:
-            return {it for it in map(id_of, lines) if it is not None}
+            entries = map(object_in, lines)
+            return {it["entry"]: it["epoch"] for it in entries if is_number(it, "entry") and is_number(it, "epoch")}
     except OSError as why:
         raise Refused(f"{log}: {why.strerror}") from why
 
 
-def id_of(line: bytes) -> Optional[int]:
-    """Returns the id in a line, if it is a whole entry."""
-    return object_in(line).get("entry")
+def is_number(entry: Dict[str, Any], key: str) -> bool:
+    """Returns whether an entry has a number under a key."""
+    return isinstance(entry.get(key), int)
 
 
 def fresh_ids(log: str) -> Iterator[int]:
     """Gives ids that no commit of a log has: the numbers past the greatest, then those that are free below."""
-    used = used_ids(log)
+    used = epochs_by_id(log)
     greatest = max(used, default=0)
     yield from range(greatest + 1, MOST_ID + 1)
     yield from (it for it in range(1, greatest) if it not in used)

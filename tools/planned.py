@@ -1,17 +1,18 @@
 """A script for `apply` that is tried on a copy of a log: its steps, each with its wave and the remarks before it."""
 from __future__ import annotations
 
-import argparse
 import re
-from dataclasses import dataclass, field
+from dataclasses import dataclass, field, replace
 from typing import Dict, List, Optional
 
-from tools.answers import is_refusal
-from tools.apply import Applier, Step, read_steps
+from tools.apply import check_forms
+from tools.committer import Committer
 from tools.errors import Refused
+from tools.log import epochs_by_id, last_epoch
 from tools.names import Names
 from tools.program import Session
-from tools.text import fault, name_of, read_lines
+from tools.script import HEAD, read_script
+from tools.text import read_lines
 
 WAVE = re.compile(r"# Wave (\d+)")
 
@@ -27,26 +28,18 @@ class PlannedStep:
 
 
 def try_plan(script: str, begin: int, copy: str, names: Names, session: Session) -> List[PlannedStep]:
-    """Commits the commands of a script from a line on, which all have to be accepted."""
-    steps = [it for it in read_steps(script) if it.line >= begin]
+    """Commits the commands of a script from a line on, which all have to be accepted or be in the log already."""
+    read = read_script(script)
+    steps = [it for it in read.steps if it.line >= begin]
     if not steps:
-        raise Refused(f"{name_of(script)}: no command is there from line {begin} on")
-    options = argparse.Namespace(log=copy, script=script, dry_run=True, yes=True)
-    applier = Applier(options, names, copy)
-    applier.check(steps)
+        raise Refused(f"{read.name}: no command is there from line {begin} on")
+    check_forms(read, steps, names)
+    committer = Committer(session, names, last_epoch(copy), epochs_by_id(copy))
     remarks = remarks_of(script)
-    return [planned(it, applier, session, remarks) for it in steps]
-
-
-def planned(step: Step, applier: Applier, session: Session, remarks: Dict[int, PlannedStep]) -> PlannedStep:
-    """Commits a step."""
-    answer = applier.ask(step, session, applier.command_of(step))
-    if is_refusal([answer]):
-        begun = "if a part of the plan is done, go on with its next line by --from LINE"
-        raise fault(applier.script, step.line, f"{step.said[:80]}: {answer}; {begun}")
-    found = remarks[step.line]
-    found.epoch = int(answer.split()[1])
-    applier.learn(step, found.epoch)
+    found = []
+    for done in [committer.commit(read, it) for it in steps]:
+        if not done.again:
+            found.append(replace(remarks[done.step.line], epoch=done.epoch))
     return found
 
 
@@ -60,8 +53,8 @@ def remarks_of(script: str) -> Dict[int, PlannedStep]:
         begins = WAVE.fullmatch(said)
         if begins:
             wave, remarks = int(begins[1]), []
-        elif said.startswith("#"):
+        elif said.startswith("#") and not HEAD.fullmatch(said):
             remarks.append(said.lstrip("# "))
-        elif said:
+        elif said and not said.startswith("#"):
             found[number], remarks = PlannedStep(number, 0, wave, remarks), []
     return found

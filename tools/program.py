@@ -8,8 +8,9 @@ from dataclasses import dataclass
 from typing import List, Sequence
 
 from tools.answers import lines_after
-from tools.errors import Refused
+from tools.errors import NotReady, Refused, Unclear
 from tools.on_disk import commit_words
+from tools.process import tied
 
 TOP = os.path.dirname(os.path.dirname(os.path.realpath(__file__)))
 
@@ -39,18 +40,27 @@ def run(words: Sequence[str], script: bytes = b"") -> Run:
     except OSError as why:
         raise Refused(f"{program()} can't be run: {why.strerror}") from why
     if ended.returncode == 125:
-        raise Refused(f"{program()} isn't there to answer; what it said stands above")
+        raise NotReady(f"{program()} isn't there to answer; what it said stands above")
     return Run(ended.returncode, ended.stdout)
 
 
 class Session:
     """A run of `tcm commit` that answers one line after another. A context manager: leaving it ends the run."""
 
-    def __init__(self, words: Sequence[str] = ()):
-        """Starts `tcm commit` with these words: none, or a log file and the name of its cluster."""
+    def __init__(self, words: Sequence[str] = (), locks: Sequence[int] = ()):
+        """Starts `tcm commit` with these words: none, or a log file and the name of its cluster.
+
+        The run ends with this process, however that ends, and holds the descriptors that lock the log until then.
+        """
+        env = {**os.environ, "TCM_LOCK_FDS": ",".join(map(str, locks))} if locks else None
         try:
             self.process = subprocess.Popen(
-                [program(), *commit_words(words)], stdin=subprocess.PIPE, stdout=subprocess.PIPE
+                [program(), *commit_words(words)],
+                stdin=subprocess.PIPE,
+                stdout=subprocess.PIPE,
+                preexec_fn=tied(),  # pylint: disable=subprocess-popen-preexec-fn
+                pass_fds=tuple(locks),
+                env=env,
             )
         except OSError as why:
             raise Refused(f"{program()} can't be run: {why.strerror}") from why
@@ -73,7 +83,7 @@ class Session:
     def ask(self, line: str) -> List[str]:
         """Sends a line, and returns the lines of its answer."""
         try:
-            self.process.stdin.write(line.encode() + b"\n")
+            self.process.stdin.write(line.encode("utf-8", "surrogateescape") + b"\n")
             self.process.stdin.flush()
         except BrokenPipeError:
             pass  # (the answer that is missing tells)
@@ -105,7 +115,7 @@ class Session:
         """Reads a line."""
         line = self.process.stdout.readline()
         if not line.endswith(b"\n"):
-            raise Refused(
-                f"tcm ended with status {self.close()} before it answered; see docs/operators.md, After each status"
-            )
+            status = self.close()
+            why = f"tcm ended with status {status} before it answered; see docs/operators.md, After each status"
+            raise NotReady(why) if status == 125 else Unclear(why)
         return line[:-1].decode("ascii", "replace")

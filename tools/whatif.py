@@ -5,11 +5,13 @@ import argparse
 from typing import Dict, List, Sequence
 
 from tools.errors import Refused
+from tools.log import cluster_of, last_epoch
 from tools.margins import Level, Margin
 from tools.names import Names, names_of
 from tools.runbook.page import page_of
 from tools.runbook.tasks import planned
 from tools.runbook.words import add_runbook, loads_of, version_of
+from tools.script import head_of
 from tools.show import print_json, print_lines, table
 from tools.terms import listed, percent, plural
 from tools.text import name_of, read_lines, write_text
@@ -45,9 +47,10 @@ def run(options: argparse.Namespace) -> int:
     """Plans, and returns 1 where a wish can't come true."""
     wishes, down = read_wishes(read_lines(options.moves), name_of(options.moves))
     names = names_of(options.log)
+    head = head_of(cluster_of(options.log) or "-", last_epoch(options.log))
     made = plan(options.log, dead_first(wishes, down), down, names, options.seed)
     if options.script:
-        write_text(options.script, script_of(made, names))
+        write_text(options.script, f"{head}\n{script_of(made, names)}")
     if options.runbook:
         waves = planned(options.log, made, names, down, loads_of(options))
         print_lines(page_of(f"A plan for {options.log}", waves, version_of(options), script_said(options)))

@@ -12,6 +12,7 @@ from tools.main import main
 from tools.program import TOP, program
 
 TUTORIAL = os.path.join(TOP, "examples", "tutorial")
+YES = [word for kind in ("start", "mid", "finish") for word in ("--yes", kind)]
 needs_program = unittest.skipUnless(
     os.environ.get("TCM"), "TCM names no program, and bin/tcm may take long to prove one"
 )

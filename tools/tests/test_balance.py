@@ -12,7 +12,7 @@ from tools.log import state
 from tools.placements import read_shares
 from tools.program import Session
 from tools.terms import GREATEST, LEAST, WHOLE
-from tools.tests.cluster import InTutorial, cluster, needs_program
+from tools.tests.cluster import YES, InTutorial, cluster, needs_program
 
 
 class FairShares(unittest.TestCase):
@@ -125,7 +125,7 @@ class Planned(InTutorial):
         shop = next(it for it in json.loads(out)["spreads"] if it["keyspaces"] == ["shop"])
         self.assertGreater(shop["after"][0], shop["before"][0])
         self.assertLess(shop["after"][1], shop["before"][1])
-        cluster("apply", "shop.log", "plan", "--yes")
+        cluster("apply", "shop.log", "plan", *YES)
         now = state("shop.log")
         group = groups_of("topology dc1:3", now.nodes.nodes)["dc1"]
         shares = read_shares(now.place("shop"))

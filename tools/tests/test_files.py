@@ -75,8 +75,8 @@ class Whole(unittest.TestCase):
         files.sweep()
         self.assertTrue(os.path.isdir(left))
         long_ago = time.time() - 2 * files.OLD
-        os.utime(left, (long_ago, long_ago))
         held = files.hold(left)
+        os.utime(left, (long_ago, long_ago))
         files.sweep()
         self.assertTrue(os.path.isdir(left))
         os.close(held)

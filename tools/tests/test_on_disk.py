@@ -42,7 +42,7 @@ class OnDisk(InTutorial):
     def test_apply_commits_on_the_disk(self):
         self.write("new.script", "register 10.0.0.9 dc1 rack1\nprepare-join 10.0.0.9 77\nstart-join 10.0.0.9\n")
         self.assertEqual(self.same("apply", "LOG", "new.script", "--dry-run"), 0)
-        self.assertEqual(self.same("apply", "LOG", "new.script"), 0)
+        self.assertEqual(self.same("apply", "LOG", "new.script", "--yes", "start"), 0)
         self.assertEqual(self.same("moves", "LOG"), 0)
         with open("shop.log", "rb") as it:
             self.assertEqual(file_on("shop.disk", "shop.log"), it.read())

@@ -17,7 +17,7 @@ from tools.program import TOP, Session, program
 from tools.streams import streams_of
 from tools.terms import GREATEST, row_name
 from tools.tests.browser import Browser, needs_chromium
-from tools.tests.cluster import InTutorial, cluster, needs_program
+from tools.tests.cluster import YES, InTutorial, cluster, needs_program
 from tools.text import write_text
 
 # Goes through all epochs and keyspaces by the page's own controls, and returns what stands in its tables.
@@ -193,11 +193,11 @@ class Plans(InTutorial, Compared):
     def test_each_epoch_of_a_plan_is_what_the_program_answers_later(self):
         with Browser() as browser:
             path = page("shop.log", "--plan", "plan.script")
-            self.assertEqual(cluster("apply", "shop.log", "plan.script", "--yes")[0], 0)
+            self.assertEqual(cluster("apply", "shop.log", "plan.script", *YES)[0], 0)
             self.check(browser, "shop.log", path)
 
     def test_streams_are_those_of_the_program(self):
-        self.assertEqual(cluster("apply", "shop.log", "plan.script")[0], 1)
+        self.assertEqual(cluster("apply", "shop.log", "plan.script", "--yes", "start")[0], 4)
         rows = "[...document.querySelectorAll('.flight tbody tr')]"
         table = f"{rows}.map((row) => [...row.children].map((it) => it.textContent))"
         now = state("shop.log")
@@ -243,11 +243,14 @@ class Plans(InTutorial, Compared):
                 self.assertIn(f"epoch {epoch} of 10", shown.run("document.title"))
 
     def test_a_plan_that_is_refused_is_told(self):
-        self.assertEqual(cluster("apply", "shop.log", "plan.script")[0], 1)
-        status, _, said = cluster("page", "shop.log", "--plan", "plan.script")
-        self.assertEqual(status, 1)
-        self.assertIn("plan.script:2: register 10.0.0.5 dc1 rack1: NO NAME-TAKEN 5; if a part of the", said)
-        self.assertEqual(cluster("page", "shop.log", "--plan", "plan.script", "--from", "8")[0], 0)
+        self.write("refused.script", "register 10.0.0.1 dc1 rack1\n")
+        status, _, said = cluster("page", "shop.log", "--plan", "refused.script")
+        self.assertEqual(status, 3)
+        self.assertIn("refused.script:1: register 10.0.0.1 dc1 rack1: NO NAME-TAKEN 1", said)
+
+    def test_a_plan_that_is_half_done_goes_on(self):
+        self.assertEqual(cluster("apply", "shop.log", "plan.script", "--yes", "start")[0], 4)
+        self.assertEqual(cluster("page", "shop.log", "--plan", "plan.script")[0], 0)
 
 
 if __name__ == "__main__":

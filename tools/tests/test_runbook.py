@@ -11,7 +11,7 @@ from tools.runbook.page import page_of, size_said
 from tools.runbook.recipes import steps_of
 from tools.runbook.steps import Stream, Task
 from tools.runbook.versions import VERSIONS
-from tools.tests.cluster import InTutorial, cluster, needs_program
+from tools.tests.cluster import YES, InTutorial, cluster, needs_program
 
 JOIN = Task("join", "n5", "dc1", "rack1", (-7, 9), streams=(Stream("n5", "n1", ("ks",), 2**62, True),), cleanup=("n1",))
 REPLACE = Task("replace", "n5", "dc1", "rack1", (1, 2, 3), gone="n4", gone_is_down=True)
@@ -109,6 +109,6 @@ class Runbooks(InTutorial):
 
     def test_a_movement_in_flight_has_the_steps_that_are_left(self) -> None:
         self.write("join.script", "register n dc1 rack2\nprepare-join n 5\nstart-join n\n")
-        cluster("apply", "shop.log", "join.script", "--yes")
+        cluster("apply", "shop.log", "join.script", *YES)
         page = cluster("moves", "shop.log", "--runbook", "cep-21")[1]
         self.assertEqual(records_in(page), ["mid-join n", "finish-join n"])

@@ -6,10 +6,10 @@ import re
 import subprocess
 
 from tools import compare
-from tools.log import cluster_of, fresh_ids, last_epoch, state
+from tools.log import cluster_of, epochs_by_id, fresh_ids, last_epoch, state
 from tools.names import Names
 from tools.nodetool import read_describering
-from tools.tests.cluster import InTutorial, cluster, command, needs_program
+from tools.tests.cluster import YES, InTutorial, cluster, command, needs_program
 
 REPLACE = """# the dead node
 register 10.0.0.5 dc1 rack1
@@ -113,25 +113,18 @@ class Apply(InTutorial):
         self.write("replace.script", REPLACE)
         self.assertEqual(cluster("apply", "shop.log", "replace.script", "--dry-run")[0], 0)
         self.assertEqual(last_epoch("shop.log"), 10)
-        status, out, _ = cluster("apply", "shop.log", "replace.script", "--yes")
+        status, out, _ = cluster("apply", "shop.log", "replace.script", *YES)
         self.assertEqual((status, last_epoch("shop.log")), (0, 15))
         self.assertIn("replace.script:6: finish-replace 10.0.0.5: OK 15", out)
         self.assertEqual(self.ask("nodes @15\n")[4], "4 10.0.0.4 dc1 rack1 LEFT -")
-        self.assertEqual(next(fresh_ids("shop.log")), 16)
+        self.assertNotIn(next(fresh_ids("shop.log")), epochs_by_id("shop.log"))
 
     def test_it_stops_at_the_first_refusal(self):
         self.write("a.script", "start-replace 10.0.0.1\nregister z dc1 rack1\n")
         status, out, said = cluster("apply", "shop.log", "a.script")
-        self.assertEqual((status, last_epoch("shop.log")), (1, 10))
-        self.assertIn("a.script:1: start-replace 10.0.0.1: NO NO-SEQUENCE", out)
-        self.assertIn("nothing from here on is done", said)
-
-    def test_a_mid_step_is_asked_for(self):
-        self.write("replace.script", REPLACE)
-        ended = command("apply", "shop.log", "replace.script", stdin=subprocess.DEVNULL, stdout=subprocess.PIPE)
-        self.assertEqual((ended.returncode, last_epoch("shop.log")), (1, 13))
-        self.assertIn(b"--from 5", ended.stderr)
-        self.assertEqual(cluster("apply", "shop.log", "replace.script", "--from", "5", "--yes")[0], 0)
+        self.assertEqual((status, out, last_epoch("shop.log")), (3, "", 10))
+        self.assertIn("a.script:1: start-replace 10.0.0.1: NO NO-SEQUENCE", said)
+        self.assertIn("nothing is done", said)
 
     def test_a_new_log_needs_the_name_of_its_cluster(self):
         self.write("a.script", "register z dc1 rack1\n")
@@ -171,7 +164,7 @@ class Plans(InTutorial):
         self.assertEqual((status, last_epoch("shop.log")), (0, 10))
         self.assertLess(out.index("replace 10.0.0.5 for 10.0.0.4"), out.index("Wave 2"))
         self.assertIn("(10.0.0.6 waits for 10.0.0.5, coupled by logs, shop)", out)
-        self.assertEqual(cluster("apply", "shop.log", "plan.script", "--yes")[0], 0)
+        self.assertEqual(cluster("apply", "shop.log", "plan.script", *YES)[0], 0)
         self.assertFalse(state("shop.log").movements)
 
     def test_margins_count_the_node_that_is_down(self):
@@ -190,18 +183,18 @@ class Plans(InTutorial):
 
     def test_movements_in_flight_are_planned_with(self):
         self.write("replace.script", REPLACE)
-        cluster("apply", "shop.log", "replace.script")  # (it stops before the mid- step)
+        cluster("apply", "shop.log", "replace.script", "--yes", "start")  # (it stops before the mid- step)
         self.write("w.txt", "join 10.0.0.6 dc1 rack2 4 tokens\n")
         told = json.loads(cluster("whatif", "shop.log", "w.txt", "--json", "--script", "plan.script")[1])
         self.assertEqual(
             told["waves"][0]["in_flight_already"], [{"node": "10.0.0.5", "kind": "replace", "phase": "STARTED"}]
         )
         self.assertEqual([it["node"] for it in told["waves"][0]["waiting"][0]["coupled"]], ["10.0.0.5"] * 2)
-        self.assertEqual(cluster("apply", "shop.log", "plan.script", "--yes")[0], 0)
+        self.assertEqual(cluster("apply", "shop.log", "plan.script", *YES)[0], 0)
 
     def test_moves_cover_what_place_shows(self):
         self.write("replace.script", REPLACE)
-        cluster("apply", "shop.log", "replace.script")
+        cluster("apply", "shop.log", "replace.script", "--yes", "start")
         told = json.loads(cluster("moves", "shop.log", "--down", "10.0.0.4", "--json")[1])[0]
         gone = json.loads(cluster("status", "shop.log", "--json")[1])["nodes"][3]
         self.assertEqual({it["keyspaces"][0]: it["share"] for it in told["streams"]}, gone["shares"])

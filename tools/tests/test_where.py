@@ -12,7 +12,7 @@ from tools.errors import Refused
 from tools.keys import serialized, types_for
 from tools.murmur3 import hash_of, token_of
 from tools.terms import GREATEST, LEAST
-from tools.tests.cluster import InTutorial, cluster, needs_program
+from tools.tests.cluster import YES, InTutorial, cluster, needs_program
 
 DRIVER = """
 import sys
@@ -159,7 +159,7 @@ class Where(InTutorial):
 
     def test_a_pending_node_is_written_only(self) -> None:
         self.write("join.script", "register n dc1 rack2\nprepare-join n 5\nstart-join n\n")
-        cluster("apply", "shop.log", "join.script", "--yes")
+        cluster("apply", "shop.log", "join.script", *YES)
         found = [cluster("where", "shop.log", "shop", str(it))[1] for it in range(30)]
         self.assertTrue(any("written only (pending)" in it for it in found))
         before = cluster("where", "shop.log", "shop", "0", "--epoch", "@10")
