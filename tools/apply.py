@@ -1,4 +1,4 @@
-"""The verb `apply`: commands with names in the place of ids go to a log, one after another, with a question where it matters."""
+"""The verb `apply`: commands with names in the place of ids go to a log, with a question where it matters."""
 from __future__ import annotations
 
 import argparse
@@ -20,7 +20,7 @@ from tools.script import Script, Step, read_script, translate
 from tools.terms import plural
 from tools.words import add_cluster
 
-NAME, HELP = "apply", "commit a script with names in the place of ids, and ask before each step that changes reads or writes"
+NAME, HELP = "apply", "commit a script with names in the place of ids, and ask before steps that change reads or writes"
 EXAMPLE = """example of a script (# begins a remark):
   register 10.0.1.16 east rack1
   prepare-replace 10.0.1.16 10.0.1.12

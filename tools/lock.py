@@ -81,7 +81,7 @@ class Lock:
         """Says who holds the lock, and what to do."""
         holder = holder_of(os.fstat(opened).st_ino)
         who = f"process {holder}" if holder else "another process"
-        return f"{self.path}: {who} writes it now, and one at a time may; wait for its end, or wait here by --wait SECONDS"
+        return f"{self.path}: {who} writes it now, and one at a time may; wait for its end, here by --wait SECONDS"
 
 
 def holder_of(inode: int) -> Optional[int]:

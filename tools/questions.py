@@ -45,7 +45,8 @@ def confirm(where: str, said: str, kind: str, yes: Sequence[str]) -> None:
         return
     print(f"{where}: {said}", file=sys.stderr)
     if not sys.stdin.isatty():
-        raise NotConfirmed(f"{where}: not confirmed, so nothing from here on is done; answer on a terminal, or by --yes {kind}")
+        why = f"not confirmed, so nothing from here on is done; answer on a terminal, or by --yes {kind}"
+        raise NotConfirmed(f"{where}: {why}")
     print("[y/N] ", end="", file=sys.stderr, flush=True)
     if sys.stdin.readline().strip().lower() not in ("y", "yes"):
         raise NotConfirmed(f"{where}: not confirmed, so nothing from here on is done; apply it again to go on here")
