@@ -3,14 +3,12 @@ from __future__ import annotations
 
 import argparse
 import os
-import shutil
 import sys
 import tempfile
 from dataclasses import dataclass, field
-from typing import List, Set
+from typing import Any, Dict, List, Optional, Set
 
 from tools import names as naming
-from tools.answers import is_refusal
 from tools.errors import Refused, WrongWords
 from tools.log import is_absent_or_empty
 from tools.names import Names
@@ -25,6 +23,7 @@ from tools.terms import (
     MOST_RF,
     MOST_TOKENS,
     MOST_TOKENS_OF_NODE,
+    is_token,
     listed,
     plural,
 )
@@ -47,6 +46,7 @@ class Imported:
     commands: List[str]
     names: Names
     notes: List[str] = field(default_factory=list)
+    movements: Dict[int, RingNode] = field(default_factory=dict)  # by the place of the command that prepares each
 
     @property
     def script(self) -> str:
@@ -54,21 +54,48 @@ class Imported:
         return "".join(f"commit {i} {it}\n" for i, it in enumerate(self.commands, 1))
 
 
+@dataclass(frozen=True)
+class Source:
+    """What messages call the files, and the datacenters of the ring."""
+
+    ring: str
+    schema: str
+    datacenters: List[str]
+
+
+def datacenters_of(nodes: List[RingNode]) -> List[str]:
+    """Returns the datacenters of nodes."""
+    return sorted({it.dc for it in nodes})
+
+
 def words(parser: argparse.ArgumentParser) -> None:
     """Declares the words of the verb."""
     parser.add_argument("ring", metavar="RING", help="what nodetool ring printed; - is standard input")
     parser.add_argument("schema", metavar="SCHEMA", help="what DESCRIBE SCHEMA or DESCRIBE KEYSPACE of cqlsh printed")
     to = parser.add_mutually_exclusive_group(required=True)
-    to.add_argument("--log", metavar="LOG", help="the log to make, with LOG.names where names differ; needs --cluster")
-    script = "the script to make, with FILE.names where names differ: copy it to LOG.names of the log that you make"
+    to.add_argument("--log", metavar="LOG", help="the log to make, with its names in LOG.names; needs --cluster")
+    script = "the script to make, with its names in FILE.names: copy it to LOG.names of the log that you make"
     add_output(to, parser, "--script", script)
     add_cluster(parser)
+    more: Dict[str, Any] = {"action": "append", "default": []}
     parser.add_argument(
-        "--leave-out",
-        metavar="KEYSPACE",
-        action="append",
-        default=[],
-        help="a keyspace to leave out, by its name; may be repeated",
+        "--leave-out", metavar="KEYSPACE", help="a keyspace to leave out, by its name; may be repeated", **more
+    )
+    parser.add_argument(
+        "--moving",
+        metavar=("NODE", "TOKEN"),
+        nargs=2,
+        help="the token to which a node moves, as nodetool ring doesn't say it; may be repeated",
+        **more,
+    )
+    parser.add_argument(
+        "--settled",
+        metavar="NODE",
+        help="a node that is to have no movement in the log: a joining one is only registered; may be repeated",
+        **more,
+    )
+    parser.add_argument(
+        "--skip-unknown", action="store_true", help="pass over lines of SCHEMA that begin no statement, and name them"
     )
 
 
@@ -79,14 +106,23 @@ def run(options: argparse.Namespace) -> int:
     if options.log and not options.cluster:
         raise WrongWords("a log needs the name of its cluster: --cluster NAME")
     nodes = read_ring(read_lines(options.ring), name_of(options.ring))
-    keyspaces = read_schema(read_text(options.schema), name_of(options.schema))
-    imported = import_cluster(nodes, keyspaces, set(options.leave_out), name_of(options.ring), name_of(options.schema))
-    to = options.log or options.script
+    skipped: Optional[List[str]] = [] if options.skip_unknown else None
+    keyspaces = read_schema(read_text(options.schema), name_of(options.schema), skipped)
+    source = Source(name_of(options.ring), name_of(options.schema), datacenters_of(nodes))
+    imported = import_cluster(nodes, keyspaces, set(options.leave_out), source)
+    imported.notes += [f"{source.schema}: {it}" for it in skipped or []]
+    add_movements(imported, nodes, asked_of(options, nodes), source.ring)
     if options.log:
         make_log(options.log, options.cluster, imported)
     else:
         write_text(options.script, imported.script)
-    kept = imported.names.save(naming.path_of(to))
+        imported.names.save(naming.path_of(options.script))
+    tell(options.log or options.script, imported, nodes)
+    return 0
+
+
+def tell(to: str, imported: Imported, nodes: List[RingNode]) -> None:
+    """Says what was made."""
     for note in imported.notes:
         print(f"cluster: {note}", file=sys.stderr)
     tokens = sum(len(it.tokens) for it in nodes)
@@ -95,37 +131,34 @@ def run(options: argparse.Namespace) -> int:
         f"{to}: {plural(len(nodes), 'node')}, {plural(tokens, 'token')}, {plural(made, 'keyspace')}, "
         f"{plural(len(imported.commands), 'command')}"
     )
-    if kept:
-        print(
-            f"{naming.path_of(to)}: {plural(len(imported.names.differing()), 'name')} that differ from those of "
-            "Cassandra"
-        )
-    return 0
+    differing = imported.names.differing()
+    if differing:
+        print(f"{naming.path_of(to)}: {plural(len(differing), 'name')} that differ from those of Cassandra")
 
 
 # ---- A cluster as commands
 
 
 def import_cluster(
-    nodes: List[RingNode], keyspaces: List[Keyspace], leave_out: Set[str], ring: str, schema: str
+    nodes: List[RingNode], keyspaces: List[Keyspace], leave_out: Set[str], source: Source
 ) -> Imported:
-    """Returns the commands that make a cluster of these nodes and keyspaces; `ring` and `schema` name their files."""
-    check_limits(nodes, ring)
+    """Returns the commands that make a cluster of these nodes and keyspaces, without movements in flight."""
+    check_limits(nodes, source.ring)
     imported = Imported([], Names())
     add_nodes(imported, nodes)
     unknown = leave_out - {it.name for it in keyspaces}
     if unknown:
-        raise Refused(f"{schema}: no keyspace {listed(sorted(unknown))} is there to be left out")
-    datacenters, unfit_ones = sorted({it.dc for it in nodes}), []
+        raise Refused(f"{source.schema}: no keyspace {listed(sorted(unknown))} is there to be left out")
+    unfit_ones = []
     for keyspace in keyspaces:
         try:
-            add_keyspace(imported, keyspace, datacenters, leave_out, schema)
+            add_keyspace(imported, keyspace, leave_out, source)
         except Refused as why:
             unfit_ones.append(str(why))
     if unfit_ones:
         raise Refused("\n".join(unfit_ones))
     if sum(it.startswith("keyspace ") for it in imported.commands) > MOST_KEYSPACES:
-        raise Refused(f"{schema}: at most {MOST_KEYSPACES} keyspaces have room; leave some out by --leave-out")
+        raise Refused(f"{source.schema}: at most {MOST_KEYSPACES} keyspaces have room; leave some out by --leave-out")
     return imported
 
 
@@ -153,18 +186,8 @@ def add_nodes(imported: Imported, nodes: List[RingNode]) -> None:
             f"register {take('node', node.address)} {take('datacenter', node.dc)} {take('rack', node.rack)}"
         )
     for i, node in enumerate(nodes, 1):
-        if node.state == "Joining":
-            imported.notes.append(
-                f"{node.address} is Joining: it is registered without its {plural(len(node.tokens), 'token')}; join it "
-                "by apply"
-            )
-        else:
-            imported.commands.append(f"unsafe-join {i} {' '.join(str(it) for it in sorted(node.tokens))}")
-        if node.state in ("Leaving", "Moving"):
-            imported.notes.append(
-                f"{node.address} is {node.state}: it is imported with the tokens that it has now, and no movement of "
-                "it is in flight here"
-            )
+        if node.state != "Joining":
+            imported.commands.append(f"unsafe-join {i} {tokens_of(node)}")
         if node.status == "Down":
             imported.notes.append(
                 f"{node.address} is Down: the log doesn't know this, so tell it to whatif by a line `down "
@@ -172,9 +195,12 @@ def add_nodes(imported: Imported, nodes: List[RingNode]) -> None:
             )
 
 
-def add_keyspace(
-    imported: Imported, keyspace: Keyspace, datacenters: List[str], leave_out: Set[str], schema: str
-) -> None:
+def tokens_of(node: RingNode) -> str:
+    """Returns the tokens of a node as scripts write them."""
+    return " ".join(str(it) for it in sorted(node.tokens))
+
+
+def add_keyspace(imported: Imported, keyspace: Keyspace, leave_out: Set[str], source: Source) -> None:
     """Adds the command that makes a keyspace, unless it is to be left out."""
     if keyspace.strategy in LEFT_OUT:
         imported.notes.append(
@@ -183,13 +209,13 @@ def add_keyspace(
     elif keyspace.name in leave_out:
         imported.notes.append(f"the keyspace {keyspace.name} is left out, as --leave-out says")
     else:
-        replication = replication_of(imported, keyspace, datacenters, schema)
+        replication = replication_of(imported, keyspace, source)
         imported.commands.append(f"keyspace {imported.names.take('keyspace', keyspace.name)} {replication}")
 
 
-def replication_of(imported: Imported, keyspace: Keyspace, datacenters: List[str], schema: str) -> str:
+def replication_of(imported: Imported, keyspace: Keyspace, source: Source) -> str:
     """Returns the replication of a keyspace as scripts write it."""
-    options = dict(keyspace.options)
+    options, schema = dict(keyspace.options), source.schema
     if keyspace.strategy == "SimpleStrategy":
         factor = options.pop("replication_factor", None)
         if factor is None or options:
@@ -201,16 +227,15 @@ def replication_of(imported: Imported, keyspace: Keyspace, datacenters: List[str
         raise unfit(keyspace, schema, f"{keyspace.strategy} is neither SimpleStrategy nor NetworkTopologyStrategy")
     rest = options.pop("replication_factor", None)
     if rest is not None:
-        options = {**{it: rest for it in datacenters}, **options}
+        options = {**{it: rest for it in source.datacenters}, **options}
     factors = {dc: factor_of(keyspace, factor, schema) for dc, factor in options.items() if factor != "0"}
-    check_datacenters(imported, keyspace, list(factors), datacenters, schema)
+    check_datacenters(imported, keyspace, list(factors), source)
     return "topology " + " ".join(f"{imported.names.take('datacenter', dc)}:{it}" for dc, it in factors.items())
 
 
-def check_datacenters(
-    imported: Imported, keyspace: Keyspace, named: List[str], datacenters: List[str], schema: str
-) -> None:
+def check_datacenters(imported: Imported, keyspace: Keyspace, named: List[str], source: Source) -> None:
     """Checks the datacenters that a keyspace names against those of the ring."""
+    datacenters, schema = source.datacenters, source.schema
     strange = [it for it in named if it not in datacenters]
     if not named or len(named) > MOST_DATACENTERS:
         raise unfit(
@@ -244,6 +269,58 @@ def unfit(keyspace: Keyspace, schema: str, why: str) -> Refused:
     )
 
 
+# ---- Movements in flight
+
+
+@dataclass
+class Asked:
+    """What the reader says of nodes: to which token one moves, and which are to have no movement."""
+
+    moving: Dict[str, int]
+    settled: Set[str]
+
+
+def asked_of(options: argparse.Namespace, nodes: List[RingNode]) -> Asked:
+    """Returns what the words say of nodes, each of which has to be one that is in movement."""
+    states = {it.address: it.state for it in nodes}
+    asked = Asked({}, {naming.canonical(it) for it in options.settled})
+    for name, token in options.moving:
+        if not is_token(token):
+            raise WrongWords(f"--moving {name} needs a token, -2^63 to 2^63 - 1, not {token:.40}")
+        asked.moving[naming.canonical(name)] = int(token)
+    wrong = [it for it in asked.settled if states.get(it) not in ("Joining", "Leaving", "Moving")]
+    wrong += [it for it in asked.moving if states.get(it) != "Moving" or it in asked.settled]
+    if wrong:
+        raise Refused(f"{name_of(options.ring)}: {listed(sorted(wrong))} isn't in such a movement")
+    return asked
+
+
+def add_movements(imported: Imported, nodes: List[RingNode], asked: Asked, ring: str) -> None:
+    """Adds the commands that bring the movements of nodes in flight, up to `STARTED`."""
+    for i, node in enumerate(nodes, 1):
+        if node.state not in ("Joining", "Leaving", "Moving"):
+            continue
+        if node.address in asked.settled:
+            imported.notes.append(f"{node.address} is {node.state}, and no movement of it is in flight in the log")
+            continue
+        if node.state == "Moving" and node.address not in asked.moving:
+            raise fault(
+                ring,
+                node.line,
+                f"{node.address} is Moving, and nodetool ring doesn't say to which token: --moving {node.address} TOKEN; "
+                f"or without its movement: --settled {node.address}",
+            )
+        prepares = {
+            "Joining": f"join {i} {tokens_of(node)}",
+            "Leaving": f"leave {i}",
+            "Moving": f"move {i} {asked.moving.get(node.address)}",
+        }
+        kind = prepares[node.state].split(" ")[0]
+        imported.movements[len(imported.commands)] = node
+        imported.commands += [f"prepare-{prepares[node.state]}", f"start-{kind} {i}"]
+        imported.notes.append(f"{node.address} is {node.state}: its {kind} is in flight in the log, at STARTED")
+
+
 # ---- A log of the commands
 
 
@@ -255,16 +332,28 @@ def make_log(log: str, cluster: str, imported: Imported) -> None:
     try:
         with tempfile.TemporaryDirectory(prefix=".import-", dir=folder) as inside:
             path = os.path.join(inside, "new.log")
-            commit_all([path, cluster], imported.script.splitlines())
+            commit_all([path, cluster], imported)
+            imported.names.save(naming.path_of(log), path)
             if not write_log(log, read_bytes(path)):
-                shutil.move(path, log)
+                os.replace(path, log)
     except OSError as why:
         raise Refused(f"{log}: {why.strerror}") from why
 
 
-def commit_all(words: List[str], lines: List[str]) -> None:
-    """Commits lines to a new log, each of which has to be accepted."""
+def commit_all(words: List[str], imported: Imported) -> None:
+    """Commits the commands to a new log, each of which has to be accepted."""
+    lines = imported.script.splitlines()
     with Session(words) as session:
-        for line, answer in zip(lines, session.ask_all(lines)):
-            if is_refusal(answer):
-                raise Refused(f"tcm refuses `{line[:80]}`: {answer[0]}")
+        for i, (line, answer) in enumerate(zip(lines, session.ask_all(lines))):
+            if not answer[0].startswith("OK "):
+                raise Refused(why_refused(line, answer[0], imported.movements.get(i)))
+
+
+def why_refused(line: str, answer: str, node: Optional[RingNode]) -> str:
+    """Returns why a cluster can't be imported, by the command that is refused."""
+    if not node:
+        return f"tcm refuses `{line[:80]}`: {answer}"
+    return (
+        f"{node.address} is {node.state}, and tcm refuses its movement: {answer}; without its movement: --settled "
+        f"{node.address}"
+    )

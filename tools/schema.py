@@ -3,7 +3,7 @@ from __future__ import annotations
 
 import re
 from dataclasses import dataclass
-from typing import Dict, Iterator, List, Tuple
+from typing import Dict, Iterator, List, Optional
 
 from tools.errors import Refused
 from tools.text import fault
@@ -16,6 +16,10 @@ WORDS = re.compile(
       | (?P<sign>.)""",
     re.VERBOSE | re.DOTALL,
 )
+
+OPENINGS = ("'", '"', "$$", "/*")
+OTHERS = ("table", "type", "index", "custom", "materialized", "function", "aggregate", "or", "trigger", "role", "user")
+SKIP = "to pass it over: --skip-unknown"
 
 
 @dataclass(frozen=True)
@@ -41,44 +45,85 @@ class Keyspace:
     line: int
 
 
-def words_of(text: str, path: str) -> Iterator[Word]:
-    """Gives the words of a schema, without comments."""
-    line = 1
-    for found in WORDS.finditer(text):
-        kind, said = found.lastgroup, found[0]
-        if said in ("'", '"') or said == "/" and text.startswith("/*", found.start()):
-            begin = text[found.start() : found.start() + 20].split()[0]
-            raise fault(path, line, f"what begins here with {begin} doesn't end: is the schema cut?")
-        if kind == "text":
-            yield Word(kind, said[2:-2] if said.startswith("$$") else said[1:-1].replace("''", "'"), line)
-        elif kind == "quoted":
-            yield Word(kind, said[1:-1].replace('""', '"'), line)
-        elif kind != "passed":
-            yield Word(kind, said, line)
-        line += said.count("\n")
+class Reader:
+    """Reads the words of a schema one after another."""
+
+    def __init__(self, text: str, path: str) -> None:
+        self.text, self.path = text, path
+        self.at, self.line = 0, 1
+        self.begun = (0, 1)  # where the last word begins, and its line
+
+    def word(self) -> Optional[Word]:
+        """Returns the next word, None at the end; comments are passed over."""
+        while self.at < len(self.text):
+            found = WORDS.match(self.text, self.at)
+            assert found
+            kind, said, line = str(found.lastgroup), found[0], self.line
+            if kind == "sign" and self.text.startswith(OPENINGS, self.at):
+                begin = self.text[self.at : self.at + 20].split()[0]
+                raise fault(self.path, line, f"what begins here with {begin} doesn't end: is the schema cut?")
+            self.begun = (self.at, line)
+            self.at, self.line = found.end(), line + said.count("\n")
+            if kind != "passed":
+                return Word(kind, unquoted(kind, said), line)
+        return None
+
+    def pass_line(self) -> str:
+        """Passes over the line of the last word from this word on, whatever more it has, and returns its beginning."""
+        begin, self.line = self.begun
+        end = self.text.find("\n", begin)
+        self.at = len(self.text) if end < 0 else end
+        return self.text[begin : self.at][:40].strip()
 
 
-def statements_of(text: str, path: str) -> Iterator[Tuple[List[Word], bool]]:
-    """Gives the statements of a schema, and whether each ends with a semicolon."""
-    statement: List[Word] = []
-    for word in words_of(text, path):
-        if word.is_word(";"):
-            yield statement, True
-            statement = []
-        else:
-            statement.append(word)
-    if statement:
-        yield statement, False
+def unquoted(kind: str, said: str) -> str:
+    """Returns a text or a name without its quotes."""
+    if kind == "text":
+        return said[2:-2] if said.startswith("$$") else said[1:-1].replace("''", "'")
+    return said[1:-1].replace('""', '"') if kind == "quoted" else said
 
 
-def read_schema(text: str, path: str) -> List[Keyspace]:
-    """Returns the keyspaces that a schema makes, in its order."""
-    found: Dict[str, Keyspace] = {}
-    for words, is_whole in statements_of(text, path):
-        if len(words) < 2 or not (words[0].is_word("create") and words[1].is_word("keyspace")):
+def statements_of(text: str, path: str, skipped: Optional[List[str]] = None) -> Iterator[List[Word]]:
+    """Gives the statements of a schema, each to its semicolon.
+
+    Each begins with CREATE. What begins otherwise is refused, or if there is a list of what is skipped, its line is passed
+    over and told there.
+    """
+    reader = Reader(text, path)
+    while True:
+        first = reader.word()
+        if first is None:
+            return
+        if first.is_word("create"):
+            yield statement_after(first, reader)
+        elif first.is_word(";"):
             continue
-        if not is_whole:
-            raise fault(path, words[0].line, "this CREATE KEYSPACE has no semicolon at its end: is the schema cut?")
+        elif skipped is None:
+            raise fault(path, first.line, f"`{reader.pass_line()}` begins no statement of a schema; {SKIP}")
+        else:
+            skipped.append(f"line {first.line} is passed over: `{reader.pass_line()}`")
+
+
+def statement_after(first: Word, reader: Reader) -> List[Word]:
+    """Returns a statement up to its semicolon."""
+    words = [first]
+    while True:
+        word = reader.word()
+        if word is None or word.is_word("create"):
+            what = " ".join(it.said for it in words[:2])
+            why = "is the schema cut?" if word is None else f"CREATE comes in line {word.line}"
+            raise fault(reader.path, first.line, f"this {what[:40]} has no semicolon at its end: {why}")
+        if word.is_word(";"):
+            return words
+        words.append(word)
+
+
+def read_schema(text: str, path: str, skipped: Optional[List[str]] = None) -> List[Keyspace]:
+    """Returns the keyspaces that a schema makes, in its order; `skipped` is as statements_of has it."""
+    found: Dict[str, Keyspace] = {}
+    for words in statements_of(text, path, skipped):
+        if not is_of_keyspace(words, path, skipped):
+            continue
         keyspace = read_keyspace(words, path)
         if keyspace.name in found:
             raise fault(
@@ -90,6 +135,18 @@ def read_schema(text: str, path: str) -> List[Keyspace]:
     if not found:
         raise Refused(f"{path}: no CREATE KEYSPACE is there; DESCRIBE SCHEMA and DESCRIBE KEYSPACE of cqlsh print it")
     return list(found.values())
+
+
+def is_of_keyspace(words: List[Word], path: str, skipped: Optional[List[str]]) -> bool:
+    """Returns whether a statement makes a keyspace; one that makes nothing known is refused or skipped."""
+    if len(words) > 1 and words[1].is_word("keyspace"):
+        return True
+    if not (len(words) > 1 and words[1].is_word(*OTHERS)):
+        said = " ".join(it.said for it in words[:2])[:40]
+        if skipped is None:
+            raise fault(path, words[0].line, f"`{said}` makes nothing that a schema has; {SKIP}")
+        skipped.append(f"line {words[0].line} is passed over: `{said} ..`")
+    return False
 
 
 def read_keyspace(words: List[Word], path: str) -> Keyspace:
@@ -122,13 +179,15 @@ def pairs_of(words: List[Word], name: str, path: str) -> Dict[str, str]:
     """Returns the pairs of a map such as 'class': 'SimpleStrategy', 'replication_factor': '3'."""
     options: Dict[str, str] = {}
     for i in range(0, len(words), 4):
-        key, colon, value, comma = [*words[i : i + 4], *[None] * 4][:4]
-        if not (key.kind == "text" and colon and colon.is_word(":") and value and value.kind in ("text", "word")):
+        key, rest = words[i], words[i + 1 : i + 4]
+        is_pair = len(rest) > 1 and rest[0].is_word(":") and rest[1].kind in ("text", "word")
+        if key.kind != "text" or not is_pair:
             raise fault(
                 path, key.line, f"the replication of {name} is to be 'OPTION': 'VALUE', .., not {key.said[:40]}"
             )
-        if comma and not comma.is_word(","):
-            raise fault(path, comma.line, f"a comma is to come before {comma.said[:40]}")
+        value = rest[1]
+        if len(rest) > 2 and not rest[2].is_word(","):
+            raise fault(path, rest[2].line, f"a comma is to come before {rest[2].said[:40]}")
         if key.said in options:
             raise fault(path, key.line, f"the replication of {name} has {key.said} twice")
         options[key.said] = value.said
