@@ -9,16 +9,35 @@ from typing import Iterator, List, Optional, Sequence, Tuple
 from tools.errors import Refused
 from tools.terms import GREATEST, LEAST, width
 
-HEAD_PLACE = re.compile(r"PLACE (\d+) ([A-Za-z0-9_.-]+) (\d+)")
-HEAD_NODES = re.compile(r"NODES (\d+) (\d+) (\d+)")
-ROW = re.compile(r"\((min|-?\d+),(max|-?\d+)\] read ([\d,]+|-) write ([\d,]+|-)")
-NODE = re.compile(r"(\d+) (\S+) (\S+) (\S+) ([A-Z_]+) (\S+)")
-SEQUENCE = re.compile(r"SEQ (\d+) (join|move|leave|replace) ([A-Z]+) out (\S+) in (\S+)")
-QUORUM = re.compile(r"(?:QUORUM|LOCAL) (\d+) read (\d+) of ([\d,]+|-) write (\d+) of ([\d,]+|-)")
-HEAD_PLAN = re.compile(r"PLAN (\d+) (\d+) ([A-Za-z0-9_.-]+) (\d+)")
-STREAM = re.compile(r"\((min|-?\d+),(max|-?\d+)\] to (\d+) (?:from (\d+)|any ([\d,]+|-))")
-LIST = re.compile(r"-|-?\d+(?:,-?\d+)*")
-OTHER = re.compile(r"(?:OK|AT|OLD|HELD|FULL) \d+|(?:NO|QUORUM|LOCAL|REPLAY|TOO-LARGE|REFUSED) .*")
+N = "[0-9]{1,20}"  # (a token has 19 digits, an id or an epoch 20)
+NAMES = "[A-Za-z0-9_.-]+"
+IDS = "[0-9,]+|-"
+HEAD_PLACE = re.compile(f"PLACE ({N}) ({NAMES}) ({N})")
+HEAD_NODES = re.compile(f"NODES ({N}) ({N}) ({N})")
+ROW = re.compile(rf"\((min|-?{N}),(max|-?{N})\] read ({IDS}) write ({IDS})")
+NODE = re.compile(rf"({N}) (\S+) (\S+) (\S+) ([A-Z_]+) (\S+)")
+SEQUENCE = re.compile(rf"SEQ ({N}) (join|move|leave|replace) ([A-Z]+) out (\S+) in (\S+)")
+QUORUM = re.compile(f"(?:QUORUM|LOCAL) ({N}) read ({N}) of ({IDS}) write ({N}) of ({IDS})")
+HEAD_PLAN = re.compile(f"PLAN ({N}) ({N}) ({NAMES}) ({N})")
+STREAM = re.compile(rf"\((min|-?{N}),(max|-?{N})\] to ({N}) (?:from ({N})|any ({IDS}))")
+LIST = re.compile(f"-|-?{N}(?:,-?{N})*")
+PAIR = re.compile(f"-?{N}@{N}")
+FORMS = (  # of the first lines of answers and reports, but for those of `place` and `nodes`
+    "OK e",
+    "AT k",
+    "OLD k",
+    "HELD k",
+    "FULL k",
+    "REPLY I since s entries c",
+    "REPLY I image b entries c",
+    "QUORUM E read NEED of LIST write NEED of LIST",
+    "LOCAL E read NEED of LIST write NEED of LIST",
+    "NO ..",
+    "REPLAY n at k waiting w full f",
+    "REFUSED f l CAUSE",
+    "TOO-LARGE 536870912",
+)
+FORK = re.compile(f"REFUSED {N} {N} FORK {N}")  # two entries follow
 
 Pair = Tuple[int, int]  # a token and its node
 
@@ -110,8 +129,19 @@ class Stream:
         return width(self.left, self.right)
 
 
+def pattern_of(form: str) -> str:
+    """Returns the pattern of the lines of a form, in which letters and NEED stand for numbers."""
+    parts = {"LIST": f"(?:{IDS})", "NEED": N, "CAUSE": ".+", "..": ".+"}
+    return " ".join(N if len(it) == 1 else parts.get(it, it) for it in form.split(" "))
+
+
+OTHER = re.compile("|".join(pattern_of(it) for it in FORMS))
+
+
 def lines_after(head: str) -> int:
     """Returns how many lines follow the first line of an answer."""
+    if FORK.fullmatch(head):
+        return 2
     place, nodes = HEAD_PLACE.fullmatch(head), HEAD_NODES.fullmatch(head)
     if place:
         return int(place[3])
@@ -236,7 +266,7 @@ def read_movement(line: str, at: int) -> Movement:
 def read_pairs(text: str, at: int) -> Tuple[Pair, ...]:
     """Returns the pairs of a list such as `150@5,200@5`."""
     words = [] if text == "-" else text.split(",")
-    if not all(re.fullmatch(r"-?\d+@\d+", it) for it in words):
+    if not all(PAIR.fullmatch(it) for it in words):
         raise Refused(f"line {at + 1} has pairs that aren't TOKEN@NODE: {text[:60]}")
     return tuple((int(token), int(node)) for token, node in (it.split("@") for it in words))
 

@@ -10,6 +10,7 @@ from tools.terms import (
     KINDS,
     LEAST,
     MOST_DATACENTERS,
+    MOST_ENTRIES,
     MOST_LINE,
     MOST_RF,
     MOST_TOKENS_OF_NODE,
@@ -42,6 +43,8 @@ LINES: Dict[str, Tuple[str, ...]] = {
     "follower": ("F",),
     "deliver": ("F", "E"),
     "snapshot": ("F", "E"),
+    "ask": ("F", "MAX"),
+    "give": ("F", "I"),
 }
 NAMES = ("NAME", "DC", "RACK", "KS", "F")
 
@@ -156,7 +159,9 @@ def check_word(word: Word, part: str, is_node: Optional[Callable[[str], bool]]) 
         good, expected = bool(NAME.fullmatch(said)), f"{part} (1 to 32 of the characters A-Z a-z 0-9 _ - .)"
     elif part in ("NODE", "GONE"):
         good, expected = is_number(said, 2**32), f"{part} (a node id: a number below 2^32 without leading zeros)"
-    elif part in ("ID", "E"):
+    elif part == "MAX":
+        good, expected = is_number(said, MOST_ENTRIES + 1) and said != "0", f"MAX (a number from 1 to {MOST_ENTRIES:,})"
+    elif part in ("ID", "E", "I"):
         good, expected = is_number(said, 2**64), f"{part} (a number below 2^64 without leading zeros)"
     elif part == "TARGET":
         good, expected = is_target(said), "TARGET (an epoch such as @12, or the name of a follower)"

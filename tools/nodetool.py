@@ -3,22 +3,21 @@ from __future__ import annotations
 
 import re
 from dataclasses import dataclass, field
-from typing import Dict, List, Tuple
+from typing import Dict, List, Match, Tuple
 
 from tools.errors import Refused
 from tools.names import canonical
 from tools.terms import TOKEN, is_token
 from tools.text import fault
 
-DATACENTER = re.compile(r"\s*Datacenter:\s*(.*\S)\s*")
-HEADING = re.compile(r"\s*Address\S*\s+Rack\s+Status\s+State\s+Load\s+Owns.*Token\s*")
-PASSED_OVER = re.compile(r"\s*(=+|(Note|Warning):.*|To\s+view\s+status\s.*)?\s*")
-# (a rack of 12 characters or more has no space behind it)
+# (lines are matched with single spaces between words; a rack of 12 characters or more has no space behind it)
+HEADING = re.compile(r"Address\S* Rack Status State Load Owns.*Token")
+PASSED_OVER = re.compile(r"(=+|(Note|Warning):.*|To view status .*)?")
 RING_ROW = re.compile(
-    r"\s*(?P<address>\S+)\s+(?P<rack>\S+(?: \S+)*?)\s*(?P<status>Up|Down|\?)"
-    r"\s+(?P<state>Normal|Leaving|Joining|Moving|Shutdown|\?)"
-    r"\s+(?P<load>\?|[\d.,]+\s+\S+)\s+(?P<owns>\?|[\d.,]+\s*%)\s+(?P<token>\S.*?)\s*"
+    r"(?P<address>\S+) (?P<rack>\S+(?: \S+)*?) ?(?P<status>Up|Down|\?) (?P<state>Normal|Leaving|Joining|Moving|Shutdown|\?)"
+    r" (?P<load>\?|[0-9.,]+ \S+) (?P<owns>\?|[0-9.,]+ ?%) (?P<token>\S.*)"
 )
+DETAILS = "EndpointDetails("
 
 
 @dataclass
@@ -61,23 +60,25 @@ class RingReader:
 
     def read(self, number: int, line: str) -> None:
         """Reads a line."""
-        head, row = DATACENTER.fullmatch(line), RING_ROW.fullmatch(line)
-        if head:
-            self.begin(number, head[1])
-        elif HEADING.fullmatch(line) or PASSED_OVER.fullmatch(line):
+        words = line.split()
+        said = " ".join(words)
+        row = RING_ROW.fullmatch(said)
+        if words and words[0].startswith("Datacenter:") and line.strip() != "Datacenter:":
+            self.begin(number, line.strip()[len("Datacenter:") :].strip())
+        elif HEADING.fullmatch(said) or PASSED_OVER.fullmatch(said):
             pass
         elif not self.dc:
-            raise fault(self.path, number, f"`Datacenter: NAME` is to come first, not `{line.split()[0]}`")
-        elif len(line.split()) == 1 and self.dc not in self.greatest:
-            self.greatest[self.dc] = (self.token(number, line.strip()), number)
+            raise fault(self.path, number, f"`Datacenter: NAME` is to come first, not `{words[0][:40]}`")
+        elif len(words) == 1 and self.dc not in self.greatest:
+            self.greatest[self.dc] = (self.token(number, said), number)
         elif row:
             self.add(number, row)
         else:
             raise fault(
                 self.path,
                 number,
-                f"no line of nodetool ring: `{line.split()[0]} ..`; a node has Address, Rack, Status, State, Load, "
-                "Owns and Token",
+                f"no line of nodetool ring: `{words[0][:40]} ..`; a node has Address, Rack, Status, State, Load, Owns and "
+                "Token",
             )
 
     def begin(self, number: int, dc: str) -> None:
@@ -100,11 +101,11 @@ class RingReader:
             raise fault(
                 self.path,
                 number,
-                f"the token {word} is out of range, -2^63 to 2^63 - 1: is the partitioner RandomPartitioner?",
+                f"the token {word[:40]} is out of range, -2^63 to 2^63 - 1: is the partitioner RandomPartitioner?",
             )
         return int(word)
 
-    def add(self, number: int, row: re.Match) -> None:
+    def add(self, number: int, row: Match[str]) -> None:
         """Adds the token of a row to its node."""
         token, address = self.token(number, row["token"]), canonical(row["address"])
         node = self.nodes.setdefault(
@@ -168,8 +169,9 @@ def read_describering(lines: List[str], path: str) -> List[TokenRange]:
 def read_range(number: int, said: str, path: str) -> TokenRange:
     """Returns the range in a line."""
     start, end = (re.search(rf"\b{it}_token:\s*([^,\s]+)", said) for it in ("start", "end"))
-    endpoints = re.search(r"[(\s,]endpoints:\s*\[([^\]]*)\]", said)
-    if not (start and end and endpoints and said.endswith(")")):
+    endpoints = re.search(r"[(\s,]endpoints:\s*\[", said)
+    closing = said.find("]", endpoints.end()) if endpoints else -1
+    if not (start and end and endpoints and closing > 0 and said.endswith(")")):
         raise fault(
             path,
             number,
@@ -178,8 +180,20 @@ def read_range(number: int, said: str, path: str) -> TokenRange:
     for word in (start[1], end[1]):
         if not is_token(word):
             raise fault(path, number, f"`{word[:40]}` is no token of Murmur3Partitioner")
-    details = re.findall(r"EndpointDetails\(host:\s*([^,]+),\s*datacenter:\s*(.*?),\s*rack:\s*(.*?)\)", said)
-    names = tuple(canonical(it.strip()) for it in endpoints[1].split(",") if it.strip())
-    return TokenRange(
-        int(start[1]), int(end[1]), names, {canonical(host): (dc, rack) for host, dc, rack in details}, number
-    )
+    names = tuple(canonical(it.strip()) for it in said[endpoints.end() : closing].split(",") if it.strip())
+    return TokenRange(int(start[1]), int(end[1]), names, places_of(said), number)
+
+
+def places_of(said: str) -> Dict[str, Tuple[str, str]]:
+    """Returns the datacenters and racks in the details of endpoints, none if there are none or they can't be read."""
+    places: Dict[str, Tuple[str, str]] = {}
+    pieces = said.split(DETAILS)[1:]
+    for i, piece in enumerate(pieces, 1):
+        host, _, rest = piece.partition(",")
+        rack = re.search(r",\s*rack:", rest)
+        end = rest.rstrip(", ") if i < len(pieces) else re.sub(r"\s*\]\s*\)\Z", "", rest.rstrip())
+        dc = rest[: rack.start()].strip() if rack else ""
+        if not (rack and host.startswith("host:") and dc.startswith("datacenter:") and end.endswith(")")):
+            return {}
+        places[canonical(host[len("host:") :].strip())] = (dc[len("datacenter:") :].strip(), end[rack.end() : -1].strip())
+    return places

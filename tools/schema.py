@@ -167,8 +167,8 @@ def read_options(words: List[Word], name: str, path: str, line: int) -> Dict[str
     begin = next((i for i, it in enumerate(words) if it.is_word("replication")), None)
     if begin is None or len(words) < begin + 3 or not (words[begin + 1].is_word("=") and words[begin + 2].is_word("{")):
         raise fault(path, line, f"{name} is to have WITH replication = {{'class': ..}}")
-    inside, rest = [], words[begin + 3 :]
-    for word in rest:
+    inside: List[Word] = []
+    for word in words[begin + 3 :]:
         if word.is_word("}"):
             return pairs_of(inside, name, path)
         inside.append(word)
