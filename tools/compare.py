@@ -10,7 +10,7 @@ from tools.answers import Placement, Row
 from tools.log import State, state
 from tools.names import Names, names_of
 from tools.nodetool import TokenRange, read_describering
-from tools.show import print_json
+from tools.show import print_json, say
 from tools.terms import GREATEST, LEAST, listed, plural
 from tools.text import name_of, read_lines
 from tools.words import add_json, add_log, epoch_of, keyspace_named
@@ -46,16 +46,25 @@ def run(options: argparse.Namespace) -> int:
     ranges = read_describering(read_lines(options.describering), name_of(options.describering))
     names, now = names_of(options.log), state(options.log, epoch_of(options.at))
     found = differences(ranges, keyspace_named(options.keyspace, now, names), now, names)
+    blind = [it.line for it in ranges if not it.places]
     if options.json:
-        print_json({"ranges": len(ranges), "differences": [vars(it) for it in found]})
+        print_json({"ranges": len(ranges), "differences": [vars(it) for it in found], "racks_not_compared": blind})
     else:
-        for it in found:
-            print(f"{name_of(options.describering)}{f':{it.line}' if it.line else ''}: {it.where}: {it.why}")
-        print(
-            f"{plural(len(ranges), 'range')} of {options.keyspace} at epoch {now.epoch}: "
-            f"{plural(len(found), 'difference') if found else 'no difference'}"
-        )
+        show(options, now.epoch, ranges, found)
     return 1 if found else 0
+
+
+def show(options: argparse.Namespace, epoch: int, ranges: List[TokenRange], found: List[Difference]) -> None:
+    """Prints differences, and what wasn't compared."""
+    name = name_of(options.describering)
+    for it in found:
+        say(f"{name}{f':{it.line}' if it.line else ''}: {it.where}: {it.why}")
+    blind = [it for it in ranges if not it.places]
+    if blind:
+        where_ = f"{name}:{blind[0].line}: " + ("" if len(blind) == 1 else "and later: ")
+        say(f"{where_}racks not compared in {plural(len(blind), 'range')}: no endpoint_details that can be read")
+    what = plural(len(found), "difference") if found else "no difference"
+    say(f"{plural(len(ranges), 'range')} of {options.keyspace} at epoch {epoch}: {what}")
 
 
 def differences(ranges: List[TokenRange], keyspace: str, now: State, names: Names) -> List[Difference]:

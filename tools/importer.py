@@ -16,6 +16,7 @@ from tools.nodetool import RingNode, read_ring
 from tools.on_disk import write_log
 from tools.program import Session
 from tools.schema import Keyspace, read_schema
+from tools.show import plain, say
 from tools.terms import (
     MOST_DATACENTERS,
     MOST_KEYSPACES,
@@ -124,16 +125,16 @@ def run(options: argparse.Namespace) -> int:
 def tell(to: str, imported: Imported, nodes: List[RingNode]) -> None:
     """Says what was made."""
     for note in imported.notes:
-        print(f"cluster: {note}", file=sys.stderr)
+        print(f"cluster: {plain(note)}", file=sys.stderr)
     tokens = sum(len(it.tokens) for it in nodes)
     made = sum(it.startswith("keyspace ") for it in imported.commands)
-    print(
+    say(
         f"{to}: {plural(len(nodes), 'node')}, {plural(tokens, 'token')}, {plural(made, 'keyspace')}, "
         f"{plural(len(imported.commands), 'command')}"
     )
     differing = imported.names.differing()
     if differing:
-        print(f"{naming.path_of(to)}: {plural(len(differing), 'name')} that differ from those of Cassandra")
+        say(f"{naming.path_of(to)}: {plural(len(differing), 'name')} that differ from those of Cassandra")
 
 
 # ---- A cluster as commands
@@ -256,9 +257,9 @@ def check_datacenters(imported: Imported, keyspace: Keyspace, named: List[str], 
 def factor_of(keyspace: Keyspace, factor: str, schema: str) -> int:
     """Returns a replication factor."""
     if "/" in factor:
-        raise unfit(keyspace, schema, f"the factor {factor} asks for transient replicas, which have no place here")
-    if not (factor.isascii() and factor.isdigit() and 1 <= int(factor) <= MOST_RF):
-        raise unfit(keyspace, schema, f"the factor {factor} isn't 1 to {MOST_RF}")
+        raise unfit(keyspace, schema, f"the factor {factor[:40]} asks for transient replicas, which have no place here")
+    if not (factor.isascii() and factor.isdigit() and len(factor) < 5 and 1 <= int(factor) <= MOST_RF):
+        raise unfit(keyspace, schema, f"the factor {factor[:40]} isn't 1 to {MOST_RF}")
     return int(factor)
 
 

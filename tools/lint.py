@@ -5,7 +5,7 @@ import argparse
 from typing import List, Tuple
 
 from tools.grammar import Fault, fault_of
-from tools.show import print_json
+from tools.show import print_json, say
 from tools.terms import plural
 from tools.text import name_of, script_lines
 from tools.words import add_json
@@ -35,6 +35,6 @@ def run(options: argparse.Namespace) -> int:
 def show(name: str, count: int, faults: List[Tuple[int, Fault]]) -> None:
     """Prints faults, or that there are none."""
     for i, it in faults:
-        print(f"{name}:{i}:{it.column}: {it.why}")
+        say(f"{name}:{i}:{it.column}: {it.why}")
     if not faults:
-        print(f"{name}: {plural(count, 'line')}, each in one of the forms")
+        say(f"{name}: {plural(count, 'line')}, each in one of the forms")

@@ -12,7 +12,7 @@ from tools.placements import Stretch
 from tools.runbook.page import page_of
 from tools.runbook.tasks import in_flight
 from tools.runbook.words import add_runbook, loads_of, version_of
-from tools.show import print_json, print_lines, table
+from tools.show import print_json, print_lines, say, table
 from tools.status import partner
 from tools.streams import ANY, NOT_PROVED, Streams, Taking, streams_of
 from tools.terms import listed, percent, plural
@@ -52,7 +52,7 @@ def run(options: argparse.Namespace) -> int:
     if options.json:
         print_json([as_json(it, streams, now, names) for it, streams in shown])
     elif not shown:
-        print("No movement is in flight" + (f" of {options.node}." if options.node else "."))
+        say("No movement is in flight" + (f" of {options.node}." if options.node else "."))
     else:
         for i, (it, streams) in enumerate(shown):
             show(it, streams, now, names, is_first=i == 0)
@@ -74,14 +74,14 @@ def named(ids: Sequence[int], now: State, names: Names) -> str:
 
 def show(it: Movement, streams: List[Streams], now: State, names: Names, is_first: bool) -> None:
     """Prints a movement."""
-    print(
+    say(
         (
             "" if is_first else "\n"
         ) + f"{named([it.node], now, names)}: {it.kind}{partner(it, now, names)}, {it.phase} at epoch {now.epoch}"
     )
     print_lines([f"{i}. {said}" for i, said in enumerate(steps_left(it, streams, now, names), 1)], "  ")
     for group in streams:
-        print(
+        say(
             f"\n  {listed([names.there('keyspace', k) for k in group.keyspaces])}: "
             f"{plural(len(group.stretches), 'range')}, {percent(group.width)} of the ring streamed"
         )
@@ -90,7 +90,7 @@ def show(it: Movement, streams: List[Streams], now: State, names: Names, is_firs
         print_lines(table(rows, right=[1]), "    ")
     down = {taking.losing for group in streams for _, taking in group.stretches if taking.kind == NOT_PROVED}
     if down:
-        print(
+        say(
             f"\n  not proved: other nodes may lack writes that {named(sorted(filter(None, down)), now, names)} "
             "acknowledged. Repair the ranges before quorums are trusted."
         )

@@ -2,7 +2,22 @@
 from __future__ import annotations
 
 import json
+import re
 from typing import List, Sequence
+
+CONTROLS = re.compile("[\x00-\x09\x0b-\x1f\x7f-\x9f\u2028\u2029\ud800-\udfff]")
+
+CONTROLS_IN_JSON = re.compile("[\x7f-\x9f\u2028\u2029\ud800-\udfff]")  # (it escapes others)
+
+
+def plain(said: str) -> str:
+    """Returns a line without characters by which a terminal would do something."""
+    return CONTROLS.sub("\ufffd", said)
+
+
+def say(line: str = "") -> None:
+    """Prints a line."""
+    print(plain(line))
 
 
 def table(rows: Sequence[Sequence[str]], right: Sequence[int] = ()) -> List[str]:
@@ -18,9 +33,9 @@ def table(rows: Sequence[Sequence[str]], right: Sequence[int] = ()) -> List[str]
 def print_lines(lines: Sequence[str], indent: str = "") -> None:
     """Prints lines."""
     for line in lines:
-        print(indent + line if line else "")
+        say(indent + line if line else "")
 
 
 def print_json(value: object) -> None:
     """Prints a value as JSON. Tokens are to be texts in it: many readers of JSON lose digits of such numbers."""
-    print(json.dumps(value, indent=2, ensure_ascii=False))
+    print(CONTROLS_IN_JSON.sub("\ufffd", json.dumps(value, indent=2, ensure_ascii=False)))

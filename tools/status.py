@@ -8,7 +8,7 @@ from tools.answers import Movement, Node
 from tools.log import State, state
 from tools.names import Names, names_of
 from tools.placements import read_shares
-from tools.show import print_json, print_lines, table
+from tools.show import print_json, print_lines, say, table
 from tools.terms import listed, percent, plural
 from tools.words import add_json, add_keyspaces, add_log, chosen_keyspaces, epoch_of
 
@@ -46,23 +46,23 @@ def run(options: argparse.Namespace) -> int:
 def show(log: str, now: State, names: Names, keyspaces: List[str]) -> None:
     """Prints the state."""
     tokens = sum(len(it.tokens) for it in now.nodes.nodes)
-    print(
+    say(
         f"{log}, epoch {now.epoch}: {plural(len(now.nodes.nodes), 'node')}, {plural(tokens, 'token')}, "
         f"{plural(len(now.replications), 'keyspace')}"
     )
     columns = columns_of(now, keyspaces)
     shares = shares_of(now, columns)
     for dc in sorted({it.dc for it in now.nodes.nodes}):
-        print(f"\nDatacenter {names.there('datacenter', dc)}")
+        say(f"\nDatacenter {names.there('datacenter', dc)}")
         print_lines(table(rows_of(now, names, dc, shares), right=range(3, 4 + len(columns))), "  ")
     print_keyspaces(now, names, columns)
     if now.movements:
-        print("\nMovements in flight")
+        say("\nMovements in flight")
         print_lines(table([movement_row(it, now, names) for it in now.movements]), "  ")
     else:
-        print("\nNo movement is in flight.")
+        say("\nNo movement is in flight.")
     if names.differing():
-        print("\nNames that differ from those of Cassandra")
+        say("\nNames that differ from those of Cassandra")
         print_lines(table([[kind, here, f"is {there}"] for kind, here, there in names.differing()]), "  ")
 
 
@@ -93,7 +93,7 @@ def rows_of(now: State, names: Names, dc: str, shares: Dict[str, Dict[int, int]]
 def print_keyspaces(now: State, names: Names, columns: Dict[str, List[str]]) -> None:
     """Prints the replication of each keyspace, those with the same one together."""
     if columns:
-        print("\nKeyspaces (a share is the part of the ring at which the node is a replica)")
+        say("\nKeyspaces (a share is the part of the ring at which the node is a replica)")
         rows = [
             [listed([names.there("keyspace", it) for it in same]), replication_said(now.replications[first], names)]
             for first, same in columns.items()

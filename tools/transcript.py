@@ -8,7 +8,7 @@ from tools.answers import framed, is_refusal
 from tools.errors import Refused
 from tools.log import copy_of, words_on
 from tools.program import Run, run as run_program
-from tools.show import print_json
+from tools.show import print_json, print_lines, say
 from tools.text import script_lines
 from tools.words import add_json
 
@@ -41,8 +41,8 @@ def run(options: argparse.Namespace) -> int:
         print_json([{"line": shown(line), "answer": answer} for line, answer in pairs])
     else:
         for line, answer in pairs:
-            print(f"> {shown(line)}")
-            print("\n".join(answer))
+            say(f"> {shown(line)}")
+            print_lines(answer)
     if ended.status != 0:
         raise Refused(f"tcm ended with status {ended.status}: {' '.join(ended.lines[-1:])}")
     return 1 if any(is_refusal(answer) for _, answer in pairs) else 0

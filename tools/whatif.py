@@ -12,7 +12,7 @@ from tools.runbook.page import page_of
 from tools.runbook.tasks import planned
 from tools.runbook.words import add_runbook, loads_of, version_of
 from tools.script import head_of
-from tools.show import print_json, print_lines, table
+from tools.show import print_json, print_lines, say, table
 from tools.terms import listed, percent, plural
 from tools.text import name_of, read_lines, write_text
 from tools.waves import Plan, Wave, plan
@@ -77,16 +77,16 @@ def show(made: Plan, names: Names, down: List[str]) -> None:
     """Prints the plan."""
     if made.finished:
         half_way = listed([f"{kind} of {names.there('node', made.node_names[node])}" for kind, node in made.finished])
-        print(f"First: finish what is half way: {half_way}\n")
+        say(f"First: finish what is half way: {half_way}\n")
     for number, wave in enumerate(made.waves, 1):
         count = len(wave.wishes) + len(wave.already)
-        print(f"Wave {number}: {plural(count, 'movement')}" + (" in flight together" if count > 1 else ""))
+        say(f"Wave {number}: {plural(count, 'movement')}" + (" in flight together" if count > 1 else ""))
         show_movements(wave, made, names)
         show_moved(wave, made, names)
         show_margins(wave.margins, made, names, down)
-        print()
+        say()
     if made.waves:
-        print("After the last wave")
+        say("After the last wave")
         show_margins(made.after, made, names, down)
         show_spreads(made, names)
 
@@ -94,10 +94,10 @@ def show(made: Plan, names: Names, down: List[str]) -> None:
 def show_movements(wave: Wave, made: Plan, names: Names) -> None:
     """Prints the movements of a wave, and the wishes that wait."""
     for kind, node, phase in wave.already:
-        print(f"  {kind} {names.there('node', made.node_names[node])}, in flight already ({phase})")
+        say(f"  {kind} {names.there('node', made.node_names[node])}, in flight already ({phase})")
     print_lines([it.said for it in wave.wishes], "  ")
     for name, why in wave.waiting.items():
-        print(f"  ({name} {waits_for(name, why, wave, made, names)})")
+        say(f"  ({name} {waits_for(name, why, wave, made, names)})")
 
 
 def waits_for(name: str, why: str, wave: Wave, made: Plan, names: Names) -> str:
@@ -129,14 +129,14 @@ def show_moved(wave: Wave, made: Plan, names: Names) -> None:
     rows += [
         [names.there("node", made.node_names[n]), *(percent(wave.moved[k].get(n, 0)) for k in made.same)] for n in nodes
     ]
-    print("  Streamed, as parts of the ring")
+    say("  Streamed, as parts of the ring")
     print_lines(table(rows, right=range(1, len(rows[0]))), "    ")
 
 
 def show_margins(margins: Dict[Level, Margin], made: Plan, names: Names, down: List[str]) -> None:
     """Prints how many replicas more quorums can lose, where they have the fewest."""
     verb = "is" if len(down) == 1 else "are"
-    print(f"  Replicas that a quorum can still lose{f' while {listed(down)} {verb} down' if down else ''}")
+    say(f"  Replicas that a quorum can still lose{f' while {listed(down)} {verb} down' if down else ''}")
     rows, notes = [["keyspace", "level", "reads", "writes"]], []
     for (keyspace, level), it in margins.items():
         said = [keyspaces_said(made.same[keyspace], names), level_said(level, names)]

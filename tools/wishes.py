@@ -7,6 +7,7 @@ from dataclasses import dataclass
 from typing import Container, List, Optional, Tuple
 
 from tools.errors import Refused
+from tools.names import canonical
 from tools.terms import LEAST, MOST_TOKENS_OF_NODE, WHOLE, is_token
 from tools.text import fault
 
@@ -50,9 +51,9 @@ def read_wishes(lines: List[str], path: str) -> Tuple[List[Wish], List[str]]:
         if not words:
             continue
         if words[0] == "down" and len(words) == 2:
-            down.append(words[1])
+            down.append(canonical(words[1]))
             continue
-        wish = read_wish(number, words, path)
+        wish = read_wish(number, [canonical(it) for it in words], path)
         if any(it.name == wish.name for it in wishes):
             raise fault(path, number, f"{wish.name} has a wish already")
         wishes.append(wish)
@@ -85,6 +86,8 @@ def read_tokens(number: int, words: List[str], path: str) -> Tuple[Tuple[int, ..
     wrong = next((it for it in words if not is_token(it)), None)
     if wrong is not None:
         raise fault(path, number, f"`{wrong[:40]}` is no token; `16 tokens` asks for tokens to be drawn")
+    if len(words) > MOST_TOKENS_OF_NODE:
+        raise fault(path, number, f"these are {len(words)} tokens, and a node has at most {MOST_TOKENS_OF_NODE}")
     if len(set(words)) < len(words):
         raise fault(path, number, "a token comes a second time")
     return tuple(sorted(int(it) for it in words)), 0
