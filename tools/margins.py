@@ -1,15 +1,16 @@
 """How many replicas quorums can still lose while nodes are down, from the answers to `quorum` and `local`."""
 from __future__ import annotations
 
-from dataclasses import dataclass
+from dataclasses import dataclass, field
 from typing import Dict, List, Sequence, Set, Tuple
 
-from tools.answers import Placement, Quorum, Row, read_quorum
+from tools.answers import Node, Quorum, Row, read_quorum, read_row
 from tools.flight import Trial
-from tools.terms import GREATEST, row_name
+from tools.terms import GREATEST
 
 Level = Tuple[str, str]  # a keyspace, and QUORUM or LOCAL_QUORUM with its datacenter
-Sets = Tuple[Tuple[int, ...], Tuple[int, ...]]  # the nodes that are read, and those that are written
+Shape = Tuple[int, int]  # how many nodes are read and written, by datacenter, and how many of them are up
+DIGIT = 12  # bits of a count
 
 
 @dataclass(frozen=True)
@@ -28,38 +29,79 @@ class Margin:
         return Margin(*reads, *writes)
 
 
+@dataclass
+class Look:
+    """What the placement of a keyspace shows: a row of each shape, and how many tokens are streamed to each node."""
+
+    rows: Dict[Shape, str] = field(default_factory=dict)
+    moved: Dict[int, int] = field(default_factory=dict)
+
+    def add_moved(self, row: Row) -> None:
+        """Adds the tokens of a row to each node that is written and not read."""
+        for node in row.pending:
+            self.moved[node] = self.moved.get(node, 0) + row.width
+
+
 class Quorums:
-    """The answers to `quorum` and `local` so far: rows of a keyspace with the same nodes have the same quorums."""
+    """The answers to `quorum` and `local` so far: rows of a keyspace with the same shape have the same margins."""
 
-    def __init__(self, trial: Trial, replications: Dict[str, str], down: Set[int]) -> None:
+    def __init__(self, trial: Trial, replications: Dict[str, str], nodes: Sequence[Node], down: Set[int]) -> None:
         self.trial, self.replications, self.down = trial, replications, down
-        self.known: Dict[Tuple[Level, Sets], Tuple[int, int]] = {}  # what reads and writes have past their need
+        self.codes = Codes(down)
+        self.codes.add(nodes)
+        self.known: Dict[Tuple[Level, Shape], Tuple[int, int]] = {}  # what reads and writes have past their need
 
-    def margins(self, placements: Dict[str, Placement]) -> Dict[Level, Margin]:
-        """Returns the margins of keyspaces now: of QUORUM, and of LOCAL_QUORUM in each datacenter that they name."""
-        found: Dict[Level, Margin] = {}
-        for keyspace, placement in placements.items():
-            rows = unlike_rows(placement)
-            for level, words in levels_of(keyspace, self.replications[keyspace]):
-                self.ask(level, words, rows)
-                found[level] = margin_of([(self.known[level, sets], row) for sets, row in rows.items()])
+    def look(self, keyspace: str) -> Look:
+        """Returns what the placement of a keyspace shows now."""
+        found, shape_of = Look(), self.codes.shape_of
+        for line in self.trial.session.ask(f"place @{self.trial.epoch} {keyspace}")[1:]:
+            place, _, lists = line.partition(" read ")
+            reads, _, writes = lists.partition(" write ")
+            found.rows.setdefault(shape_of(reads, writes), place)
+            if reads != writes:
+                found.add_moved(read_row(line, 0))
         return found
 
-    def ask(self, level: Level, words: str, rows: Dict[Sets, Row]) -> None:
-        """Asks for the quorums at rows whose nodes weren't seen before."""
-        new = {sets: row for sets, row in rows.items() if (level, sets) not in self.known}
+    def margins(self, keyspace: str, look: Look) -> Dict[Level, Margin]:
+        """Returns the margins of a keyspace: of QUORUM, and of LOCAL_QUORUM in each datacenter that it names."""
+        found: Dict[Level, Margin] = {}
+        for level, words in levels_of(keyspace, self.replications[keyspace]):
+            self.ask(level, words, look.rows)
+            found[level] = margin_of([(self.known[level, shape], row) for shape, row in look.rows.items()])
+        return found
+
+    def ask(self, level: Level, words: str, rows: Dict[Shape, str]) -> None:
+        """Asks for the quorums at rows whose shape wasn't seen before."""
+        new = [it for it in rows if (level, it) not in self.known]
         head = words.format(epoch=self.trial.epoch)
-        ends = (GREATEST if it.right is None else it.right for it in new.values())
-        answers = self.trial.session.ask_all([f"{head} {end}" for end in ends])
-        self.known.update({(level, sets): spare(read_quorum(it[0]), self.down) for sets, it in zip(new, answers)})
+        answers = self.trial.session.ask_all([f"{head} {end_of(rows[it])}" for it in new])
+        self.known.update({(level, it): spare(read_quorum(said[0]), self.down) for it, said in zip(new, answers)})
 
 
-def unlike_rows(placement: Placement) -> Dict[Sets, Row]:
-    """Returns a row for each pair of lists that rows have."""
-    found: Dict[Sets, Row] = {}
-    for row in placement.rows:
-        found.setdefault((row.reads, row.writes), row)
-    return found
+class Codes:
+    """Counts nodes of lists: a number for each list, with how many of its nodes are in each datacenter, and are up."""
+
+    def __init__(self, down: Set[int]) -> None:
+        self.down = down
+        self.places: Dict[str, int] = {}
+        self.of_node: Dict[str, int] = {"-": 0}
+
+    def add(self, nodes: Sequence[Node]) -> None:
+        """Makes nodes known."""
+        for it in nodes:
+            digit = 1 << 2 * DIGIT * self.places.setdefault(it.dc, len(self.places))
+            self.of_node[str(it.id)] = digit if it.id in self.down else digit + (digit << DIGIT)
+
+    def shape_of(self, reads: str, writes: str) -> Shape:
+        """Returns the shape of a row with these lists."""
+        code = sum(map(self.of_node.__getitem__, reads.split(",")))
+        return code, code if reads == writes else sum(map(self.of_node.__getitem__, writes.split(",")))
+
+
+def end_of(row: str) -> int:
+    """Returns the last token of a row, for example of `(0,max]`."""
+    end = row.partition(",")[2][:-1]
+    return GREATEST if end == "max" else int(end)
 
 
 def levels_of(keyspace: str, replication: str) -> List[Tuple[Level, str]]:
@@ -78,11 +120,11 @@ def spare(quorum: Quorum, down: Set[int]) -> Tuple[int, int]:
     return reads - quorum.read_need, writes - quorum.write_need
 
 
-def margin_of(spares: Sequence[Tuple[Tuple[int, int], Row]]) -> Margin:
+def margin_of(spares: Sequence[Tuple[Tuple[int, int], str]]) -> Margin:
     """Returns the margin of rows, each with what reads and writes have past their need."""
     (reads, _), reads_at = min(spares, key=lambda it: it[0][0])
     (_, writes), writes_at = min(spares, key=lambda it: it[0][1])
-    return Margin(reads, row_name(reads_at.left, reads_at.right), writes, row_name(writes_at.left, writes_at.right))
+    return Margin(reads, reads_at, writes, writes_at)
 
 
 def least(found: Sequence[Dict[Level, Margin]]) -> Dict[Level, Margin]:

@@ -2,17 +2,16 @@
 from __future__ import annotations
 
 from dataclasses import dataclass, field
-from typing import Dict, List, Sequence, Tuple
+from typing import Dict, List, Optional, Sequence, Tuple
 
-from tools.answers import Placement, is_refusal
+from tools.answers import is_refusal, read_nodes
 from tools.balance import groups_of, spread
 from tools.coupling import Attempt, Coupling, couplings
 from tools.errors import Refused
 from tools.flight import Trial
-from tools.log import copy_of, state, words_on
+from tools.log import State, cluster_of, copy_of, state, words_on
 from tools.margins import Level, Margin, Quorums, least
 from tools.names import Names
-from tools.placements import pending_shares
 from tools.program import Session
 from tools.terms import STEPS
 from tools.tokens import Chooser
@@ -46,6 +45,7 @@ class Plan:
     same: Dict[str, List[str]]  # one keyspace of each replication, with all that have it
     after: Dict[Level, Margin]
     spreads: Dict[Tuple[str, str], Tuple[Spread, Spread]]  # by keyspace and datacenter: before and after the plan
+    begin: Tuple[Optional[str], int]  # the cluster and the epoch of the log
 
 
 class Planner:
@@ -53,12 +53,17 @@ class Planner:
 
     def __init__(self, session: Session, copy: str, names: Names, down: Sequence[str]) -> None:
         self.copy, self.names = copy, names
-        now = state(copy)
+        self.begin = now = state(copy)
         self.trial = Trial(session, copy, now.epoch)
         self.ids = {it.name: it.id for it in now.nodes.nodes}
         self.places = {it.name: (it.dc, it.rack) for it in now.nodes.nodes}
-        self.next_id, self.replications, self.same = now.next_id, now.replications, now.distinct()
-        self.quorums = Quorums(self.trial, self.replications, {self.id_of(it) for it in down})
+        self.same = now.distinct()
+        self.refused: Dict[str, str] = {}  # by the name of a wish whose node can't be registered: the refusal
+        self.quorums = Quorums(self.trial, now.replications, now.nodes.nodes, {self.id_of(it) for it in down})
+
+    def now(self) -> State:
+        """Returns the state of the copy now."""
+        return State(self.copy, read_nodes(self.trial.session.ask(f"nodes @{self.trial.epoch}")))
 
     def here(self, name: str) -> str:
         """Returns the name that the log has for a name of Cassandra."""
@@ -75,20 +80,35 @@ class Planner:
     def register(self, wishes: Sequence[Wish]) -> List[Tuple[str, str, str]]:
         """Registers the nodes of joins and replaces that the log doesn't have yet, and returns them."""
         found = []
+        self.check_once(wishes)
         for wish in wishes:
             if wish.kind not in ("join", "replace"):
                 self.id_of(wish.name)
                 continue
             dc, rack = self.place_of(wish)
             if self.here(wish.name) not in self.ids:
-                self.trial.commit(f"register {self.here(wish.name)} {dc} {rack}")
-                self.ids[self.here(wish.name)], self.next_id = self.next_id, self.next_id + 1
+                answer = self.trial.try_commit(f"register {self.here(wish.name)} {dc} {rack}")
+                if is_refusal(answer):
+                    self.refused[wish.name] = answer[0]
+                    continue
                 found.append((wish.name, self.names.word("datacenter", dc), self.names.word("rack", rack)))
+                self.ids[self.here(wish.name)], self.places[self.here(wish.name)] = 0, (dc, rack)
             elif wish.kind == "join" and self.places[self.here(wish.name)] != (dc, rack):
                 raise Refused(
                     f"{wish.name} is registered in {' '.join(self.places[self.here(wish.name)])}, not in {dc} {rack}"
                 )
+        nodes = self.now().nodes.nodes
+        self.ids = {it.name: it.id for it in nodes}
+        self.quorums.codes.add(nodes)
         return found
+
+    def check_once(self, wishes: Sequence[Wish]) -> None:
+        """Checks that no two wishes are for one node, however they call it."""
+        seen: Dict[str, str] = {}
+        for wish in wishes:
+            before = seen.setdefault(self.here(wish.name), wish.name)
+            if before != wish.name:
+                raise Refused(f"{wish.name} has a wish already: it is {before}")
 
     def place_of(self, wish: Wish) -> Tuple[str, str]:
         """Returns the datacenter and the rack of a new node, by their names in the log."""
@@ -99,16 +119,16 @@ class Planner:
 
     def spreads(self) -> Dict[Tuple[str, str], Spread]:
         """Returns how evenly each keyspace is spread in each datacenter now, by one keyspace of each replication."""
-        nodes = state(self.copy).nodes.nodes
-        found = {}
-        for keyspace, placement in self.places_now().items():
-            for dc, group in groups_of(self.replications[keyspace], nodes).items():
+        now, found = self.now(), {}
+        for keyspace in self.same:
+            placement = self.trial.places([keyspace])[keyspace]
+            for dc, group in groups_of(self.quorums.replications[keyspace], now.nodes.nodes).items():
                 found[keyspace, dc] = spread(placement, group)
         return found
 
     def finish_half_way(self) -> List[Tuple[str, int]]:
         """Finishes the movements that are half way, and returns their kinds and nodes."""
-        half_way = [it for it in state(self.copy).movements if it.phase == "MID"]
+        half_way = [it for it in self.begin.movements if it.phase == "MID"]
         for it in half_way:
             self.trial.commit(f"finish-{it.kind} {it.node}")
         return [(it.kind, it.node) for it in half_way]
@@ -117,23 +137,31 @@ class Planner:
 
     def wave(self, wishes: Sequence[Wish]) -> Wave:
         """Prepares the wishes that can be in flight together, goes through their steps, and finishes them."""
-        before, wave = state(self.copy), Wave()
+        before, wave = self.now(), Wave()
         wave.already = [(it.kind, it.node, it.phase) for it in before.movements]
-        moments = [self.quorums.margins(self.places_now())]
+        moments = [self.look()[0]]
         attempts = [self.attempt(wave, it) for it in wishes]
         if any("LOCKED" in it for it in wave.waiting.values()):
             found = couplings(before, attempts)
             wave.coupled = {it.name: found.get(self.id_of(it.name), []) for it in wishes if it.name in wave.waiting}
         moving = [*wave.already, *((it.kind, self.id_of(it.name), "PREPARED") for it in wave.wishes)]
         self.step("start", moving)
-        started = self.places_now()
-        wave.moved = {keyspace: pending_shares(it) for keyspace, it in started.items()}
-        moments.append(self.quorums.margins(started))
+        started, wave.moved = self.look()
         self.step("mid", moving)
-        moments.append(self.quorums.margins(self.places_now()))
+        moments += [started, self.look()[0]]
         self.step("finish", moving)
         wave.margins = least(moments)
         return wave
+
+    def look(self) -> Tuple[Dict[Level, Margin], Dict[str, Dict[int, int]]]:
+        """Returns the margins now, and by keyspace what is streamed to which node, one keyspace for each replication."""
+        margins: Dict[Level, Margin] = {}
+        moved: Dict[str, Dict[int, int]] = {}
+        for keyspace in self.same:
+            seen = self.quorums.look(keyspace)
+            moved[keyspace] = seen.moved
+            margins.update(self.quorums.margins(keyspace, seen))
+        return margins, moved
 
     def attempt(self, wave: Wave, wish: Wish) -> Attempt:
         """Tries to prepare a wish."""
@@ -153,19 +181,16 @@ class Planner:
             if ORDER[phase] < done:
                 self.trial.commit(f"{step}-{kind} {node}")
 
-    def places_now(self) -> Dict[str, Placement]:
-        """Returns the placements now, of one keyspace for each replication."""
-        return self.trial.places(list(self.same))
-
 
 def plan(log: str, wishes: List[Wish], down: List[str], names: Names, seed: int) -> Plan:
     """Tries wishes on a copy of a log, in waves, and returns what was seen."""
     rest = with_tokens(log, wishes, names, seed)
     with copy_of(log) as copy, Session(words_on(copy)) as session:
         planner = Planner(session, copy, names, down)
-        before = planner.spreads()
+        cluster, before = cluster_of(copy), planner.spreads()
         finished = planner.finish_half_way()
         registered = planner.register(wishes)
+        rest = [it for it in rest if it.name not in planner.refused]
         waves: List[Wave] = []
         while rest:
             wave = planner.wave(rest)
@@ -173,11 +198,12 @@ def plan(log: str, wishes: List[Wish], down: List[str], names: Names, seed: int)
                 break
             waves.append(wave)
             rest = [it for it in rest if it not in wave.wishes]
-        after = planner.quorums.margins(planner.places_now())
+        after = planner.look()[0]
         spreads = {it: (before[it], now) for it, now in planner.spreads().items() if it in before}
-        impossible = {it.name: wave.waiting[it.name] for it in rest}
-    nodes = {node: name for name, node in planner.ids.items()}
-    return Plan(waves, finished, impossible, registered, nodes, planner.same, after, spreads)
+        impossible = {**planner.refused, **{it.name: wave.waiting[it.name] for it in rest}}
+    nodes, begin = {node: name for name, node in planner.ids.items()}, (cluster, planner.begin.epoch)
+    registered = [it for it in registered if it[0] not in impossible]
+    return Plan(waves, finished, impossible, registered, nodes, planner.same, after, spreads, begin)
 
 
 def with_tokens(log: str, wishes: List[Wish], names: Names, seed: int) -> List[Wish]:
@@ -191,6 +217,9 @@ def with_tokens(log: str, wishes: List[Wish], names: Names, seed: int) -> List[W
         chooser.settle_all()
         planner.register(wishes)
         for wish in wishes:
+            if wish.name in planner.refused:
+                found.append(wish)
+                continue
             node = planner.id_of(wish.name)
             tokens = chooser.choose(wish, node, planner.place_of(wish)) if wish.draws else []
             found.append(chosen(wish, tokens) if tokens else wish)

@@ -5,7 +5,6 @@ import argparse
 from typing import Dict, List, Sequence
 
 from tools.errors import Refused
-from tools.log import cluster_of, last_epoch
 from tools.margins import Level, Margin
 from tools.names import Names, names_of
 from tools.runbook.page import page_of
@@ -47,10 +46,10 @@ def run(options: argparse.Namespace) -> int:
     """Plans, and returns 1 where a wish can't come true."""
     wishes, down = read_wishes(read_lines(options.moves), name_of(options.moves))
     names = names_of(options.log)
-    head = head_of(cluster_of(options.log) or "-", last_epoch(options.log))
-    made = plan(options.log, dead_first(wishes, down), down, names, options.seed)
+    ordered = dead_first(wishes, down, lambda it: names.here("node", it))
+    made = plan(options.log, ordered, down, names, options.seed)
     if options.script:
-        write_text(options.script, f"{head}\n{script_of(made, names)}")
+        write_text(options.script, script_of(made, names))
     if options.runbook:
         waves = planned(options.log, made, names, down, loads_of(options))
         print_lines(page_of(f"A plan for {options.log}", waves, version_of(options), script_said(options)))
@@ -167,7 +166,9 @@ def level_said(level: str, names: Names) -> str:
 
 def script_of(made: Plan, names: Names) -> str:
     """Returns the plan as a script for `apply`, which does what was tried."""
-    lines = [f"finish-{kind} {names.word('node', made.node_names[node])}" for kind, node in made.finished]
+    cluster, epoch = made.begin
+    lines = [head_of(cluster, epoch)] if cluster else []
+    lines += [f"finish-{kind} {names.word('node', made.node_names[node])}" for kind, node in made.finished]
     if made.registered:
         lines += ["# The new nodes", *(f"register {' '.join(it)}" for it in made.registered)]
     for number, wave in enumerate(made.waves, 1):

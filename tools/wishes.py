@@ -4,7 +4,7 @@ from __future__ import annotations
 import hashlib
 import re
 from dataclasses import dataclass
-from typing import Container, List, Optional, Tuple
+from typing import Callable, Container, List, Optional, Tuple
 
 from tools.errors import Refused
 from tools.names import canonical
@@ -109,9 +109,13 @@ def draw_tokens(name: str, count: int, seed: int, taken: Container[int]) -> List
     return sorted(tokens)
 
 
-def dead_first(wishes: List[Wish], down: List[str]) -> List[Wish]:
-    """Returns wishes in the order in which they are tried: first those by which a node goes that is down."""
-    return sorted(wishes, key=lambda it: it.leaving not in down)
+def dead_first(wishes: List[Wish], down: List[str], here: Callable[[str], str] = str) -> List[Wish]:
+    """Returns wishes in the order in which they are tried: first those by which a node goes that is down.
+
+    `here` returns the name in the log for the name of a node.
+    """
+    dead = {here(it) for it in down}
+    return sorted(wishes, key=lambda it: not it.leaving or here(it.leaving) not in dead)
 
 
 def chosen(wish: Wish, tokens: List[int]) -> Wish:
