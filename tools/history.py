@@ -7,7 +7,7 @@ from typing import Any, Dict, Iterator, List, Sequence, Set, Tuple
 
 from tools.answers import Movement, Node, Quorum, Row, is_refusal, read_movement, read_node, read_quorum, read_row
 from tools.errors import Refused
-from tools.margins import Sets, levels_of
+from tools.margins import levels_of
 from tools.program import Session
 from tools.terms import GREATEST
 
@@ -16,6 +16,8 @@ FOLLOWER = "page"
 Command = Dict[str, Any]  # as a log file has it
 Spare = Tuple[int, int, int, int]  # of a level: the need of reads and their nodes, the need of writes and their nodes
 Needs = Tuple[Spare, ...]  # of each level of a keyspace
+
+Sets = Tuple[Tuple[int, ...], Tuple[int, ...]]  # the nodes that are read, and those that are written
 
 
 class Replicas:

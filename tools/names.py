@@ -14,6 +14,7 @@ from typing import Dict, Iterator, List, Optional, Tuple
 
 from tools.errors import Refused
 from tools.log import cluster_of, object_in
+from tools.on_disk import is_there, open_log, place_of
 from tools.terms import MOST_NAME, NAME
 from tools.text import write_text
 
@@ -189,13 +190,18 @@ def add_line(names: Names, words: List[str], where: str) -> None:
 
 def marks_of(log: str) -> List[str]:
     """Returns the cluster of a log and checksums of its first line, and of its first two; nothing without a header."""
-    cluster = cluster_of(log) if os.path.isfile(log) else None
+    cluster = cluster_of(log) if has_lines(log) else None
     if cluster is None:
         return []
-    with open(log, "rb") as it:
+    with open_log(log) as it:
         first, second = it.readline(), it.readline()
     beginnings = [first, first + second] if second.endswith(b"\n") else [first]
     return [cluster, *(hashlib.sha256(it).hexdigest()[:16] for it in beginnings)]
+
+
+def has_lines(log: str) -> bool:
+    """Returns whether a log is there, and no device and no file that is too large."""
+    return place_of(log) is not None and is_there(log) or os.path.isfile(log) and os.path.getsize(log) <= MOST_BYTES
 
 
 def check_log(log: str, said: List[str], where: str) -> None:
@@ -213,10 +219,10 @@ def check_log(log: str, said: List[str], where: str) -> None:
 
 def names_in(log: str) -> Iterator[Tuple[str, str]]:
     """Gives the names that the entries of a log have, each with its kind."""
-    if not os.path.isfile(log) or os.path.getsize(log) > MOST_BYTES:
+    if not has_lines(log):
         return
     try:
-        with open(log, "rb") as lines:
+        with open_log(log) as lines:
             for line in lines:
                 if b"register" in line or b"keyspace" in line or b"\\" in line:
                     yield from names_in_entry(object_in(line).get("command"))

@@ -1,8 +1,9 @@
 """Tests of answers, sums over placements, and pictures."""
+import re
 import unittest
 import xml.etree.ElementTree
 
-from tools.answers import Node, Placement, Row, framed, read_nodes, read_placement
+from tools.answers import Node, Placement, Row, Stream, framed, read_nodes, read_placement, read_plan
 from tools.bands import draw_bands
 from tools.errors import Refused
 from tools.placements import merged, pending_shares, read_shares
@@ -28,6 +29,23 @@ class Answers(unittest.TestCase):
         self.assertEqual(read_placement(PLACE).rows[0], Row(None, 0, (1,), (1, 2)))
         nodes = read_nodes(NODES)
         self.assertEqual((nodes.nodes[1].state, nodes.movements[0].incoming), ("MOVING", ((-7, 2),)))
+
+    def test_numbers_have_at_most_twenty_digits(self):
+        long = "1" * 5000
+        for lines in ([f"PLACE {long} ks 0"], [f"NODES {long} 0 0"], [f"OK {long}"]):
+            with self.assertRaises(Refused):
+                list(framed(lines))
+        for at, line in ((1, f"(min,{long}] read 1 write 1"), (1, f"(min,0] read {long} write 1")):
+            with self.subTest(line[:20]), self.assertRaises(Refused):
+                read_placement([PLACE[0], line, *PLACE[2:]])
+
+    def test_stream_plans_are_read(self):
+        rows = read_plan(["PLAN 14 5 ks 2", "(min,-7] to 5 from 4", "(8,max] to 6 any 1,2"])
+        self.assertEqual(rows, [Stream(None, -7, 5, 4, ()), Stream(8, None, 6, None, (1, 2))])
+        self.assertEqual([it.width for it in rows], [-7 - LEAST + 1, GREATEST - 8])
+        for lines in (["PLAN 14 5 ks 2", "(min,-7] to 5 from 4"], ["OK 1"], ["PLAN 1 5 ks 1", "(min,0] to 5"]):
+            with self.subTest(lines), self.assertRaises(Refused):
+                read_plan(lines)
 
     def test_rows_that_do_not_follow_are_told(self):
         for at, line in (
@@ -99,6 +117,19 @@ class Pictures(unittest.TestCase):
 
     def test_dark_viewers_get_other_colours(self):
         self.assertIn("prefers-color-scheme: dark", draw_rings([read_placement(PLACE)], [1, 2], {}))
+
+    def test_odd_names_stay_text(self):
+        for odd in ("<script>x</script>", "a & b", 'q"\'>', "\x1b[31m\x00\x9b", "\ufffe\ud800", "]]>", "<!--"):
+            nodes = [Node(i, odd, odd, f"{odd}{i}", "JOINED", ()) for i in (1, 2)]
+            placement = Placement(12, odd, read_placement(PLACE).rows)
+            shown = re.sub("[\x00-\x1f\x7f-\x9f\ud800-\udfff\ufffe]", "\ufffd", odd)
+            for said in (
+                draw_rings([placement], [1, 2], {1: odd, 2: odd}), draw_bands([placement], nodes)
+            ):
+                texts = [it.text for it in xml.etree.ElementTree.fromstring(said.encode()).iter() if it.text]
+                self.assertFalse("<script" in said or "\x1b" in said)
+                self.assertTrue(any(it.endswith(f"{shown}: read and written") for it in texts), odd)
+                self.assertIn(f"keyspace {shown}, epoch 12", texts)
 
     def test_captions_break(self):
         self.assertEqual(wrapped("a bb ccc", length("a bb")), ["a bb", "ccc"])
