@@ -234,6 +234,19 @@ class Plans(InTutorial, Compared):
             self.assertEqual(shown.run("document.querySelectorAll('img, b:not(.flight b)').length"), 0)
             self.assertEqual(shown.faults(), [])
 
+    def test_an_empty_log_has_a_page(self):
+        self.write("empty.log", '{"cluster":"empty","format":2}\n')
+        with Browser() as browser:
+            shown = browser.open(page("empty.log"))
+            self.assertIn("epoch 0 of 0", shown.run("document.title"))
+            self.assertEqual(shown.faults(), [])
+
+    def test_a_page_of_the_last_epochs_says_the_same(self):
+        with Browser() as browser:
+            shown = browser.open(page("shop.log", "--since", "@8"))
+            self.assertEqual(shown.run("data.epochs.length"), 3)
+            self.assertEqual(shown.run("shown.rows.length"), len(self.ask("place @10 logs\n")) - 1)
+
     def test_keys_go_through_the_epochs(self):
         with Browser() as browser:
             shown = browser.open(page("shop.log"))

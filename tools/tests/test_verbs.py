@@ -214,6 +214,14 @@ class Plans(InTutorial):
         )
         self.assertEqual(cluster("status", "shop.log", "@11")[0], 1)
 
+    def test_many_ranges_in_a_ring_are_refused(self):
+        rows = [f"({i if i else 'min'},{i + 1 if i < 100 else 'max'}] read 1 write 1" for i in range(101)]
+        self.write("answers.txt", "\n".join(["PLACE 1 ks 101", *rows, ""]))
+        self.assertEqual(cluster("draw", "--answers", "answers.txt")[0], 0)
+        status, _, said = cluster("draw", "--answers", "answers.txt", "--shape", "rings")
+        self.assertEqual(status, 1)
+        self.assertIn("--shape bands", said)
+
     def same_keyspace(self):
         """Writes a script that makes a keyspace like another one, and returns its path."""
         self.write("again.script", "keyspace again simple 2\n")
