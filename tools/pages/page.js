@@ -4,7 +4,8 @@
 // a range by the place of the token that ends it; the last place is that of `max`.
 
 const data = JSON.parse(document.getElementById("data").textContent);
-const turns = data.tokens.map((it) => (it === "max" ? 1 : Number(it) / 2 ** 64 + 0.5)); // parts of the ring, for pictures
+// The parts of the ring up to each token, for pictures.
+const turns = data.tokens.map((it) => (it === "max" ? 1 : Number(it) / 2 ** 64 + 0.5));
 const nodeOf = new Map(data.nodes.map(([id, name, dc, rack]) => [id, { id, name, dc, rack }]));
 const lastPlace = data.epochs.length - 1;
 const nowPlace = data.epochs.findIndex((it) => it.epoch === data.last);
@@ -13,6 +14,7 @@ const plannedAt = new Map(data.plan.map((it) => [it.epoch, it]));
 const MOST_OPEN = 60; // nodes, up to which all racks are open
 const MOST_IN_RING = 24; // ranges, up to which a ring is drawn
 const PAGE = 50; // rows of a table
+const FILTERS = ["keyspace", "dc", "rack", "node", "token"];
 const PHASES = ["PREPARED", "STARTED", "MID"];
 const FILLS = {
   stay: "read and written",
@@ -150,7 +152,8 @@ function rowsOf(group, old) {
     const [reads, pending, needs] = data.groups[group].sets[set];
     const before = old.get(end);
     const changed = before !== undefined && !sameNodes(before, [reads, pending]);
-    rows.push({ left, end, reads, pending, needs: data.groups[group].needs[needs], before, changed, streams: [], flight: null });
+    const row = { left, end, reads, pending, before, changed, streams: [], flight: null };
+    rows.push({ ...row, needs: data.groups[group].needs[needs] });
     left = end;
   });
   return rows;
@@ -211,7 +214,8 @@ const least = (row) => Math.min(row.needs[0][1] - row.needs[0][0], row.needs[0][
 
 function isChosen(id) {
   const it = nodeOf.get(id);
-  return (!view.dc || it.dc === view.dc) && (!view.rack || it.rack === view.rack) && (!view.node || it.name.includes(view.node));
+  const isThere = (!view.dc || it.dc === view.dc) && (!view.rack || it.rack === view.rack);
+  return isThere && it.name.includes(view.node);
 }
 
 /** The place of the token that ends the range of a token, or -1 where the words are no token. */
@@ -274,7 +278,8 @@ function showTicks() {
 function showFilters() {
   const form = byId("filters");
   const { elements } = form;
-  const keyspaces = shown.epoch.keyspaces.map(([group, names]) => [names[0], `${names.join(", ")} (${data.groups[group].replication})`]);
+  const said = ([group, names]) => `${names.join(", ")} (${data.groups[group].replication})`;
+  const keyspaces = shown.epoch.keyspaces.map((it) => [it[1][0], said(it)]);
   options(elements.keyspace, keyspaces, shown.names[0] || "");
   const dcs = [...new Set(data.nodes.map((it) => it[2]))].sort();
   const racks = [...new Set(data.nodes.filter((it) => !view.dc || it[2] === view.dc).map((it) => it[3]))].sort();
@@ -305,8 +310,8 @@ function flightsToTell() {
 function showFlights() {
   const { flights, place } = flightsToTell();
   const isComing = place > shown.place;
-  const title = flights.length ? (isComing ? `Next: from epoch ${data.epochs[place].epoch} on` : "In flight now") : "No movement is in flight";
-  byId("movements-title").textContent = title;
+  const title = isComing ? `Next: from epoch ${data.epochs[place].epoch} on` : "In flight now";
+  byId("movements-title").textContent = flights.length ? title : "No movement is in flight";
   const streams = flights.map((it) => streamsOf(it, shown.epoch.epoch, shown.group));
   const isOpen = streams.reduce((sum, it) => sum + it.ranges.length, 0) <= 12;
   byId("flights").replaceChildren(...flights.map((it, i) => flightCard(it, streams[i], isComing, isOpen)));
@@ -379,7 +384,8 @@ function othersOf(flight) {
 
 function marginsSaid(margins) {
   const said = (count) => (count < 0 ? "no quorum somewhere" : `${count}`);
-  return data.groups[shown.group].levels.map((level, i) => `${level}: reads ${said(margins[i][0])}, writes ${said(margins[i][1])}`).join("; ");
+  const levels = data.groups[shown.group].levels;
+  return levels.map((it, i) => `${it}: reads ${said(margins[i][0])}, writes ${said(margins[i][1])}`).join("; ");
 }
 
 function riskOf(flight, { ranges }, isComing) {
@@ -552,7 +558,8 @@ function spansOf(bands) {
     const [begin, end] = [1000 * turnBefore(row.left), 1000 * turns[row.end]];
     for (const id of new Set(row.flight ? replicasOf(row) : [])) {
       const fill = fillOf(row, id);
-      if (fill) for (const it of byNode[id] || []) addSpan(it.spans[fill], begin, fill === "stay" ? end : Math.max(end, begin + 4));
+      const past = fill === "stay" ? end : Math.max(end, begin + 4); // (what moves is to be seen)
+      if (fill) for (const it of byNode[id] || []) addSpan(it.spans[fill], begin, past);
     }
     if (row.flight) continue;
     for (const id of row.reads) for (const it of byNode[id] || []) addSpan(it.spans.stay, begin, end);
@@ -576,9 +583,14 @@ function pathOf(spans, height) {
   return path;
 }
 
-function bar(spans, attributes = {}) {
-  const paths = Object.keys(FILLS).filter((it) => spans[it].length).map((it) => drawn("path", { class: it, d: pathOf(spans[it], 14) }));
-  return drawn("svg", { class: "bar", viewBox: "0 0 1000 14", preserveAspectRatio: "none", "aria-hidden": "true", ...attributes }, paths);
+function bar(spans) {
+  const fills = Object.keys(FILLS).filter((it) => spans[it].length);
+  return strip("bar", 14, fills.map((it) => drawn("path", { class: it, d: pathOf(spans[it], 14) })));
+}
+
+function strip(name, height, paths) {
+  const stretched = { viewBox: `0 0 1000 ${height}`, preserveAspectRatio: "none" };
+  return drawn("svg", { class: name, "aria-hidden": "true", ...stretched }, paths);
 }
 
 function bandElement(band) {
@@ -590,7 +602,8 @@ function bandElement(band) {
     };
     const said = `${band.isOpen ? "▾" : "▸"} ${band.rack}`;
     const opens = button(said, click, { "aria-expanded": String(band.isOpen), title: band.rack });
-    return element("div", { class: "band rack" }, opens, element("span", { class: "name" }, plural(band.ids.length, "node")), bar(band.spans), element("span"));
+    const count = element("span", { class: "name" }, plural(band.ids.length, "node"));
+    return element("div", { class: "band rack" }, opens, count, bar(band.spans), element("span"));
   }
   const { id, name, rack } = band.node;
   const { read, pending } = (state.shares[shown.group] || {})[id] || {};
@@ -613,7 +626,7 @@ function axisAndChanges() {
     if (row.changed) addSpan(changed, begin, Math.max(1000 * turns[row.end], begin + 2));
   }
   const said = changed.length ? "changed" : "";
-  const marks = drawn("svg", { class: "bar changes", viewBox: "0 0 1000 6", preserveAspectRatio: "none", "aria-hidden": "true" }, drawn("path", { d: pathOf(changed, 6) }));
+  const marks = strip("bar changes", 6, [drawn("path", { d: pathOf(changed, 6) })]);
   const text = (said, name = "soft") => element("span", { class: name }, said);
   const line = (it, name, share) => element("div", { class: "band" }, text(""), text(name, "name soft"), it, text(share));
   return [line(axis, "", "share read + pending"), line(marks, said, "")];
@@ -632,7 +645,8 @@ function ringOf(tracks) {
   const track = Math.min(22, 130 / tracks.length);
   const outside = HOLE + track * tracks.length;
   const parts = rows.map((row, i) => ringRow(row, tracks, track, [i ? ends[i - 1] : 0, ends[i]]));
-  const labels = rows.map((row, i) => ringEnd(outside, ends[i], i === rows.length - 1 ? `${data.tokens[row.end]} | min` : data.tokens[row.end]));
+  const label = ({ end }, i) => (i === rows.length - 1 ? `${data.tokens[end]} | min` : data.tokens[end]);
+  const labels = rows.map((row, i) => ringEnd(outside, ends[i], label(row, i)));
   const [width, height] = [outside + 150, outside + 22];
   const rings = tracks.map((_, i) => drawn("circle", { class: "apart", r: HOLE + track * i }));
   const named = tracks.flatMap((id, i) => [i ? ", " : "", nameOf(id)]);
@@ -646,13 +660,15 @@ function ringRow(row, tracks, track, [begin, end]) {
   const part = (id, i) => {
     const fill = fillOf(row, id);
     const path = sector(HOLE + track * i, HOLE + track * (i + 1), begin, end);
-    return drawn("path", { d: path, class: fill || "track" }, fill ? drawn("title", {}, `${nodeOf.get(id).name}: ${FILLS[fill]}`) : []);
+    const told = fill ? drawn("title", {}, `${nodeOf.get(id).name}: ${FILLS[fill]}`) : [];
+    return drawn("path", { d: path, class: fill || "track" }, told);
   };
   const tell = () => tellOf(row);
   const pin = () => choose({ token: data.tokens[row.end] });
   const key = (event) => event.key === "Enter" && pin();
   const said = `Range ${rangeName(row.left, row.end)}`;
-  return drawn("g", { class: "row", tabindex: 0, role: "button", "aria-label": said, mouseenter: tell, focus: tell, click: pin, keydown: key }, tracks.map(part));
+  const listeners = { mouseenter: tell, focus: tell, click: pin, keydown: key };
+  return drawn("g", { class: "row", tabindex: 0, role: "button", "aria-label": said, ...listeners }, tracks.map(part));
 }
 
 function ringEnd(outside, turn, said) {
@@ -670,7 +686,8 @@ function pointAt(radius, turn) {
 function sector(inner, outer, begin, end) {
   const middle = (begin + end) / 2;
   const arc = (radius, sweep, turn) => `A${radius} ${radius} 0 0 ${sweep} ${pointAt(radius, turn)}`;
-  return `M${pointAt(outer, begin)}${arc(outer, 1, middle)}${arc(outer, 1, end)}L${pointAt(inner, end)}${arc(inner, 0, middle)}${arc(inner, 0, begin)}Z`;
+  const far = `M${pointAt(outer, begin)}${arc(outer, 1, middle)}${arc(outer, 1, end)}`;
+  return `${far}L${pointAt(inner, end)}${arc(inner, 0, middle)}${arc(inner, 0, begin)}Z`;
 }
 
 // ---- A range
@@ -695,11 +712,13 @@ function tellOf(row) {
   const bars = byId("bands").querySelector(".bar");
   chosen.hidden = !row || !bars;
   if (!row) {
-    byId("range-told").replaceChildren(element("p", { class: "note" }, "Point at a range, tap it, or go to it by Tab: here stand its replicas and quorums."));
+    const hint = "Point at a range, tap it, or go to it by Tab: here stand its replicas and quorums.";
+    byId("range-told").replaceChildren(element("p", { class: "note" }, hint));
     return;
   }
   if (bars) {
-    chosen.style.left = `${bars.getBoundingClientRect().left - byId("bands").getBoundingClientRect().left + turnBefore(row.left) * bars.clientWidth}px`;
+    const left = bars.getBoundingClientRect().left - byId("bands").getBoundingClientRect().left;
+    chosen.style.left = `${left + turnBefore(row.left) * bars.clientWidth}px`;
     chosen.style.width = `${Math.max(2, (turns[row.end] - turnBefore(row.left)) * bars.clientWidth)}px`;
   }
   const { levels } = data.groups[shown.group];
@@ -723,7 +742,8 @@ function needSaid([readNeed, readers, writeNeed, writers]) {
 
 function movementSaid(row) {
   if (!row.flight) return "none changes it";
-  const takes = row.streams.flatMap((it) => ["; ", nameOf(it.to), it.strict ? " takes it from " : " takes it from any of ", ...namesOf(it.sources)]);
+  const from = (it) => [it.strict ? " takes it from " : " takes it from any of ", ...namesOf(it.sources)];
+  const takes = row.streams.flatMap((it) => ["; ", nameOf(it.to), ...from(it)]);
   return [`${row.flight.kind} of `, nameOf(row.flight.node), `, ${row.flight.phase}, locks it`, ...takes];
 }
 
@@ -761,7 +781,8 @@ function showRows() {
     element("td", {}, row.flight ? movementSaid(row) : ""),
     element("td", {}, row.changed ? "changed" : ""),
   ];
-  const made = rows.map((row) => element("tr", { class: `${row.flight ? "moving" : ""} ${row.changed ? "changed" : ""}` }, cells(row)));
+  const kindOf = (row) => `${row.flight ? "moving" : ""} ${row.changed ? "changed" : ""}`;
+  const made = rows.map((row) => element("tr", { class: kindOf(row) }, cells(row)));
   const heads = ["Range", "Read and written", "Written only", ...levels, "Movement", "Since the epoch before"];
   byId("rows-table").replaceChildren(tableOf(`${shown.names.join(", ")}, epoch ${shown.epoch.epoch}`, heads, made));
   byId("rows-shown").value = view.rows;
@@ -770,7 +791,8 @@ function showRows() {
 function showNodes() {
   const ids = Object.keys(state.nodes).map(Number).filter((id) => state.nodes[id] && isChosen(id));
   const made = page("nodes", ids, "node").map(nodeRow);
-  const heads = ["Id", "Node", "Datacenter", "Rack", "State", "Tokens", ...shown.epoch.keyspaces.map(([, names]) => `Share of ${names.join(", ")}`)];
+  const shares = shown.epoch.keyspaces.map(([, names]) => `Share of ${names.join(", ")}`);
+  const heads = ["Id", "Node", "Datacenter", "Rack", "State", "Tokens", ...shares];
   byId("nodes-table").replaceChildren(tableOf(`Nodes at epoch ${shown.epoch.epoch}`, heads, made));
 }
 
@@ -827,7 +849,7 @@ function readAddress() {
   const said = new URLSearchParams(location.hash.slice(1));
   const place = placeOf(Number(said.get("epoch") || data.last));
   view.place = place < 0 ? nowPlace : place;
-  for (const key of ["keyspace", "dc", "rack", "node", "token"]) view[key] = said.get(key) || "";
+  for (const key of FILTERS) view[key] = said.get(key) || "";
   view.rows = said.get("rows") || "all";
 }
 
@@ -850,7 +872,7 @@ function press(event) {
 
 function listen() {
   const form = byId("filters");
-  const read = () => choose(Object.fromEntries(["keyspace", "dc", "rack", "node", "token"].map((it) => [it, form.elements[it].value.trim()])));
+  const read = () => choose(Object.fromEntries(FILTERS.map((it) => [it, form.elements[it].value.trim()])));
   form.addEventListener("input", read);
   form.addEventListener("submit", (event) => event.preventDefault());
   form.addEventListener("reset", (event) => {
