@@ -78,7 +78,7 @@ def with_spelling(draw: random.Random, lines: Lines, at: int) -> Lines:
         text = respelled(draw, json.loads(lines[at]))
     except ValueError:
         return lines
-    return [*lines[:at], text.encode() + b"\n", *lines[at + 1 :]]
+    return [*lines[:at], text.encode("utf-8", "surrogatepass") + b"\n", *lines[at + 1 :]]
 
 
 def without_line(_: random.Random, lines: Lines, at: int) -> Lines:

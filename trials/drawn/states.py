@@ -167,7 +167,7 @@ def nodes_of(count: int, tokens: int) -> Image:
 
 def large_state(draw: random.Random) -> Image:
     """Returns a state at a limit, or past it: of nodes, tokens of a node, tokens or keyspaces."""
-    past, way = draw.choice((0, 1)), draw.randrange(4)
+    past, way = draw.choice((0, 1, 1)), draw.randrange(4)
     if way == 0:
         return nodes_of(1024 + past, 0)
     if way == 1:

@@ -189,7 +189,12 @@ def full(both: Both) -> None:
         both.put(b"state", image_line(large_state(draw)))
         both.run([b"replay", b"state"])
     else:
-        both.run([b"commit"], lines(draw, epochs_full if way < 0.43 else draw.choice(SCRIPTS)))
+        both.run([b"commit"], lines(draw, draw.choice(SCRIPTS)))
+
+
+def epochs(both: Both) -> None:
+    """A script that comes to the limit of epochs."""
+    both.run([b"commit"], lines(both.case.random, epochs_full))
 
 
 def faults(both: Both) -> None:
@@ -253,7 +258,8 @@ CASES: Sequence[Tuple[float, Callable[[Both], None]]] = (
     (6, states),
     (2, words),
     (1, generated),
-    (0.8, full),
+    (1.6, full),
+    (0.1, epochs),
     (0.3, faults),
 )
 

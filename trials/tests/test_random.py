@@ -31,7 +31,8 @@ class Cases(unittest.TestCase):
                     self.assertEqual(both.differences, [], one.__name__)
 
     def test_random(self) -> None:
-        self.run_all([it for _, it in random_lines.CASES if it is not random_lines.full], 4)
+        slow = (random_lines.full, random_lines.epochs)
+        self.run_all([it for _, it in random_lines.CASES if it not in slow], 4)
 
     def test_mangled(self) -> None:
         self.run_all((mangled.log, mangled.replay, mangled.state, mangled.disk), 4)
