@@ -11,7 +11,7 @@ from trials.kind import Case, Ended, Kind
 from trials.kinds import limits, mangled, random_lines
 from trials.machine.runs import Run
 from trials.rows import TOP
-from trials.tests.faults import FAULTS
+from trials.tests.faults import FAULTS, noticed
 
 PROGRAM = os.environ.get("TCM", "")
 needs_program = unittest.skipUnless(PROGRAM, "TCM names no program")
@@ -32,20 +32,26 @@ class Cases(unittest.TestCase):
 
     def test_random(self) -> None:
         slow = (random_lines.full, random_lines.epochs)
-        self.run_all([it for _, it in random_lines.CASES if it not in slow], 4)
+        self.run_all([it for _, it in random_lines.CASES if it not in slow], 8)
 
     def test_mangled(self) -> None:
-        self.run_all((mangled.log, mangled.replay, mangled.state, mangled.disk), 4)
+        self.run_all((mangled.log, mangled.replay, mangled.state, mangled.disk), 8)
 
     def test_limits(self) -> None:
-        self.run_all((limits.words_of_lines, limits.files_of_a_replay, limits.members, limits.bytes_of_files), 1)
+        slow = [limits.NAMES.index(it) for it in ("rounds", "bytes_of_files", "states", "tokens_full", "epochs_full")]
+        for turn in range(len(limits.NAMES)):
+            if turn not in slow:
+                self.run_case(limits.KIND, turn)
 
     def test_each_kind_runs_a_case(self) -> None:
-        kinds: Sequence[Kind] = (random_lines.KIND, mangled.KIND)
-        for kind in kinds:
-            with tempfile.TemporaryDirectory() as folder:
-                case = Case(3, PROGRAM, folder)
-                self.assertEqual((kind.case(case), case.count > 0), ("", True))
+        self.run_case(random_lines.KIND, 3)
+        self.run_case(mangled.KIND, 3)
+
+    def run_case(self, kind: Kind, seed: int) -> None:
+        """Runs a case of a kind."""
+        with tempfile.TemporaryDirectory() as folder:
+            case = Case(seed, PROGRAM, folder)
+            self.assertEqual((kind.case(case), case.count > 0), ("", True), seed)
 
 
 class Comparing(unittest.TestCase):
@@ -80,6 +86,10 @@ class Faults(unittest.TestCase):
             with open(os.path.join(TOP, "trials", "machine", f"{module}.py"), encoding="utf-8") as it:
                 self.assertTrue(right in it.read(), name)
             self.assertNotEqual(right, wrong)
+
+    @needs_program
+    def test_one_is_noticed(self) -> None:
+        self.assertTrue(noticed("two refusals in another order"))
 
 
 if __name__ == "__main__":
