@@ -4,7 +4,7 @@ from __future__ import annotations
 import argparse
 import sys
 from contextlib import ExitStack
-from typing import Dict, List, Sequence
+from typing import Callable, Dict, List, Sequence
 
 from tools import names as naming
 from tools.committer import Committer, Done, in_order
@@ -74,7 +74,7 @@ def run(options: argparse.Namespace) -> int:
         commit = words_for(options, script)
         epoch = 0 if is_absent_or_empty(options.log) else last_epoch(options.log)
         used = epochs_by_id(options.log)
-        found = tried(options, script, steps, Committer(None, names, epoch, dict(used)))
+        found = tried(options, script, steps, lambda it: Committer(it, names, epoch, dict(used)))
         if options.dry_run:
             print(f"{plural(len(steps), 'command')} accepted on a copy; the log is as it was")
             return 0
@@ -85,7 +85,7 @@ def run(options: argparse.Namespace) -> int:
             names.save(naming.path_of(options.log))
             session = stack.enter_context(Session(commit, locks))
             apply(options, script, rest, Committer(session, names, epoch, used))
-        return 0
+    return 0
 
 
 def locked_path(log: str) -> str:
@@ -126,13 +126,15 @@ def check_epoch(options: argparse.Namespace, script: Script, epoch: int, used: D
         confirm(script.name, said, "epoch", options.yes)
 
 
-def tried(options: argparse.Namespace, script: Script, steps: List[Step], committer: Committer) -> List[Done]:
+def tried(
+    options: argparse.Namespace, script: Script, steps: List[Step], committer_on: Callable[[Session], Committer]
+) -> List[Done]:
     """Returns what becomes of the commands on a copy, where each has to be accepted."""
+    found: List[Done] = []
     with ExitStack() as stack:
         is_new = is_absent_or_empty(options.log)
         copy = [] if is_new else words_on(stack.enter_context(copy_of(options.log)))
-        committer.session = stack.enter_context(Session(copy))
-        found: List[Done] = []
+        committer = committer_on(stack.enter_context(Session(copy)))
         for step in steps:
             try:
                 found.append(committer.commit(script, step))
@@ -141,7 +143,7 @@ def tried(options: argparse.Namespace, script: Script, steps: List[Step], commit
             if options.dry_run:
                 say(f"{script.name}:{step.line}: {step.said}: OK {found[-1].epoch}")
         in_order(script, found)
-        return found
+    return found
 
 
 def passed_over(script: Script, found: List[Done]) -> List[Step]:

@@ -10,7 +10,7 @@ import stat
 import tempfile
 import time
 from contextlib import contextmanager
-from typing import BinaryIO, Iterable, Iterator, Optional
+from typing import Any, BinaryIO, Dict, Iterable, Iterator, Optional
 
 from tools.errors import Refused
 
@@ -170,7 +170,7 @@ def has_header(path: str) -> bool:
     return bool({"cluster", "entry", "snapshot"} & set(found))
 
 
-def object_in(line: bytes) -> dict:
+def object_in(line: bytes) -> Dict[str, Any]:
     """Returns the JSON object in a whole line, an empty one if there is none."""
     try:
         value = json.loads(line) if line.endswith(b"\n") else None

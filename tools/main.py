@@ -6,7 +6,8 @@ import importlib
 import os
 import sys
 import traceback
-from typing import IO, List, NoReturn, Optional
+from types import ModuleType
+from typing import Any, IO, List, NoReturn, Optional, Sequence
 
 from tools.errors import Refused, WrongWords
 from tools.process import close_output, settle
@@ -50,12 +51,12 @@ def version() -> str:
         return it.read().strip()
 
 
-def every_verb() -> list:
+def every_verb() -> List[ModuleType]:
     """Returns the modules of all verbs."""
     return [importlib.import_module(f"tools.{it}") for it in VERBS]
 
 
-def parser_of(modules: list) -> argparse.ArgumentParser:
+def parser_of(modules: Sequence[Any]) -> argparse.ArgumentParser:
     """Returns what reads the words of all verbs."""
     shape = argparse.RawDescriptionHelpFormatter
     parser = Parser(prog="cluster", description=ABOUT, epilog=EPILOG, formatter_class=shape, allow_abbrev=False)
@@ -100,7 +101,7 @@ def run(options: argparse.Namespace) -> int:
     name = f"cluster {options.verb}"
     try:
         check_outputs(options)
-        return options.run(options)
+        return int(options.run(options))
     except WrongWords as why:
         options.parser.print_usage(sys.stderr)
         return fail(name, str(why), 2)

@@ -13,7 +13,8 @@ import re
 from typing import Dict, Iterator, List, Optional, Tuple
 
 from tools.errors import Refused
-from tools.log import cluster_of, object_in
+from tools.files import object_in
+from tools.log import cluster_of
 from tools.on_disk import is_there, open_log, place_of
 from tools.terms import MOST_NAME, NAME
 from tools.text import write_text

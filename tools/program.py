@@ -5,7 +5,7 @@ import os
 import subprocess
 import threading
 from dataclasses import dataclass
-from typing import List, Sequence
+from typing import IO, List, Sequence
 
 from tools.answers import lines_after
 from tools.errors import NotReady, Refused, Unclear
@@ -64,6 +64,9 @@ class Session:
             )
         except OSError as why:
             raise Refused(f"{program()} can't be run: {why.strerror}") from why
+        assert self.process.stdin and self.process.stdout
+        self.to: IO[bytes] = self.process.stdin
+        self.of: IO[bytes] = self.process.stdout
 
     def __enter__(self) -> Session:
         return self
@@ -73,7 +76,7 @@ class Session:
 
     def close(self) -> int:
         """Ends the input, and returns the status of the run."""
-        for pipe in (self.process.stdin, self.process.stdout):
+        for pipe in (self.to, self.of):
             try:
                 pipe.close()
             except BrokenPipeError:
@@ -83,8 +86,8 @@ class Session:
     def ask(self, line: str) -> List[str]:
         """Sends a line, and returns the lines of its answer."""
         try:
-            self.process.stdin.write(line.encode("utf-8", "surrogateescape") + b"\n")
-            self.process.stdin.flush()
+            self.to.write(line.encode("utf-8", "surrogateescape") + b"\n")
+            self.to.flush()
         except BrokenPipeError:
             pass  # (the answer that is missing tells)
         return self.answer()
@@ -101,8 +104,8 @@ class Session:
     def send(self, lines: Sequence[str]) -> None:
         """Sends lines."""
         try:
-            self.process.stdin.write("".join(f"{it}\n" for it in lines).encode())
-            self.process.stdin.flush()
+            self.to.write("".join(f"{it}\n" for it in lines).encode())
+            self.to.flush()
         except BrokenPipeError:
             pass
 
@@ -113,7 +116,7 @@ class Session:
 
     def line(self) -> str:
         """Reads a line."""
-        line = self.process.stdout.readline()
+        line = self.of.readline()
         if not line.endswith(b"\n"):
             status = self.close()
             why = f"tcm ended with status {status} before it answered; see docs/operators.md, After each status"

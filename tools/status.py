@@ -134,7 +134,7 @@ def tokens_said(movement: Movement) -> str:
     return plural(into if movement.kind in ("join", "replace") else out, "token")
 
 
-def as_json(now: State, names: Names, keyspaces: List[str]) -> dict:
+def as_json(now: State, names: Names, keyspaces: List[str]) -> Dict[str, object]:
     """Returns the state as JSON has it."""
     first = {k: same[0] for same in columns_of(now, keyspaces).values() for k in same}
     by_first = shares_of(now, sorted(set(first.values())))
@@ -162,7 +162,7 @@ def as_json(now: State, names: Names, keyspaces: List[str]) -> dict:
     }
 
 
-def node_json(node: Node, shares: Dict[str, Dict[int, int]], names: Names) -> dict:
+def node_json(node: Node, shares: Dict[str, Dict[int, int]], names: Names) -> Dict[str, object]:
     """Returns a node as JSON has it."""
     return {
         "id": node.id,

@@ -2,7 +2,7 @@
 from __future__ import annotations
 
 import re
-from typing import Optional
+from typing import Optional, Sequence
 
 LEAST, GREATEST = -(2**63), 2**63 - 1
 WHOLE = 2**64  # tokens in the ring
@@ -44,6 +44,6 @@ def plural(count: int, noun: str) -> str:
     return f"{count:,} {noun}" + ("" if count == 1 else "s")
 
 
-def listed(names: list) -> str:
+def listed(names: Sequence[object]) -> str:
     """Returns names as a list in a sentence, `-` where there are none."""
     return ", ".join(str(it) for it in names) or "-"

@@ -189,7 +189,7 @@ def steps_of(wave: Wave, made: Plan, names: Names) -> List[str]:
     ]
 
 
-def as_json(made: Plan, names: Names, down: List[str]) -> dict:
+def as_json(made: Plan, names: Names, down: List[str]) -> Dict[str, object]:
     """Returns the plan as JSON has it."""
     return {
         "down": down,
@@ -202,7 +202,7 @@ def as_json(made: Plan, names: Names, down: List[str]) -> dict:
     }
 
 
-def wave_json(wave: Wave, made: Plan, names: Names) -> dict:
+def wave_json(wave: Wave, made: Plan, names: Names) -> Dict[str, object]:
     """Returns a wave as JSON has it."""
     return {
         "in_flight_already": [
@@ -236,14 +236,14 @@ def wave_json(wave: Wave, made: Plan, names: Names) -> dict:
     }
 
 
-def wish_json(wish: Wish) -> dict:
+def wish_json(wish: Wish) -> Dict[str, object]:
     """Returns a movement as JSON has it."""
     return {
         "node": wish.name, "kind": wish.kind, "replaces": wish.gone or None, "tokens": [str(it) for it in wish.tokens]
     }
 
 
-def spreads_json(made: Plan, names: Names) -> List[dict]:
+def spreads_json(made: Plan, names: Names) -> List[Dict[str, object]]:
     """Returns how evenly keyspaces are spread, as JSON has it."""
     return [
         {
@@ -256,7 +256,7 @@ def spreads_json(made: Plan, names: Names) -> List[dict]:
     ]
 
 
-def margins_json(margins: Dict[Level, Margin], made: Plan, names: Names) -> List[dict]:
+def margins_json(margins: Dict[Level, Margin], made: Plan, names: Names) -> List[Dict[str, object]]:
     """Returns margins as JSON has them; a negative number is that of the replicas that are missing."""
     return [
         {
