@@ -1,0 +1,2 @@
+//! The machine of `share`: one of many processes that answer scripts over one log, which a store of order keeps.
+#![tactic(auto)]

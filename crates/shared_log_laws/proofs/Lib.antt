@@ -1,0 +1,5 @@
+pub mod AddedEntries
+pub mod Fronts
+pub mod KnownLogs
+pub mod Replies
+pub mod Systems
