@@ -1,7 +1,6 @@
 -- What holds of every system of processes over one shared log.
-use Rattle.std.specs.Prelude.{◌≡◌, ℕ, ◌+◌, ◌≤◌, ◌<◌, List, [], ◌∷◌, ◌++◌, flat_map, length, map, take, Option, Some, Result, Ok}
-use Rattle.std.specs.List.{Contains, slice_get}
-use Rattle.cluster_terms.specs.Quorum.{Meet}
+use Rattle.std.specs.Prelude.{◌≡◌, ◌≢◌, ◌⊎◌, ℕ, ◌≤◌, List, [], ◌∷◌, ◌++◌, flat_map, length, take, Some, Ok}
+use Rattle.std.specs.List.{AllByRecursion, Contains, slice_get}
 use Rattle.transformations.specs.History.{state_after}
 use Rattle.transformations.specs.Log.{IsLog, commands_of}
 use Rattle.transformations.specs.Valid.{IsValid}
@@ -9,17 +8,90 @@ use Rattle.transformations.specs.declared.command.Command.{Command}
 use Rattle.transformations.specs.declared.entry.Entry.{Entry as LogEntry}
 use Rattle.wire_json.specs.Reading.{reading}
 use Rattle.wire_json.specs.declared.line.Line.TheVariants.{Entry}
-use Rattle.script_lang.specs.AnswerTexts.{line as with_feed, ok_text}
-use Rattle.script_lang.specs.Grammar.{line_of}
-use Rattle.script_lang.specs.declared.script_line.ScriptLine.TheVariants.{Commit}
+use Rattle.script_lang.specs.AnswerTexts.{line as with_feed}
+use Rattle.script_session.specs.Lines.{HasNoFeed}
 use Rattle.script_session.specs.LogFiles.{log_for, log_in}
 use Rattle.script_session.specs.Machine.{SessionState, reply}
-use Rattle.script_session.specs.declared.session.followers.NamedFollower.{NamedFollower}
-use Rattle.session_laws.specs.Shown.{AreAdjacent, AskAlike, Shown, shown_by}
-use Rattle.share_machine.specs.Outcome.{share_outcome}
-use Rattle.share_machine.specs.Sharing.{next_place}
-use Rattle.shared_log_laws.specs.System.{Answer, Process, System}
+use Rattle.share_machine.specs.Outcome.{ended, share_outcome}
+use Rattle.share_machine.specs.Sharing.{Nothing, Script, next_place}
+use Rattle.shared_log_laws.specs.System.{Acts, Answer, Comes, Dies, Event, Process, Replies, System, system_of}
+
+-- ---- one log
 
 -- these lines are the log of a cluster
 abbrev pub HasLog : List ℕ → List (List ℕ) → List LogEntry → Type 0
 HasLog cluster lines log = log_in (Some cluster) lines ≡ Ok log
+
+-- the lines of the store are a log of the cluster, also as the file of these lines, and its states are valid
+pub record IsSharedLog (cluster : List ℕ) (store : List (List ℕ)) : Type 0 where
+  pub log : List LogEntry
+  pub has : HasLog cluster store log
+  pub file : log_for (Some cluster) (flat_map with_feed store) ≡ Ok log
+  pub is : IsLog log
+  pub valid : (epoch : ℕ) → IsValid (state_after (commands_of log) epoch)
+
+-- a process knows the log of the first lines of the store, the next place is the one after these, and it goes on
+pub record IsUpTo (cluster : List ℕ) (store : List (List ℕ)) (p : Process) : Type 0 where
+  pub front : take (length p.told) store ≡ p.told
+  pub log : HasLog cluster p.told p.sharing.session.log
+  pub place : next_place p.sharing ≡ length p.told
+  pub goes_on : p.sharing.waits ≢ Nothing
+
+-- what stands in a store stays at its place
+abbrev pub StaysIn : List (List ℕ) → List (List ℕ) → Type 0
+StaysIn store later = take (length store) later ≡ store
+
+-- ---- answers
+
+-- at the place of an epoch stands the entry with this id and command
+pub record StandsAt (store : List (List ℕ)) (epoch id : ℕ) (command : Command) : Type 0 where
+  pub text : List ℕ
+  pub at : slice_get store epoch ≡ Some text
+  pub says : reading text ≡ Ok (Entry (record { id = id; epoch = epoch; cmd = command }))
+
+-- an answer is that of the session machine, on the log in as many lines as the store had at some moment between the coming
+-- of the script line and the answer
+pub record IsLinear (cluster : List ℕ) (store : List (List ℕ)) (a : Answer) : Type 0 where
+  pub since : a.process.came ≤ length a.process.told
+  pub until : length a.process.told ≤ a.by
+  pub within : a.by ≤ length store
+  pub front : take (length a.process.told) store ≡ a.process.told
+  pub log : HasLog cluster a.process.told a.session.log
+  pub text : a.text ≡ (reply a.session a.line).text
+  pub added : (reply a.session a.line).added ≡ []
+
+-- the store had just its first n lines after some of the events
+pub record WasWhole (cluster : List ℕ) (events : List Event) (n : ℕ) : Type 0 where
+  pub before : List Event
+  pub after : List Event
+  pub split : events ≡ before ++ after
+  pub was : (system_of cluster before).store ≡ take n (system_of cluster events).store
+
+-- a session that a process has, or from which it answered
+abbrev pub IsIn : System → SessionState → Type 0
+IsIn s session =
+    ((number : ℕ) × ((s.processes number).sharing.session ≡ session))
+    ⊎ ((a : Answer) × (Contains s.answers a × (a.session ≡ session)))
+
+-- ---- the run of a process
+
+-- the bytes of the input that a process has had
+abbrev pub input_of : Process → List ℕ
+input_of p = flat_map with_feed p.heard
+
+-- the outcome of `share` over the input of a process prints what the process printed
+abbrev pub RunsShare : List ℕ → Process → Type 0
+RunsShare cluster p = share_outcome cluster (input_of p) ≡ ended p.sharing p.said [] p.sharing.waits
+
+-- an answer is what `share` prints last over the input up to it
+pub record PrintsAnswer (cluster : List ℕ) (a : Answer) : Type 0 where
+  pub before : List ℕ
+  pub said : a.process.said ≡ before ++ a.text
+  pub outcome : share_outcome cluster (input_of a.process) ≡ record { status = 0; printed = a.process.said }
+
+-- a script line of an event is a line
+abbrev pub HasLine : Event → Type 0
+HasLine (Comes number line) = HasNoFeed line
+HasLine (Acts offer) = Unit {0}
+HasLine (Replies number more) = Unit {0}
+HasLine (Dies number) = Unit {0}
