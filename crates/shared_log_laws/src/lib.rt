@@ -1,13 +1,6 @@
-// A library with one function.
+//! Laws of many processes of `share` over one log: what holds after any events, whatever is lost, repeated or late.
 #![tactic(auto)]
 
-ghost use Rattle.std.specs.Prelude.{◌≡◌};
-ghost use Rattle.shared_log_laws.specs.Echo.{echo_of};
+pub mod validity;
 
-// The `ensures` clause is the contract: what `echo` returns is `echo_of` of its argument, a definition
-// in `specs/Echo.antt`, which a caller's clause can cite too.
-pub fn echo(x: usize) -> usize
-    ensures { result ≡ echo_of x }
-{
-    x
-}
+pub use validity::processes_share_one_log;
