@@ -54,6 +54,10 @@ module _ {X : Type 0} where
   all_first P [] ys all = tt
   all_first P (x ∷ xs) ys all = (all.0, all_first P xs ys all.1)
 
+  pub all_last : (P : X → Type 0) (xs ys : List X) → AllByRecursion P (xs ++ ys) → AllByRecursion P ys
+  all_last P [] ys all = all
+  all_last P (x ∷ xs) ys all = all_last P xs ys all.1
+
   pub all_front : (P : X → Type 0) (xs ys : List X) → Front xs ys → AllByRecursion P ys → AllByRecursion P xs
   all_front P xs ys front all = all_first P xs front.more (subst (AllByRecursion P) front.is all)
 

@@ -1,6 +1,9 @@
 pub mod AddedEntries
+pub mod Answered
 pub mod Fronts
 pub mod KnownLogs
+pub mod Moments
 pub mod OneLog
 pub mod Replies
+pub mod Runs
 pub mod Systems

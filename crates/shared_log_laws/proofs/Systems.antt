@@ -23,7 +23,7 @@ use Rattle.share_machine.specs.Sharing.{Asked, Read, PutHeader, PutEntry, Stands
 use Rattle.shared_log_laws.specs.SharedLog.{HasLog}
 use Rattle.shared_log_laws.specs.System.{Acts, Answer, Comes, Dies, Event, Offer, Process, Replies, System, after_events, comes_to, happens, hears, if_answered, may_reply, new_process, new_system, offer_sent, put_at_end, replies_to, reply_lines, system_of, told_lines, turned, with_process}
 use Rattle.shared_log_laws.proofs.AddedEntries.{entry_plain, header_plain, reads_next}
-use Rattle.shared_log_laws.proofs.Fronts.{Front, all_front, contained_at, front_on, front_same, front_short, front_taken, front_then_rest, front_whole}
+use Rattle.shared_log_laws.proofs.Fronts.{Front, all_front, all_last, contained_at, front_on, front_same, front_short, front_taken, front_then_rest, front_whole}
 use Rattle.shared_log_laws.proofs.KnownLogs.{HasSome, Knows, front_of, has_lines, has_pushed}
 use Rattle.shared_log_laws.proofs.Replies.{IfScript, IsDue, IsReply, comes_well, hears_lines, replies_well}
 
@@ -309,11 +309,20 @@ pub after_well : (cluster : List ℕ) → IsTrue (is_name cluster) → (s : Syst
 after_well cluster named s [] is = is
 after_well cluster named s (event ∷ events) is = after_well cluster named (happens cluster s event) events (happens_well cluster named s event is)
 
-pub system_well : (cluster : List ℕ) → IsTrue (is_name cluster) → (events : List Event) → IsSystem cluster (system_of cluster events)
-unfolding system_of
-system_well cluster named events = after_well cluster named new_system events (record {
+pub new_well : (cluster : List ℕ) → IsSystem cluster new_system
+new_well cluster = record {
   store = record { log = []; has = refl; plain = tt };
   processes = λ number. new_good cluster [];
   offers = tt;
   answers = tt;
-})
+}
+
+pub system_well : (cluster : List ℕ) → IsTrue (is_name cluster) → (events : List Event) → IsSystem cluster (system_of cluster events)
+unfolding system_of
+system_well cluster named events = after_well cluster named new_system events (new_well cluster)
+
+-- the lines of a reply have no line feed
+pub reply_plain : (cluster : List ℕ) (s : System) (number more : ℕ) → IsSystem cluster s → AllByRecursion HasNoFeed (reply_lines s.store (s.processes number) more)
+reply_plain cluster s number more is =
+    let p : Process = s.processes number in
+    all_last HasNoFeed p.told (reply_lines s.store p more) (rest_of cluster s.store p more is.store (is.processes number)).plain

@@ -3,4 +3,6 @@
 
 pub mod validity;
 
-pub use validity::processes_share_one_log;
+pub use validity::{
+    answered_commits_stand, answers_are_linear, processes_run_share, processes_share_one_log,
+};

@@ -1,9 +1,14 @@
 //! Facts about systems of processes over one shared log.
 
-ghost use Rattle.std.specs.Prelude.{◌++◌, ℕ, List, IsTrue};
+ghost use Rattle.std.specs.Prelude.{◌≡◌, ◌++◌, ◌^◌, ◌<◌, ◌≤◌, ℕ, List, Some, IsTrue, length};
+ghost use Rattle.std.specs.List.{AllByRecursion, Contains};
 ghost use Rattle.cluster_terms.specs.Name.{is_name};
-ghost use Rattle.shared_log_laws.specs.SharedLog.{IsSharedLog, IsUpTo, StaysIn};
-ghost use Rattle.shared_log_laws.specs.System.{Event, system_of};
+ghost use Rattle.transformations.specs.declared.command.Command.{Command};
+ghost use Rattle.script_lang.specs.AnswerTexts.{ok_text};
+ghost use Rattle.script_lang.specs.Grammar.{line_of};
+ghost use Rattle.script_lang.specs.declared.script_line.ScriptLine.TheVariants.{Commit};
+ghost use Rattle.shared_log_laws.specs.SharedLog.{HasLine, IsLinear, IsSharedLog, IsUpTo, PrintsAnswer, RunsShare, StandsAt, StaysIn, WasWhole};
+ghost use Rattle.shared_log_laws.specs.System.{Answer, Event, system_of};
 
 /// After any events the lines of the store are a log of the cluster, and each of its states is valid. What stands in the
 /// store stays. Each process knows the log of the store's first lines, and refuses none of them.
@@ -19,4 +24,47 @@ pub fn processes_share_one_log()
     // Guards: law.
     ensures known { (cluster : List ℕ) (events : List Event) (number : ℕ) → IsTrue (is_name cluster)
         → IsUpTo cluster (system_of cluster events).store ((system_of cluster events).processes number) }
+{}
+
+/// If a process answers a commit with `OK` and an epoch, the entry of this id and command stands at the epoch's place in
+/// the store, then and after any more events. All who commit an id get the same epoch.
+pub fn answered_commits_stand()
+    // Promise: a commit that any process answers with an epoch has its entry at this epoch's place, then and ever after.
+    // Guards: law.
+    ensures stands { (cluster : List ℕ) (events more : List Event) (a : Answer) (id : ℕ) (c : Command) (e : ℕ)
+        → IsTrue (is_name cluster) → Contains (system_of cluster events).answers a
+        → line_of a.line ≡ Some (Commit id c) → e < 2 ^ 64 → a.text ≡ ok_text e
+        → StandsAt (system_of cluster (events ++ more)).store e id c }
+    // Promise: whoever sends an id how often to whichever process, all who are answered with an epoch get the same.
+    // Guards: law.
+    ensures once { (cluster : List ℕ) (events : List Event) (a b : Answer) (id : ℕ) (c d : Command) (e f : ℕ)
+        → IsTrue (is_name cluster) → Contains (system_of cluster events).answers a
+        → Contains (system_of cluster events).answers b → line_of a.line ≡ Some (Commit id c)
+        → line_of b.line ≡ Some (Commit id d) → e < 2 ^ 64 → f < 2 ^ 64 → a.text ≡ ok_text e
+        → b.text ≡ ok_text f → e ≡ f }
+{}
+
+/// Each answer is that of the session machine on a log that was the whole log at some moment between the coming of the
+/// script line and its answer. The machine adds nothing there: a refusal and a query change no log, and the entry of an
+/// accepted command is in the log already.
+///
+/// The store grows by one line at a time, so each front of it was the whole store once.
+pub fn answers_are_linear()
+    // Promise: each answer is the session machine's on the whole log as it was at some moment between the line's coming
+    // and its answer. Guards: law.
+    ensures linear { (cluster : List ℕ) (events : List Event) (a : Answer) → IsTrue (is_name cluster)
+        → Contains (system_of cluster events).answers a → IsLinear cluster (system_of cluster events).store a }
+    ensures moments { (cluster : List ℕ) (events : List Event) (n : ℕ)
+        → n ≤ length (system_of cluster events).store → WasWhole cluster events n }
+{}
+
+/// A process of the system is `share` over its own input: what it prints is what `share_outcome` prints. Script lines have
+/// no line feed.
+pub fn processes_run_share()
+    // Promise: what a process of the system prints is what `share` prints over the script lines and the replies that
+    // came to it. Guards: law.
+    ensures runs { (cluster : List ℕ) (events : List Event) (number : ℕ) → IsTrue (is_name cluster)
+        → AllByRecursion HasLine events → RunsShare cluster ((system_of cluster events).processes number) }
+    ensures answers { (cluster : List ℕ) (events : List Event) (a : Answer) → IsTrue (is_name cluster)
+        → AllByRecursion HasLine events → Contains (system_of cluster events).answers a → PrintsAnswer cluster a }
 {}
