@@ -6,4 +6,6 @@ pub mod Moments
 pub mod OneLog
 pub mod Replies
 pub mod Runs
+pub mod SharedSessions
+pub mod StoreEvents
 pub mod Systems

@@ -278,15 +278,15 @@ replies_on cluster named s number p lines (Store line asked) is one rest waits =
           due = t.due;
         })
         (if_script (share_after cluster p.sharing (map log_line lines ++ end_line ∷ [])).waits (IsReply a.session line a.text) (IsAnswer cluster s.store a)
-            (λ right. record {
-              front = rest.front;
-              log = h.knows.log;
-              is = h.knows.is;
-              came = omega (arith, one.came, rest.came);
-              told = front_short (p.told ++ lines) s.store rest.front;
-              within = omega arith;
-              reply = right;
-            }) t.answers)
+        (λ right. record {
+          front = rest.front;
+          log = h.knows.log;
+          is = h.knows.is;
+          came = omega (arith, one.came, rest.came);
+          told = front_short (p.told ++ lines) s.store rest.front;
+          within = omega arith;
+          reply = right;
+        }) t.answers)
     by false may = is
 
 acts_on : (cluster : List ℕ) (s : System) (number : ℕ) → IsSystem cluster s → IsSystem cluster (record s { store = put_at_end s.store (slice_get s.offers number) })

@@ -1,6 +1,7 @@
 -- What holds of every system of processes over one shared log.
 use Rattle.std.specs.Prelude.{◌≡◌, ◌≢◌, ◌⊎◌, ℕ, ◌≤◌, List, [], ◌∷◌, ◌++◌, flat_map, length, take, Some, Ok}
 use Rattle.std.specs.List.{AllByRecursion, Contains, slice_get}
+use Rattle.cluster_terms.specs.Quorum.{Meet}
 use Rattle.transformations.specs.History.{state_after}
 use Rattle.transformations.specs.Log.{IsLog, commands_of}
 use Rattle.transformations.specs.Valid.{IsValid}
@@ -9,9 +10,12 @@ use Rattle.transformations.specs.declared.entry.Entry.{Entry as LogEntry}
 use Rattle.wire_json.specs.Reading.{reading}
 use Rattle.wire_json.specs.declared.line.Line.TheVariants.{Entry}
 use Rattle.script_lang.specs.AnswerTexts.{line as with_feed}
+use Rattle.script_lang.specs.Grammar.{line_of}
 use Rattle.script_session.specs.Lines.{HasNoFeed}
 use Rattle.script_session.specs.LogFiles.{log_for, log_in}
 use Rattle.script_session.specs.Machine.{SessionState, reply}
+use Rattle.script_session.specs.declared.session.followers.NamedFollower.{NamedFollower}
+use Rattle.session_laws.specs.Shown.{AreAdjacent, AskAlike, Shown, shown_by}
 use Rattle.share_machine.specs.Outcome.{ended, share_outcome}
 use Rattle.share_machine.specs.Sharing.{Nothing, Script, next_place}
 use Rattle.shared_log_laws.specs.System.{Acts, Answer, Comes, Dies, Event, Process, Replies, System, system_of}
@@ -95,3 +99,18 @@ HasLine (Comes number line) = HasNoFeed line
 HasLine (Acts offer) = Unit {0}
 HasLine (Replies number more) = Unit {0}
 HasLine (Dies number) = Unit {0}
+
+-- ---- quorums and followers
+
+-- the quorums that any two processes show to the same question meet, if their epochs are the same or next to each other in
+-- a history, where the second is a movement epoch
+abbrev pub SharedQuorumsMeet : System → List Command → Type 0
+SharedQuorumsMeet s history =
+    (one other : SessionState) (bytes bytes' : List ℕ) (p q : Shown) → IsIn s one → IsIn s other
+    → shown_by one (line_of bytes) ≡ Some p → shown_by other (line_of bytes') ≡ Some q → AskAlike p q → AreAdjacent history p q → Meet p.sets q.sets
+
+-- followers of any two processes show the same state for an epoch
+abbrev pub FollowersAgree : System → Type 0
+FollowersAgree s =
+    (one other : SessionState) (f g : NamedFollower) → IsIn s one → IsIn s other → Contains one.followers f → Contains other.followers g
+    → f.follower.image.epoch ≡ g.follower.image.epoch → f.follower.image ≡ g.follower.image

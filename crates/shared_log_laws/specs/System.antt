@@ -128,13 +128,13 @@ abbrev pub replies_to : List ℕ → System → ℕ → Process → List (List �
 replies_to cluster s number p lines (Store line asked) =
     if may_reply asked lines
     then turned cluster s number
-        (record {
-          line = line;
-          text = share_texts cluster p.sharing (map log_line lines ++ end_line ∷ []);
-          session = (share_after cluster p.sharing (map log_line lines)).session;
-          by = length s.store;
-          process = told_lines cluster (length s.store) p lines;
-        })
+    (record {
+      line = line;
+      text = share_texts cluster p.sharing (map log_line lines ++ end_line ∷ []);
+      session = (share_after cluster p.sharing (map log_line lines)).session;
+      by = length s.store;
+      process = told_lines cluster (length s.store) p lines;
+    })
     else s
 replies_to cluster s number p lines _ = s
 

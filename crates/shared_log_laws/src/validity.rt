@@ -1,20 +1,24 @@
 //! Facts about systems of processes over one shared log.
 
-ghost use Rattle.std.specs.Prelude.{◌≡◌, ◌++◌, ◌^◌, ◌<◌, ◌≤◌, ℕ, List, Some, IsTrue, length};
+ghost use Rattle.std.specs.Prelude.{◌≡◌, ◌++◌, ◌^◌, ◌<◌, ◌≤◌, ℕ, List, Some, IsTrue, length, take};
 ghost use Rattle.std.specs.List.{AllByRecursion, Contains};
 ghost use Rattle.cluster_terms.specs.Name.{is_name};
 ghost use Rattle.transformations.specs.declared.command.Command.{Command};
 ghost use Rattle.script_lang.specs.AnswerTexts.{ok_text};
 ghost use Rattle.script_lang.specs.Grammar.{line_of};
 ghost use Rattle.script_lang.specs.declared.script_line.ScriptLine.TheVariants.{Commit};
-ghost use Rattle.shared_log_laws.specs.SharedLog.{HasLine, IsLinear, IsSharedLog, IsUpTo, PrintsAnswer, RunsShare, StandsAt, StaysIn, WasWhole};
-ghost use Rattle.shared_log_laws.specs.System.{Answer, Event, system_of};
+ghost use Rattle.share_machine.specs.Sharing.{Asked};
+ghost use Rattle.transformations.specs.Log.{commands_of};
+ghost use Rattle.transformations.specs.declared.entry.Entry.{Entry};
+ghost use Rattle.shared_log_laws.specs.Promises.{IsReplyEvent, IsReplyOf, IsStoreEvent, KeepsOrder};
+ghost use Rattle.shared_log_laws.specs.SharedLog.{FollowersAgree, HasLine, HasLog, IsLinear, IsSharedLog, IsUpTo, PrintsAnswer, RunsShare, SharedQuorumsMeet, StandsAt, StaysIn, WasWhole};
+ghost use Rattle.shared_log_laws.specs.System.{Answer, Event, Offer, Process, System, system_of};
 
 /// After any events the lines of the store are a log of the cluster, and each of its states is valid. What stands in the
 /// store stays. Each process knows the log of the store's first lines, and refuses none of them.
 pub fn processes_share_one_log()
     // Promise: whatever processes of `share` do, and whatever is lost, repeated or late, the lines of the store are a
-    // log of the cluster, and its states are valid images. Guards: law.
+    // log of the cluster, and its states are valid images. Guards: law, a_line_is_put_anywhere.edit.
     ensures log { (cluster : List ℕ) (events : List Event) → IsTrue (is_name cluster)
         → IsSharedLog cluster (system_of cluster events).store }
     // Promise: what stands in the store stays at its place. Guards: law.
@@ -51,7 +55,7 @@ pub fn answered_commits_stand()
 /// The store grows by one line at a time, so each front of it was the whole store once.
 pub fn answers_are_linear()
     // Promise: each answer is the session machine's on the whole log as it was at some moment between the line's coming
-    // and its answer. Guards: law.
+    // and its answer. Guards: law, a_reply_is_stale.edit.
     ensures linear { (cluster : List ℕ) (events : List Event) (a : Answer) → IsTrue (is_name cluster)
         → Contains (system_of cluster events).answers a → IsLinear cluster (system_of cluster events).store a }
     ensures moments { (cluster : List ℕ) (events : List Event) (n : ℕ)
@@ -67,4 +71,33 @@ pub fn processes_run_share()
         → AllByRecursion HasLine events → RunsShare cluster ((system_of cluster events).processes number) }
     ensures answers { (cluster : List ℕ) (events : List Event) (a : Answer) → IsTrue (is_name cluster)
         → AllByRecursion HasLine events → Contains (system_of cluster events).answers a → PrintsAnswer cluster a }
+{}
+
+/// The quorums that processes show meet, whichever process showed which: take the answers to one question, at the same
+/// epoch, or at an epoch and the next epoch if that is a movement epoch. Each write quorum of one answer has a replica in
+/// common with each read quorum of the other. Followers of different processes show the same state for an epoch.
+pub fn shared_quorums_meet()
+    // Promise: quorums that any two processes show to the same question meet, at one epoch, or at an epoch and the next,
+    // a movement epoch. Guards: law.
+    ensures meet { (cluster : List ℕ) (events : List Event) (log : List Entry) → IsTrue (is_name cluster)
+        → HasLog cluster (system_of cluster events).store log
+        → SharedQuorumsMeet (system_of cluster events) (commands_of log) }
+    // Promise: followers of different processes never show different states for one epoch. Guards: law.
+    ensures followers { (cluster : List ℕ) (events : List Event) → IsTrue (is_name cluster)
+        → FollowersAgree (system_of cluster events) }
+{}
+
+/// The events are all that a store of order may do: each change that keeps its promises comes by an event, and so does each
+/// reply. An offer knew the first lines of the store. So while the store keeps its promises, the line before an offer's
+/// place is the one that the offer knew; another one there shows a store that was set back.
+pub fn stores_keep_order()
+    // Promise: what the store may do by its promises are events of the system. Guards: law.
+    ensures puts { (cluster : List ℕ) (s : System) (store' : List (List ℕ)) → KeepsOrder s.offers s.store store'
+        → IsStoreEvent cluster s store' }
+    ensures replies { (store : List (List ℕ)) (p : Process) (asked : Asked) (lines : List (List ℕ))
+        → IsReplyOf store p asked lines → IsReplyEvent store p lines }
+    // Promise: what a process knew when it sent an offer are the first lines of the store. Guards: law.
+    ensures knew { (cluster : List ℕ) (events : List Event) (o : Offer) → IsTrue (is_name cluster)
+        → Contains (system_of cluster events).offers o
+        → take (length o.knew) (system_of cluster events).store ≡ o.knew }
 {}

@@ -35,7 +35,7 @@ replications h is = all_weaker IsFormed HasReplication formed_replication h is.f
 state_later : (h later : List Command) (e : ℕ) → GoesOnAs h later → e ≤ length h → state_after later e ≡ state_after h e
 state_later h later e on within = ap (image_after empty_image) (ap (take e) on.is ∙ take-append-le e h on.more within)
 
-shown_later : (h later : List Command) (s : Shown) → GoesOnAs h later → IsShownIn h s → IsShownIn later s
+pub shown_later : (h later : List Command) (s : Shown) → GoesOnAs h later → IsShownIn h s → IsShownIn later s
 shown_later h later s on is = record {
   within = subst (λ l. s.epoch ≤ length l) (sym on.is) (omega (arith, is.within, length-append h on.more));
   token = is.token;
@@ -99,12 +99,12 @@ next_sets one other name t dc a b meets e f = by (keyspace_of one name) refl e
 -- ---- the law
 
 -- the epochs of two answers to the same question, and their sets
-record IsAsked (h : List Command) (p q : Shown) : Type 0 where
-  token : IsToken p.token
-  first : found_sets (state_after h p.epoch) p.keyspace p.token p.datacenter ≡ Some p.sets
-  second : found_sets (state_after h q.epoch) p.keyspace p.token p.datacenter ≡ Some q.sets
+pub record IsAsked (h : List Command) (p q : Shown) : Type 0 where
+  pub token : IsToken p.token
+  pub first : found_sets (state_after h p.epoch) p.keyspace p.token p.datacenter ≡ Some p.sets
+  pub second : found_sets (state_after h q.epoch) p.keyspace p.token p.datacenter ≡ Some q.sets
 
-asked : (h : List Command) (p q : Shown) → IsShownIn h p → IsShownIn h q → AskAlike p q → IsAsked h p q
+pub asked : (h : List Command) (p q : Shown) → IsShownIn h p → IsShownIn h q → AskAlike p q → IsAsked h p q
 asked h p q one other alike = record {
   token = one.token;
   first = one.sets;
@@ -120,7 +120,7 @@ named_meets h e c name is at moves t token k found =
     let after = meet_at_next h e c is.history (replications h is) at k there (subst (λ n. makes_movement_epoch n c ≡ true) (sym named) moves) in
     (found_named (state_after h (e + 1)) (valid_at h (e + 1) is.history).sound k after.stays name named, after.meet t token)
 
-meet_shown : (h : List Command) (p q : Shown) → IsFormedHistory h → IsAsked h p q → AreAdjacent h p q → Meet p.sets q.sets
+pub meet_shown : (h : List Command) (p q : Shown) → IsFormedHistory h → IsAsked h p q → AreAdjacent h p q → Meet p.sets q.sets
 meet_shown h p q is a (inl same) =
     image_sets (state_after h p.epoch) p.keyspace p.token p.datacenter p.sets q.sets (meet_at_epoch h p.epoch is.history (replications h is)) a.token a.first
     (ap (λ e. found_sets (state_after h e) p.keyspace p.token p.datacenter) same ∙ a.second)
