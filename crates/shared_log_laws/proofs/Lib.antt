@@ -2,6 +2,8 @@ pub mod AddedEntries
 pub mod Answered
 pub mod Fronts
 pub mod KnownLogs
+pub mod LoneProcess
+pub mod LoneReads
 pub mod Moments
 pub mod OneLog
 pub mod Replies

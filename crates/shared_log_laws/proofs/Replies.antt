@@ -47,15 +47,15 @@ told_log : (text : List ℕ) → told_by (log_line text) ≡ Some (LogLine text)
 unfolding told_by
 told_log text = refl
 
-told_last : told_by end_line ≡ Some End
+pub told_last : told_by end_line ≡ Some End
 unfolding told_by
 told_last = refl
 
-turn_store : (cluster : List ℕ) (s : Sharing) (bytes line : List ℕ) (asked : Asked) (told : Option Told) → s.waits ≡ Store line asked → told_by bytes ≡ told → turn_of cluster s bytes ≡ is_told cluster s line asked told
+pub turn_store : (cluster : List ℕ) (s : Sharing) (bytes line : List ℕ) (asked : Asked) (told : Option Told) → s.waits ≡ Store line asked → told_by bytes ≡ told → turn_of cluster s bytes ≡ is_told cluster s line asked told
 unfolding turn_of
 turn_store cluster s bytes line asked told waits is = ap (turn_by cluster s bytes) waits ∙ ap (is_told cluster s line asked) is
 
-turn_script : (cluster : List ℕ) (s : Sharing) (bytes : List ℕ) → s.waits ≡ Script → turn_of cluster s bytes ≡ begins s bytes
+pub turn_script : (cluster : List ℕ) (s : Sharing) (bytes : List ℕ) → s.waits ≡ Script → turn_of cluster s bytes ≡ begins s bytes
 unfolding turn_of
 turn_script cluster s bytes waits = ap (turn_by cluster s bytes) waits
 

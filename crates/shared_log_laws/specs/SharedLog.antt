@@ -1,5 +1,5 @@
 -- What holds of every system of processes over one shared log.
-use Rattle.std.specs.Prelude.{◌≡◌, ◌≢◌, ◌⊎◌, ℕ, ◌≤◌, List, [], ◌∷◌, ◌++◌, flat_map, length, take, Some, Ok}
+use Rattle.std.specs.Prelude.{◌≡◌, ◌≢◌, ◌⊎◌, ℕ, ◌+◌, ◌<◌, ◌≤◌, List, [], ◌∷◌, ◌++◌, flat_map, length, take, Some, Ok}
 use Rattle.std.specs.List.{AllByRecursion, Contains, slice_get}
 use Rattle.cluster_terms.specs.Quorum.{Meet}
 use Rattle.transformations.specs.History.{state_after}
@@ -114,3 +114,29 @@ abbrev pub FollowersAgree : System → Type 0
 FollowersAgree s =
     (one other : SessionState) (f g : NamedFollower) → IsIn s one → IsIn s other → Contains one.followers f → Contains other.followers g
     → f.follower.image.epoch ≡ g.follower.image.epoch → f.follower.image ≡ g.follower.image
+
+-- ---- a lone process
+
+-- a process waits for a script line, and knows the whole log, which has its header
+pub record IsAhead (s : System) (number : ℕ) : Type 0 where
+  pub waits : (s.processes number).sharing.waits ≡ Script
+  pub whole : length (s.processes number).told ≡ length s.store
+  pub headed : 0 < length s.store
+
+-- a script line comes to a process, the store acts on the offer that the process makes of it, and the reply comes
+abbrev pub one_offer : System → ℕ → List ℕ → List Event
+one_offer s number line = Comes number line ∷ Acts (length s.offers) ∷ Replies number 1 ∷ []
+
+-- after some events there is one answer more, with this text; the store has these lines more, with one offer for each; and
+-- the process is ahead again
+pub record AnswersOnce (s later : System) (number : ℕ) (text : List ℕ) (lines : List (List ℕ)) : Type 0 where
+  pub answer : Answer
+  pub answers : later.answers ≡ s.answers ++ answer ∷ []
+  pub says : answer.text ≡ text
+  pub store : later.store ≡ s.store ++ lines
+  pub offers : length later.offers ≡ length s.offers + length lines
+  pub ahead : IsAhead later number
+
+-- a script line comes to a process, and then the reply to the request for the rest of the log
+abbrev pub one_read : ℕ → List ℕ → List Event
+one_read number line = Comes number line ∷ Replies number 0 ∷ []

@@ -4,6 +4,6 @@
 pub mod validity;
 
 pub use validity::{
-    answered_commits_stand, answers_are_linear, processes_run_share, processes_share_one_log,
-    shared_quorums_meet, stores_keep_order,
+    answered_commits_stand, answers_are_linear, lone_processes_offer_once, processes_run_share,
+    processes_share_one_log, shared_quorums_meet, stores_keep_order,
 };

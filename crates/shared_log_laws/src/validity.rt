@@ -1,18 +1,20 @@
 //! Facts about systems of processes over one shared log.
 
-ghost use Rattle.std.specs.Prelude.{◌≡◌, ◌++◌, ◌^◌, ◌<◌, ◌≤◌, ℕ, List, Some, IsTrue, length, take};
+ghost use Rattle.std.specs.Prelude.{◌≡◌, [], ◌∷◌, ◌++◌, ◌^◌, ◌<◌, ◌≤◌, ℕ, List, Some, IsTrue, length, take};
 ghost use Rattle.std.specs.List.{AllByRecursion, Contains};
 ghost use Rattle.cluster_terms.specs.Name.{is_name};
 ghost use Rattle.transformations.specs.declared.command.Command.{Command};
+ghost use Rattle.wire_json.specs.EntryTexts.{entry_text};
 ghost use Rattle.script_lang.specs.AnswerTexts.{ok_text};
 ghost use Rattle.script_lang.specs.Grammar.{line_of};
 ghost use Rattle.script_lang.specs.declared.script_line.ScriptLine.TheVariants.{Commit};
+ghost use Rattle.script_session.specs.Machine.{reply};
 ghost use Rattle.share_machine.specs.Sharing.{Asked};
 ghost use Rattle.transformations.specs.Log.{commands_of};
 ghost use Rattle.transformations.specs.declared.entry.Entry.{Entry};
 ghost use Rattle.shared_log_laws.specs.Promises.{IsReplyEvent, IsReplyOf, IsStoreEvent, KeepsOrder};
-ghost use Rattle.shared_log_laws.specs.SharedLog.{FollowersAgree, HasLine, HasLog, IsLinear, IsSharedLog, IsUpTo, PrintsAnswer, RunsShare, SharedQuorumsMeet, StandsAt, StaysIn, WasWhole};
-ghost use Rattle.shared_log_laws.specs.System.{Answer, Event, Offer, Process, System, system_of};
+ghost use Rattle.shared_log_laws.specs.SharedLog.{AnswersOnce, FollowersAgree, HasLine, HasLog, IsAhead, IsLinear, IsSharedLog, IsUpTo, PrintsAnswer, RunsShare, SharedQuorumsMeet, StandsAt, StaysIn, WasWhole, one_offer, one_read};
+ghost use Rattle.shared_log_laws.specs.System.{Answer, Event, Offer, Process, System, after_events, system_of};
 
 /// After any events the lines of the store are a log of the cluster, and each of its states is valid. What stands in the
 /// store stays. Each process knows the log of the store's first lines, and refuses none of them.
@@ -100,4 +102,24 @@ pub fn stores_keep_order()
     ensures knew { (cluster : List ℕ) (events : List Event) (o : Offer) → IsTrue (is_name cluster)
         → Contains (system_of cluster events).offers o
         → take (length o.knew) (system_of cluster events).store ≡ o.knew }
+{}
+
+/// A process that knows the whole log decides a line once, if no other process comes in between: an accepted command takes
+/// one offer, and any other line one read. Then it knows the whole log again.
+pub fn lone_processes_offer_once()
+    // Promise: if the store answers and no other process acts in between, one offer is enough for an accepted command,
+    // and the process knows the whole log again. Guards: law.
+    ensures offer { (cluster : List ℕ) (events : List Event) (number : ℕ) (line : List ℕ) (entry : Entry)
+        → IsTrue (is_name cluster) → IsAhead (system_of cluster events) number
+        → (reply ((system_of cluster events).processes number).sharing.session line).added ≡ entry ∷ []
+        → AnswersOnce (system_of cluster events)
+        (after_events cluster (system_of cluster events) (one_offer (system_of cluster events) number line)) number
+        (reply ((system_of cluster events).processes number).sharing.session line).text (entry_text entry ∷ []) }
+    // Promise: a line that adds nothing takes one read and no offer. Guards: law.
+    ensures read { (cluster : List ℕ) (events : List Event) (number : ℕ) (line : List ℕ)
+        → IsTrue (is_name cluster) → IsAhead (system_of cluster events) number
+        → (reply ((system_of cluster events).processes number).sharing.session line).added ≡ []
+        → AnswersOnce (system_of cluster events)
+        (after_events cluster (system_of cluster events) (one_read number line)) number
+        (reply ((system_of cluster events).processes number).sharing.session line).text [] }
 {}
