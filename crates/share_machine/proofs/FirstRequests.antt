@@ -6,7 +6,7 @@ use Rattle.transformations.specs.declared.entry.Entry.{Entry}
 use Rattle.script_session.specs.LogFiles.{header_cause, next_entry}
 use Rattle.script_session.specs.Machine.{reply}
 use Rattle.script_session.specs.declared.refused_line.Cause.{Cause}
-use Rattle.share_machine.specs.Sharing.{Asked, PutEntry, Read, Script, Sharing, Stands, Store, Turn, Waits, begins, offers, offers_or, once_told, reads, taken_over, turn_by, turn_of, with_entry, with_header}
+use Rattle.share_machine.specs.Sharing.{Asked, PutEntry, Read, Script, Sharing, Stands, Store, Turn, begins, offers_or, once_told, reads, taken_over, turn_by, turn_of, with_entry, with_header}
 
 -- a turn that asks, and leaves the session as it was
 pub record Asks (s : Sharing) (t : Turn) : Type 0 where

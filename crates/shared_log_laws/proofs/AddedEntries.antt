@@ -1,7 +1,6 @@
 -- What a line adds to a log is read back from its line as the next entry.
 use Rattle.std.proofs.Common.{◌≡◌, ℕ, ◌+◌, ◌^◌, ◌<◌, Bool, true, false, if◌then◌else◌, nat_le, codes, List, [], ◌∷◌, ◌++◌, flat_map, length, Option, Some, None, option_map, Result, Ok, Err, refl, sym, ap, ◌∙◌, subst, append_assoc, arith}
 use Rattle.std.proofs.lemmas.Bool.{eq-eqb}
-use Rattle.std.proofs.lemmas.Bool.Decides.{nat_tests}
 use Rattle.std.specs.List.{AllByRecursion}
 use Rattle.std.specs.Option.{IfSome}
 use Rattle.transformations.proofs.histories.HistoryLemmas.{committed}
@@ -20,7 +19,6 @@ use Rattle.serde_json.specs.Written.{compact_text}
 use Rattle.catch_up.specs.Replies.{catch_up_reply}
 use Rattle.catch_up.specs.declared.message.Reply.{Reply as CatchUpReply}
 use Rattle.epoch_log.specs.Epochs.{entry_at}
-use Rattle.follower_log.specs.Follower.{FollowerState}
 use Rattle.script_lang.proofs.SaidLemmas.{in_range_by}
 use Rattle.script_lang.specs.AnswerTexts.{line, no_text, ok_text}
 use Rattle.script_lang.specs.Grammar.{IsInRange, line_of}
@@ -31,7 +29,6 @@ use Rattle.script_session.specs.Lines.{HasNoFeed, open_line, whole_lines}
 use Rattle.script_session.specs.LogFiles.{command_refused, entry_cause, entry_read, first_cause, id_again, next_entry, unless_refused, wrong_epoch}
 use Rattle.script_session.specs.Machine.{Reply, SessionState, ask_of, asked_reply, commit_text, deliver_to, follower_named, give_to, image_at, most_replies, only_answers, reply, reply_numbered, reply_of, reply_to, snapshot_to}
 use Rattle.script_session.specs.code.StepParts.{IsNextEntry}
-use Rattle.script_session.specs.declared.refused_line.Cause.{Cause}
 use Rattle.script_session.specs.declared.refused_line.Cause.TheVariants as cause
 use Rattle.script_session.specs.declared.session.followers.NamedFollower.{NamedFollower}
 use Rattle.session_laws.proofs.LinesLemmas.{open_line-line, whole_lines-line}

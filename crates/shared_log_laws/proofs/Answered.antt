@@ -1,10 +1,9 @@
 -- Answers: an epoch has its entry, an id has one, and each answer is the machine's on a front of the store.
-use Rattle.std.proofs.Common.{◌≡◌, ℕ, suc, zero, ◌+◌, ◌^◌, ◌<◌, ◌≤◌, ◌==◌, ◌⊎◌, inl, inr, Bool, true, false, if◌then◌else◌, List, [], ◌∷◌, ◌++◌, get_or, length, take, Option, Some, None, Result, Ok, Err, codes, decimal, IsTrue, refl, sym, ap, ◌∙◌, subst, append-nil, arith, length-append}
+use Rattle.std.proofs.Common.{◌≡◌, ℕ, suc, zero, ◌+◌, ◌^◌, ◌<◌, ◌==◌, ◌⊎◌, inl, inr, Bool, true, false, if◌then◌else◌, List, [], ◌∷◌, ◌++◌, get_or, length, Option, Some, None, Result, Ok, Err, decimal, IsTrue, refl, sym, ap, ◌∙◌, subst, arith, length-append}
 use Rattle.std.proofs.lemmas.Bool.{and_parts, eqb-true}
 use Rattle.std.proofs.lemmas.Fmt.{decimal_injective}
 use Rattle.std.proofs.lemmas.List.{append_cancel_right}
 use Rattle.std.proofs.lemmas.List.Elements.{Contains-append_left, Contains-push_cases}
-use Rattle.std.proofs.lemmas.Option.{none-some, slice_get_within}
 use Rattle.std.specs.List.{Contains, slice_get}
 use Rattle.cluster_terms.specs.Name.{is_name}
 use Rattle.transformations.proofs.commands.SameLemmas.{same_command_tells}
@@ -24,12 +23,12 @@ use Rattle.wire_json.specs.declared.line.Line.{Line}
 use Rattle.wire_json.specs.declared.line.Line.TheVariants as line
 use Rattle.wire_json.specs.declared.line.ReadLineFault.{ReadLineFault}
 use Rattle.wire_json.specs.declared.line.ReadLineFault.TheVariants as read
-use Rattle.script_lang.specs.AnswerTexts.{no_text, ok_text, refusal_text}
+use Rattle.script_lang.specs.AnswerTexts.{ok_text}
 use Rattle.script_lang.specs.Grammar.{line_of}
 use Rattle.script_lang.specs.declared.script_line.ScriptLine.{ScriptLine}
 use Rattle.script_lang.specs.declared.script_line.ScriptLine.TheVariants.{Commit}
-use Rattle.script_session.specs.LogFiles.{command_refused, entry_cause, entry_read, first_cause, goes_on, header_cause, id_again, log_after, log_from, next_entry, unless_refused}
-use Rattle.script_session.specs.Machine.{SessionState, commit_text, reply, reply_to}
+use Rattle.script_session.specs.LogFiles.{command_refused, entry_read, first_cause, goes_on, header_cause, id_again, log_after, log_from, next_entry, unless_refused}
+use Rattle.script_session.specs.Machine.{commit_text, reply, reply_to}
 use Rattle.script_session.specs.declared.refused_line.Cause.{Cause}
 use Rattle.script_session.specs.declared.refused_line.Cause.TheVariants as cause
 use Rattle.session_laws.proofs.quorums.NamedKeyspaces.{contained_found}
@@ -38,7 +37,7 @@ use Rattle.shared_log_laws.specs.System.{Answer, Event, System, system_of}
 use Rattle.shared_log_laws.proofs.Fronts.{Front, front_then, take_front}
 use Rattle.shared_log_laws.proofs.KnownLogs.{goes_on_from, log_from_grows, session_lines}
 use Rattle.shared_log_laws.proofs.OneLog.{store_front}
-use Rattle.shared_log_laws.proofs.Systems.{IsAnswer, IsStore, IsSystem, system_well}
+use Rattle.shared_log_laws.proofs.Systems.{IsAnswer, system_well}
 
 -- ---- entries at their places
 

@@ -1,8 +1,8 @@
 -- The log in the lines that a process knows, and one line more.
-use Rattle.std.proofs.Common.{◌≡◌, ℕ, ◌+◌, ◌==◌, ◌&&◌, Bool, true, false, if◌then◌else◌, List, [], ◌∷◌, ◌++◌, flat_map, length, Option, Some, None, Result, Ok, Err, refl, sym, ap, ◌∙◌, subst, append_assoc, append-nil, arith, length-append}
+use Rattle.std.proofs.Common.{◌≡◌, ℕ, ◌+◌, ◌==◌, Bool, true, false, if◌then◌else◌, List, [], ◌∷◌, ◌++◌, flat_map, length, Option, Some, None, Result, Ok, Err, refl, sym, ap, ◌∙◌, subst, append-nil, arith, length-append}
 use Rattle.std.proofs.lemmas.Bool.{and_parts, eqb-true}
 use Rattle.std.specs.List.{AllByRecursion}
-use Rattle.transformations.specs.Log.{IsLog, are_numbered, have_own_ids}
+use Rattle.transformations.specs.Log.{are_numbered, have_own_ids}
 use Rattle.transformations.specs.declared.entry.Entry.{Entry}
 use Rattle.script_lang.specs.AnswerTexts.{line}
 use Rattle.script_session.proofs.followers.FollowerLemmas.{all_follow_on}
@@ -12,13 +12,12 @@ use Rattle.script_session.specs.Lines.{HasNoFeed, whole_lines}
 use Rattle.script_session.specs.LogFiles.{goes_on, header_cause, log_after, log_from, log_in, next_entry}
 use Rattle.script_session.specs.Machine.{SessionState, session_over}
 use Rattle.script_session.specs.declared.refused_line.Cause.{Cause}
-use Rattle.script_session.specs.declared.refused_line.RefusedLine.{RefusedLine}
 use Rattle.session_laws.proofs.FileLogs.{session_for}
 use Rattle.session_laws.proofs.LinesLemmas.{whole_lines-none}
 use Rattle.share_machine.specs.Sharing.{Sharing, taken_over, with_entry, with_header}
 use Rattle.shared_log_laws.specs.SharedLog.{HasLog}
 use Rattle.shared_log_laws.proofs.AddedEntries.{lines_of_lines}
-use Rattle.shared_log_laws.proofs.Fronts.{Front, front_on, front_same, front_then, front_with}
+use Rattle.shared_log_laws.proofs.Fronts.{Front, front_same, front_then, front_with}
 
 -- ---- lines of a log, in two parts
 

@@ -1,20 +1,19 @@
 -- A process that knows the whole log, and that no other comes before, needs one offer for a line.
-use Rattle.std.proofs.Common.{◌≡◌, ℕ, suc, ◌+◌, ◌<◌, ◌≤◌, ◌==◌, Bool, true, false, if◌then◌else◌, List, [], ◌∷◌, ◌++◌, drop, length, map, take, Option, Some, None, Result, Ok, IsTrue, refl, sym, ap, ◌∙◌, subst, append-nil, eq-eqb, arith, length-append}
+use Rattle.std.proofs.Common.{◌≡◌, ℕ, ◌+◌, ◌<◌, true, if◌then◌else◌, List, [], ◌∷◌, ◌++◌, drop, length, map, Some, IsTrue, refl, sym, ap, ◌∙◌, subst, append-nil, eq-eqb, arith, length-append}
 use Rattle.std.proofs.Math.Seq.{drop-append_seam}
 use Rattle.std.proofs.lemmas.List.{take_all}
 use Rattle.std.proofs.lemmas.Slice.Eq.{bytes_eq-Decides}
-use Rattle.std.specs.List.{AllByRecursion, slice_get}
-use Rattle.std.specs.Str.{bytes_eq}
+use Rattle.std.specs.List.{slice_get}
 use Rattle.cluster_terms.specs.Name.{is_name}
 use Rattle.transformations.proofs.lists.ListLemmas.{all_append}
 use Rattle.transformations.specs.declared.entry.Entry.{Entry}
 use Rattle.wire_json.specs.EntryTexts.{entry_text}
 use Rattle.script_lang.specs.Grammar.{line_of}
 use Rattle.script_session.specs.Lines.{HasNoFeed}
-use Rattle.script_session.specs.Machine.{SessionState, reply}
+use Rattle.script_session.specs.Machine.{reply}
 use Rattle.share_machine.specs.Requests.{End, end_line, log_line}
-use Rattle.share_machine.specs.Sharing.{Asked, Read, PutEntry, Stands, Script, Sharing, Store, Turn, Waits, answers_with, begins, decides, offers, offers_header, offers_or, reads, share_after, share_texts, told_end, turn_of}
-use Rattle.shared_log_laws.specs.SharedLog.{AnswersOnce, IsAhead, one_offer, one_read}
+use Rattle.share_machine.specs.Sharing.{Read, PutEntry, Stands, Script, Sharing, Store, Turn, Waits, offers, offers_or, reads, share_after, share_texts, told_end, turn_of}
+use Rattle.shared_log_laws.specs.SharedLog.{AnswersOnce, IsAhead, one_offer}
 use Rattle.shared_log_laws.specs.System.{Acts, Answer, Comes, Event, Offer, Process, Replies, System, after_events, comes_to, happens, hears, if_answered, offer_sent, put_at_end, replies_to, reply_lines, system_of, told_lines, turned, with_process}
 use Rattle.shared_log_laws.proofs.AddedEntries.{Adds, AddsOne, adds_at_most, entry_plain, reads_next}
 use Rattle.shared_log_laws.proofs.Fronts.{all_front}

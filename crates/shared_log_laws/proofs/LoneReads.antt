@@ -1,25 +1,14 @@
 -- A process that knows the whole log, and that no other comes before, needs one read for a line that adds nothing.
-use Rattle.std.proofs.Common.{◌≡◌, ℕ, suc, ◌+◌, ◌<◌, ◌≤◌, ◌==◌, Bool, true, false, if◌then◌else◌, List, [], ◌∷◌, ◌++◌, drop, length, map, take, Option, Some, None, Result, Ok, IsTrue, refl, sym, ap, ◌∙◌, subst, append-nil, add-zero, eq-eqb, arith, length-append}
+use Rattle.std.proofs.Common.{◌≡◌, ℕ, ◌+◌, true, if◌then◌else◌, List, [], ◌∷◌, ◌++◌, drop, length, Some, IsTrue, refl, sym, ap, ◌∙◌, subst, append-nil, add-zero, eq-eqb, arith}
 use Rattle.std.proofs.Math.Seq.{drop-append_seam}
 use Rattle.std.proofs.lemmas.List.{take_all}
-use Rattle.std.proofs.lemmas.Slice.Eq.{bytes_eq-Decides}
-use Rattle.std.specs.List.{AllByRecursion, slice_get}
-use Rattle.std.specs.Str.{bytes_eq}
 use Rattle.cluster_terms.specs.Name.{is_name}
-use Rattle.transformations.proofs.lists.ListLemmas.{all_append}
-use Rattle.transformations.specs.declared.entry.Entry.{Entry}
-use Rattle.wire_json.specs.EntryTexts.{entry_text}
-use Rattle.script_lang.specs.Grammar.{line_of}
-use Rattle.script_session.specs.Lines.{HasNoFeed}
-use Rattle.script_session.specs.Machine.{SessionState, reply}
-use Rattle.share_machine.specs.Requests.{End, end_line, log_line}
-use Rattle.share_machine.specs.Sharing.{Asked, Read, PutEntry, Stands, Script, Sharing, Store, Turn, Waits, answers_with, begins, decides, offers, offers_header, offers_or, reads, share_after, share_texts, told_end, turn_of}
-use Rattle.shared_log_laws.specs.SharedLog.{AnswersOnce, IsAhead, one_offer, one_read}
-use Rattle.shared_log_laws.specs.System.{Acts, Answer, Comes, Event, Offer, Process, Replies, System, after_events, comes_to, happens, hears, if_answered, offer_sent, put_at_end, replies_to, reply_lines, system_of, told_lines, turned, with_process}
-use Rattle.shared_log_laws.proofs.AddedEntries.{Adds, AddsOne, adds_at_most, entry_plain, reads_next}
-use Rattle.shared_log_laws.proofs.Fronts.{all_front}
-use Rattle.shared_log_laws.proofs.KnownLogs.{has_lines, has_pushed}
-use Rattle.shared_log_laws.proofs.Replies.{comes_well, hears_lines, told_last, turn_script, turn_store}
+use Rattle.script_session.specs.Machine.{reply}
+use Rattle.share_machine.specs.Requests.{End, end_line}
+use Rattle.share_machine.specs.Sharing.{Read, Script, Store, Turn, answers_with, decides, offers_header, offers_or, reads, share_texts, turn_of}
+use Rattle.shared_log_laws.specs.SharedLog.{AnswersOnce, IsAhead, one_read}
+use Rattle.shared_log_laws.specs.System.{Answer, Comes, Event, Process, Replies, System, after_events, comes_to, happens, hears, if_answered, offer_sent, replies_to, reply_lines, system_of, told_lines, turned, with_process}
+use Rattle.shared_log_laws.proofs.Replies.{told_last, turn_script, turn_store}
 use Rattle.shared_log_laws.proofs.Systems.{IsSystem, system_well}
 use Rattle.shared_log_laws.proofs.LoneProcess.{some_lines}
 
@@ -100,7 +89,7 @@ module _ (cluster : List ℕ) (s : System) (is : IsSystem cluster s) (number : �
       turn_store cluster begun.sharing end_line line Read (Some End) waits_begun told_last
       ∙ ap (λ (t : Turn). decides cluster t.after line) turn
       ∙ ap (λ b. if b then offers_or (answers_with (reads p.sharing line).after (reply p.sharing.session line)) (reads p.sharing line).after line answer (reply p.sharing.session line).added
-            else offers_header cluster (reads p.sharing line).after line) headed
+      else offers_header cluster (reads p.sharing line).after line) headed
       ∙ ap (offers_or (answers_with (reads p.sharing line).after (reply p.sharing.session line)) (reads p.sharing line).after line answer) none
 
   waits_given : given.process.sharing.waits ≡ Script

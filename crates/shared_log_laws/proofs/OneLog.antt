@@ -1,20 +1,19 @@
 -- The store's lines are one log, and what stands stays.
-use Rattle.std.proofs.Common.{◌≡◌, ◌≢◌, ℕ, ◌+◌, ◌==◌, Bool, true, false, if◌then◌else◌, List, [], ◌∷◌, ◌++◌, flat_map, length, take, Option, Some, None, Ok, IsTrue, refl, sym, ap, ◌∙◌, subst, append-nil}
+use Rattle.std.proofs.Common.{◌≡◌, ◌≢◌, ℕ, ◌+◌, ◌==◌, Bool, true, false, if◌then◌else◌, List, [], ◌∷◌, ◌++◌, flat_map, length, Option, Some, None, IsTrue, refl, sym, ap, ◌∙◌, subst, append-nil}
 use Rattle.std.specs.List.{slice_get}
 use Rattle.cluster_terms.specs.Name.{is_name}
 use Rattle.transformations.proofs.histories.HistoryLemmas.{valid_at}
 use Rattle.transformations.specs.Log.{commands_of}
-use Rattle.transformations.specs.declared.entry.Entry.{Entry}
 use Rattle.script_lang.specs.AnswerTexts.{line}
 use Rattle.script_session.specs.Lines.{whole_lines}
 use Rattle.script_session.specs.LogFiles.{log_in}
 use Rattle.session_laws.proofs.LinesLemmas.{whole_lines-none}
-use Rattle.share_machine.specs.Sharing.{Asked, Nothing, Script, Sharing, Store, Waits}
-use Rattle.shared_log_laws.specs.SharedLog.{HasLog, IsSharedLog, IsUpTo, StaysIn}
+use Rattle.share_machine.specs.Sharing.{Nothing, Script, Sharing, Store, Waits}
+use Rattle.shared_log_laws.specs.SharedLog.{IsSharedLog, IsUpTo, StaysIn}
 use Rattle.shared_log_laws.specs.System.{Acts, Comes, Dies, Event, Offer, Process, Replies, System, after_events, comes_to, happens, may_reply, new_system, put_at_end, replies_to, reply_lines, system_of}
 use Rattle.shared_log_laws.proofs.AddedEntries.{lines_of_lines}
 use Rattle.shared_log_laws.proofs.Fronts.{Front, front_same, front_then, front_with, take_front}
-use Rattle.shared_log_laws.proofs.KnownLogs.{Knows, has_length, has_lines, session_lines}
+use Rattle.shared_log_laws.proofs.KnownLogs.{has_length, session_lines}
 use Rattle.shared_log_laws.proofs.Replies.{IsDue}
 use Rattle.shared_log_laws.proofs.Systems.{IsProcess, IsStore, system_well}
 

@@ -1,32 +1,28 @@
 -- What a line of the input comes to, for a process that knows a front of the shared log.
-use Rattle.std.proofs.Common.{◌≡◌, ℕ, ◌+◌, Bool, true, false, if◌then◌else◌, List, [], ◌∷◌, ◌++◌, length, map, take, drop, Option, Some, None, Result, Ok, Err, codes, refl, sym, ap, ◌∙◌, subst, append_assoc, append-nil, arith, IsTrue}
+use Rattle.std.proofs.Common.{◌≡◌, ℕ, ◌+◌, Bool, true, false, if◌then◌else◌, List, [], ◌∷◌, ◌++◌, length, map, Option, Some, Ok, refl, sym, ap, ◌∙◌, subst, append_assoc, append-nil}
 use Rattle.std.proofs.lemmas.List.Elements.{Contains-append_left, Contains-push}
 use Rattle.std.proofs.lemmas.Slice.Eq.{bytes_eq-Decides}
 use Rattle.std.specs.List.{AllByRecursion, Contains}
 use Rattle.std.specs.Str.{bytes_eq}
-use Rattle.cluster_terms.specs.Name.{is_name}
 use Rattle.transformations.proofs.histories.LogLemmas.{id_acts_once, id_answers_again}
-use Rattle.transformations.specs.Log.{IsLog, commit_of}
+use Rattle.transformations.specs.Log.{IsLog}
 use Rattle.transformations.specs.declared.entry.Entry.{Entry}
-use Rattle.wire_json.proofs.headers.HeadersReadBack.{header_reads_back}
 use Rattle.wire_json.specs.EntryTexts.{entry_text}
-use Rattle.wire_json.specs.Header.{header_text}
 use Rattle.script_lang.specs.AnswerTexts.{ok_text}
 use Rattle.script_lang.specs.Grammar.{line_of}
 use Rattle.script_lang.specs.declared.script_line.ScriptLine.{ScriptLine}
 use Rattle.script_lang.specs.declared.script_line.ScriptLine.TheVariants.{Commit}
-use Rattle.script_session.proofs.steps.SessionLemmas.{IsSession, after_reply}
+use Rattle.script_session.proofs.steps.SessionLemmas.{after_reply}
 use Rattle.script_session.specs.Lines.{HasNoFeed}
-use Rattle.script_session.specs.LogFiles.{goes_on, header_cause, header_read, log_after, log_from, next_entry, other_cluster}
-use Rattle.script_session.specs.Machine.{Reply, SessionState, commit_text, replied, reply, reply_to, session_next}
-use Rattle.script_session.specs.declared.refused_line.Cause.{Cause}
-use Rattle.share_machine.specs.Requests.{Told, LogLine, End, end_line, log_line, read_text, told_by}
+use Rattle.script_session.specs.LogFiles.{goes_on, log_from, next_entry}
+use Rattle.script_session.specs.Machine.{SessionState, commit_text, reply, reply_to}
+use Rattle.share_machine.specs.Requests.{Told, LogLine, End, end_line, log_line, told_by}
 use Rattle.share_machine.specs.Sharing.{Asked, Read, PutHeader, PutEntry, Stands, Nothing, Script, Sharing, Store, Turn, Waits, answers_with, begins, decides, is_told, offers, offers_header, offers_or, once_told, reads, share_after, share_texts, told_end, told_line, turn_by, turn_of}
 use Rattle.shared_log_laws.specs.SharedLog.{HasLog}
 use Rattle.shared_log_laws.specs.System.{may_reply}
-use Rattle.shared_log_laws.proofs.AddedEntries.{Adds, AddsAtMost, AddsOne, adds_at_most, reads_next}
-use Rattle.shared_log_laws.proofs.Fronts.{Front, all_first}
-use Rattle.shared_log_laws.proofs.KnownLogs.{Knows, front_has, goes_on_from, has_lines, has_pushed, log_from_grows, takes_over, with_log}
+use Rattle.shared_log_laws.proofs.AddedEntries.{Adds, AddsOne, adds_at_most, reads_next}
+use Rattle.shared_log_laws.proofs.Fronts.{all_first}
+use Rattle.shared_log_laws.proofs.KnownLogs.{Knows, front_has, goes_on_from, has_lines, log_from_grows, takes_over, with_log}
 
 -- ---- lines one after another
 

@@ -1,21 +1,19 @@
 -- What a process has printed is what `share` prints over its input.
-use Rattle.std.proofs.Common.{◌≡◌, ℕ, ◌+◌, ◌==◌, Bool, true, false, if◌then◌else◌, List, [], ◌∷◌, ◌++◌, drop, flat_map, length, map, take, Option, Some, None, Ok, IsTrue, refl, sym, ap, ◌∙◌, subst, append-nil}
-use Rattle.std.specs.List.{AllByRecursion, Contains, slice_get}
+use Rattle.std.proofs.Common.{◌≡◌, ℕ, ◌==◌, Bool, true, false, if◌then◌else◌, List, [], ◌∷◌, ◌++◌, length, map, IsTrue, refl, sym, ap, ◌∙◌, append-nil}
+use Rattle.std.specs.List.{AllByRecursion, Contains}
 use Rattle.cluster_terms.specs.Name.{is_name}
 use Rattle.transformations.proofs.lists.ContainsLemmas.{holds_of}
 use Rattle.transformations.proofs.lists.ListLemmas.{all_append}
-use Rattle.script_lang.specs.AnswerTexts.{line as with_feed}
 use Rattle.script_session.specs.Lines.{HasNoFeed, open_line, whole_lines}
 use Rattle.session_laws.proofs.LinesLemmas.{open_line-none, whole_lines-none}
-use Rattle.share_machine.specs.Outcome.{ShareOutcome, ended, share_outcome}
+use Rattle.share_machine.specs.Outcome.{ended, share_outcome}
 use Rattle.share_machine.specs.Requests.{end_line, log_line}
-use Rattle.share_machine.specs.Sharing.{Asked, Nothing, Script, Sharing, Store, Waits, new_sharing, share_after, share_texts}
+use Rattle.share_machine.specs.Sharing.{Nothing, Script, Store, Waits, new_sharing, share_after, share_texts}
 use Rattle.shared_log_laws.specs.SharedLog.{HasLine, PrintsAnswer, RunsShare, input_of}
 use Rattle.shared_log_laws.specs.System.{Acts, Answer, Comes, Dies, Event, Process, Replies, System, after_events, comes_to, happens, hears, if_answered, may_reply, new_process, new_system, replies_to, reply_lines, system_of, told_lines, turned, with_process}
 use Rattle.shared_log_laws.proofs.AddedEntries.{lines_of_lines, open_of_lines}
-use Rattle.shared_log_laws.proofs.Fronts.{Front, all_front, front_then_rest}
 use Rattle.shared_log_laws.proofs.Replies.{share_after-append, share_texts-append}
-use Rattle.shared_log_laws.proofs.Systems.{IsSystem, after_well, happens_well, new_well, reply_plain}
+use Rattle.shared_log_laws.proofs.Systems.{IsSystem, happens_well, new_well, reply_plain}
 
 -- a process is where its input leads
 pub record IsRun (cluster : List ℕ) (p : Process) : Type 0 where

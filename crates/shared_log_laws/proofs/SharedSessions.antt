@@ -1,15 +1,12 @@
 -- The sessions of all processes are over fronts of one log.
-use Rattle.std.proofs.Common.{◌≡◌, ℕ, ◌≤◌, inl, inr, ◌⊎◌, List, [], ◌∷◌, ◌++◌, length, map, take, Some, Ok, IsTrue, refl, sym, ap, ◌∙◌, subst, arith}
+use Rattle.std.proofs.Common.{◌≡◌, ℕ, ◌≤◌, inl, inr, List, length, take, Some, IsTrue, sym, ap, ◌∙◌, subst, arith}
 use Rattle.std.proofs.lemmas.List.{map-append, take-append-le}
-use Rattle.std.specs.List.{AllByRecursion, Contains}
+use Rattle.std.specs.List.{Contains}
 use Rattle.cluster_terms.specs.Name.{is_name}
-use Rattle.cluster_terms.specs.Quorum.{Meet}
-use Rattle.follower_log.specs.Follower.{FollowerState}
 use Rattle.transformations.proofs.histories.LogLemmas.{length-commands_of}
 use Rattle.transformations.proofs.lists.ContainsLemmas.{holds_of}
 use Rattle.transformations.specs.History.{empty_image, image_after, state_after}
 use Rattle.transformations.specs.Log.{commands_of}
-use Rattle.transformations.specs.declared.command.Command.{Command}
 use Rattle.transformations.specs.declared.entry.Entry.{Entry}
 use Rattle.script_lang.proofs.SaidLemmas.{said_by}
 use Rattle.script_lang.specs.Grammar.{line_of}
@@ -19,13 +16,13 @@ use Rattle.script_session.specs.StepEnds.{FollowsLog}
 use Rattle.script_session.specs.declared.session.followers.NamedFollower.{NamedFollower}
 use Rattle.session_laws.proofs.quorums.ShownAnswers.{IsShownIn, is_shown}
 use Rattle.session_laws.proofs.quorums.ShownLemmas.{asked, meet_shown, shown_later}
-use Rattle.session_laws.specs.Shown.{AreAdjacent, AskAlike, Shown, shown_by}
+use Rattle.session_laws.specs.Shown.{Shown, shown_by}
 use Rattle.shared_log_laws.specs.SharedLog.{FollowersAgree, HasLog, IsIn, SharedQuorumsMeet}
-use Rattle.shared_log_laws.specs.System.{Answer, Event, System, system_of}
+use Rattle.shared_log_laws.specs.System.{Event, System, system_of}
 use Rattle.shared_log_laws.proofs.Answered.{log_front}
 use Rattle.shared_log_laws.proofs.Fronts.{Front}
 use Rattle.shared_log_laws.proofs.KnownLogs.{session_lines}
-use Rattle.shared_log_laws.proofs.Systems.{IsAnswer, IsProcess, IsSystem, system_well}
+use Rattle.shared_log_laws.proofs.Systems.{IsAnswer, IsSystem, system_well}
 
 -- a session over a front of a log
 record IsOver (log : List Entry) (session : SessionState) : Type 0 where

@@ -1,13 +1,13 @@
 -- The events are all that a store of order may do.
-use Rattle.std.proofs.Common.{◌≡◌, ℕ, ◌+◌, ◌-◌, ◌==◌, ◌⊎◌, inl, inr, Bool, true, false, if◌then◌else◌, List, [], ◌∷◌, ◌++◌, drop, get_or, length, take, Option, Some, None, IsTrue, refl, sym, ap, ◌∙◌, subst, eq-eqb, arith}
+use Rattle.std.proofs.Common.{◌≡◌, ℕ, ◌+◌, ◌-◌, ◌==◌, inl, inr, true, if◌then◌else◌, List, [], ◌∷◌, ◌++◌, drop, length, take, Some, IsTrue, sym, ap, ◌∙◌, eq-eqb, arith}
 use Rattle.std.proofs.lemmas.Option.{slice_get-get_or, slice_get_past}
 use Rattle.std.specs.List.{Contains, slice_get}
 use Rattle.cluster_terms.specs.Name.{is_name}
 use Rattle.transformations.proofs.lists.ContainsLemmas.{holds_of}
 use Rattle.share_machine.specs.Sharing.{Asked}
-use Rattle.shared_log_laws.specs.Promises.{IsReplyEvent, IsReplyOf, IsStoreEvent, KeepsOrder, Puts}
-use Rattle.shared_log_laws.specs.System.{Acts, Event, Offer, Process, System, happens, put_at_end, reply_lines, system_of}
-use Rattle.shared_log_laws.proofs.Fronts.{front_whole, take_front}
+use Rattle.shared_log_laws.specs.Promises.{IsReplyEvent, IsReplyOf, IsStoreEvent, KeepsOrder}
+use Rattle.shared_log_laws.specs.System.{Acts, Event, Offer, Process, System, put_at_end, system_of}
+use Rattle.shared_log_laws.proofs.Fronts.{take_front}
 use Rattle.shared_log_laws.proofs.Systems.{IsOffer, system_well}
 
 pub store_event : (cluster : List ℕ) (s : System) (store' : List (List ℕ)) → KeepsOrder s.offers s.store store' → IsStoreEvent cluster s store'

@@ -1,30 +1,26 @@
 -- What holds of a system, kept by each event.
-use Rattle.std.proofs.Common.{◌≡◌, ℕ, ◌+◌, ◌≤◌, ◌==◌, Bool, true, false, if◌then◌else◌, List, [], ◌∷◌, ◌++◌, drop, length, map, take, Option, Some, None, Result, Ok, refl, sym, ap, ◌∙◌, subst, append-nil, arith, IsTrue, length-append}
+use Rattle.std.proofs.Common.{◌≡◌, ℕ, ◌+◌, ◌≤◌, ◌==◌, Bool, true, false, if◌then◌else◌, List, [], ◌∷◌, ◌++◌, length, map, take, Option, Some, None, refl, sym, ap, ◌∙◌, subst, arith, IsTrue, length-append}
 use Rattle.std.proofs.lemmas.Bool.{eqb-true}
 use Rattle.std.proofs.lemmas.List.{length-take}
 use Rattle.std.proofs.lemmas.Slice.Eq.{bytes_eq-Decides}
-use Rattle.std.specs.List.{AllByRecursion, Contains, slice_get}
-use Rattle.std.specs.Str.{bytes_eq}
+use Rattle.std.specs.List.{AllByRecursion, slice_get}
 use Rattle.cluster_terms.specs.Name.{is_name}
 use Rattle.transformations.proofs.lists.ContainsLemmas.{holds_of}
 use Rattle.transformations.proofs.lists.ListLemmas.{all_append, all_weaker}
 use Rattle.transformations.specs.declared.entry.Entry.{Entry}
 use Rattle.wire_json.proofs.headers.HeadersReadBack.{header_reads_back}
-use Rattle.wire_json.specs.EntryTexts.{entry_text}
 use Rattle.wire_json.specs.Header.{header_text}
-use Rattle.wire_json.specs.declared.line.Line.{Line}
 use Rattle.script_session.proofs.steps.SessionLemmas.{IsSession, session_empty}
 use Rattle.script_session.specs.Lines.{HasNoFeed}
 use Rattle.script_session.specs.LogFiles.{header_cause, header_read, log_after, next_entry}
 use Rattle.script_session.specs.declared.refused_line.Cause.TheVariants as cause
-use Rattle.script_session.specs.Machine.{SessionState, reply, session_over}
 use Rattle.share_machine.specs.Requests.{end_line, log_line}
-use Rattle.share_machine.specs.Sharing.{Asked, Read, PutHeader, PutEntry, Stands, Nothing, Script, Sharing, Store, Turn, Waits, new_sharing, share_after, share_texts}
+use Rattle.share_machine.specs.Sharing.{Read, PutHeader, PutEntry, Stands, Nothing, Script, Sharing, Store, Waits, new_sharing, share_after, share_texts}
 use Rattle.shared_log_laws.specs.SharedLog.{HasLog}
 use Rattle.shared_log_laws.specs.System.{Acts, Answer, Comes, Dies, Event, Offer, Process, Replies, System, after_events, comes_to, happens, hears, if_answered, may_reply, new_process, new_system, offer_sent, put_at_end, replies_to, reply_lines, system_of, told_lines, turned, with_process}
 use Rattle.shared_log_laws.proofs.AddedEntries.{entry_plain, header_plain, reads_next}
-use Rattle.shared_log_laws.proofs.Fronts.{Front, all_front, all_last, contained_at, front_on, front_same, front_short, front_taken, front_then_rest, front_whole}
-use Rattle.shared_log_laws.proofs.KnownLogs.{HasSome, Knows, front_of, has_lines, has_pushed}
+use Rattle.shared_log_laws.proofs.Fronts.{Front, all_front, all_last, contained_at, front_on, front_short, front_taken, front_then_rest, front_whole}
+use Rattle.shared_log_laws.proofs.KnownLogs.{Knows, front_of, has_pushed}
 use Rattle.shared_log_laws.proofs.Replies.{IfScript, IsDue, IsReply, comes_well, hears_lines, replies_well}
 
 -- ---- the parts of a system

@@ -1,6 +1,6 @@
 -- What holds of every system of processes over one shared log.
 use Rattle.std.specs.Prelude.{◌≡◌, ◌≢◌, ◌⊎◌, ℕ, ◌+◌, ◌<◌, ◌≤◌, List, [], ◌∷◌, ◌++◌, flat_map, length, take, Some, Ok}
-use Rattle.std.specs.List.{AllByRecursion, Contains, slice_get}
+use Rattle.std.specs.List.{Contains, slice_get}
 use Rattle.cluster_terms.specs.Quorum.{Meet}
 use Rattle.transformations.specs.History.{state_after}
 use Rattle.transformations.specs.Log.{IsLog, commands_of}

@@ -1,12 +1,12 @@
 -- Any number of processes of `share` over one store, and all that may happen, one event after another. A request that is
 -- lost, or whose reply is lost, is an event that doesn't come; a request that is sent again, and an offer that comes late,
 -- are events that come later.
-use Rattle.std.specs.Prelude.{ℕ, ◌+◌, Bool, true, false, not, if◌then◌else◌, ◌==◌, List, [], ◌∷◌, ◌++◌, drop, length, map, take, Option, Some, None}
+use Rattle.std.specs.Prelude.{ℕ, ◌+◌, Bool, true, false, if◌then◌else◌, ◌==◌, List, [], ◌∷◌, ◌++◌, drop, length, map, take, Option, Some, None}
 use Rattle.std.specs.List.{slice_get}
 use Rattle.wire_json.specs.Header.{header_text}
 use Rattle.script_session.specs.Machine.{SessionState}
 use Rattle.share_machine.specs.Requests.{end_line, log_line}
-use Rattle.share_machine.specs.Sharing.{Asked, Read, PutHeader, PutEntry, Stands, Nothing, Script, Sharing, Store, Waits, new_sharing, share_after, share_texts}
+use Rattle.share_machine.specs.Sharing.{Asked, Read, PutHeader, PutEntry, Script, Sharing, Store, Waits, new_sharing, share_after, share_texts}
 
 -- ---- the parts of a system
 
