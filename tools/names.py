@@ -64,8 +64,6 @@ class Names:
 
     def add(self, kind: str, here: str, there: str) -> None:
         """Adds a pair of names."""
-        if UNFIT.search(there):
-            raise Refused(f"the {kind} {there!r:.80} has a character that no name may have")
         if self.theirs.get((kind, here), there) != there or self.ours.get((kind, there), here) != here:
             raise Refused(f"the {kind} {there} can't be {here}: another name is")
         self.theirs[kind, here], self.ours[kind, there] = there, here
@@ -81,6 +79,8 @@ class Names:
         there = canonical(name) if kind == "node" else name
         if (kind, there) in self.ours:
             return self.ours[kind, there]
+        if UNFIT.search(there):
+            raise Refused(f"the {kind} {there!r:.80} has a character that no name may have")
         for here in candidates(kind, there):
             if NAME.fullmatch(here) and not self.meanings(kind, here):
                 self.add(kind, here, there)

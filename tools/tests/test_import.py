@@ -94,7 +94,7 @@ class Edges(InTutorial):
         self.assertIn("# log\tshop\t", self.read("shop.log.names"))
         for dc in ("dc/1", "dc 1".replace(" ", "_"), "d~c"):
             self.write("w.txt", f"join n {dc} rack1 4 tokens\n")
-            self.assertEqual(cluster("whatif", "shop.log", "w.txt", "--script", "p.script")[0], 0)
+            self.assertEqual(cluster("whatif", "shop.log", "w.txt", "--script", "p.script", "--force")[0], 0)
             self.assertIn(f"register n {dc} rack1", self.read("p.script"))
         self.write("p.script", "register n dc/1 rack1\ndrop-keyspace sh/op\n")
         cluster("apply", "shop.log", "p.script")

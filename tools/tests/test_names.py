@@ -109,7 +109,6 @@ class Files(unittest.TestCase):
             "node\ta\tb\nnode\ta\tc",
             "node\ta\tc\nnode\tb\tc",
             "node\ta\t",
-            "node\ta\t\x1b",
         ):
             self.write(path_of(self.log), "# first", "", line)
             with self.subTest(line), self.assertRaisesRegex(Refused, r"a\.log\.names:[34]: "):
