@@ -69,7 +69,7 @@ class State:
 
     def place(self, keyspace: str) -> Placement:
         """Returns the placement of a keyspace."""
-        return next(iter(self.places([keyspace])))
+        return list(self.places([keyspace]))[0]
 
     def places(self, keyspaces: Iterable[str]) -> Iterator[Placement]:
         """Gives the placements of keyspaces, one after another, as all of them may have no room."""
