@@ -96,8 +96,10 @@ class Edges(InTutorial):
             self.write("w.txt", f"join n {dc} rack1 4 tokens\n")
             self.assertEqual(cluster("whatif", "shop.log", "w.txt", "--script", "p.script", "--force")[0], 0)
             self.assertIn(f"register n {dc} rack1", self.read("p.script"))
-        self.write("p.script", "register n dc/1 rack1\ndrop-keyspace sh/op\n")
-        cluster("apply", "shop.log", "p.script")
+        self.write("p.script", "drop-keyspace sh/op\n")
+        self.assertIn("NO NO-KEYSPACE", cluster("apply", "shop.log", "p.script")[2])
+        self.write("p.script", "register n dc/1 rack1\n")
+        self.assertEqual(cluster("apply", "shop.log", "p.script")[0], 0)
         self.assertEqual(names_of("shop.log").there("datacenter", state("shop.log").by_id[5].dc), "dc/1")
         self.assertIn("shop", state("shop.log").replications)
 
@@ -120,7 +122,7 @@ class Edges(InTutorial):
                 self.assertIn(f"{name} has no place in any wave: tcm answers {why}", said)
                 self.assertNotIn(f"move {name}", self.read("p.script"))
         self.assertTrue(self.read("p.script").startswith("# plan of the cluster shop at epoch 10\n"))
-        self.assertEqual(cluster("apply", "shop.log", "p.script", "--yes", "--dry-run")[0], 0)
+        self.assertEqual(cluster("apply", "shop.log", "p.script", "--dry-run")[0], 0)
         self.write("w.txt", "leave 10.0.0.1\nleave /10.0.0.1\n")
         self.assertIn("10.0.0.1 has a wish already", cluster("whatif", "shop.log", "w.txt")[2])
 
