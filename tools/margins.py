@@ -9,7 +9,6 @@ from tools.flight import Trial
 from tools.terms import GREATEST
 
 Level = Tuple[str, str]  # a keyspace, and QUORUM or LOCAL_QUORUM with its datacenter
-Sets = Tuple[Tuple[int, ...], Tuple[int, ...]]  # the nodes that are read, and those that are written
 Shape = Tuple[int, int]  # how many nodes are read and written, by datacenter, and how many of them are up
 DIGIT = 12  # bits of a count
 
