@@ -65,11 +65,10 @@ def groups_of(replication: str, nodes: Sequence[Node]) -> Dict[str, Group]:
     return found
 
 
-def spread(placement: Placement, group: Group) -> Tuple[float, float]:
-    """Returns the least and the greatest share of a group's nodes, as parts of their fair ones."""
+def parts_of(placement: Placement, group: Group) -> Dict[int, float]:
+    """Returns the shares of a group's nodes, as parts of their fair ones."""
     shares = read_shares(placement)
-    parts = [shares.get(it, 0) / max(1, group.fair_share(it)) for it in group.racks]
-    return min(parts), max(parts)
+    return {it: shares.get(it, 0) / max(1, group.fair_share(it)) for it in group.racks}
 
 
 def shares_by_rack(sizes: Dict[str, int], wanted: int, spare: int) -> Dict[str, float]:

@@ -9,6 +9,7 @@ from typing import Dict, Iterator, List, Set, Tuple
 from tools.answers import Placement, Row
 from tools.log import State, state
 from tools.names import Names, names_of
+from tools.near import is_same_but_spelled
 from tools.nodetool import TokenRange, read_describering
 from tools.show import print_json, say
 from tools.terms import GREATEST, LEAST, listed, plural
@@ -50,13 +51,12 @@ def run(options: argparse.Namespace) -> int:
     if options.json:
         print_json({"ranges": len(ranges), "differences": [vars(it) for it in found], "racks_not_compared": blind})
     else:
-        show(options, now.epoch, ranges, found)
+        show(name_of(options.describering), options.keyspace, now.epoch, ranges, found)
     return 1 if found else 0
 
 
-def show(options: argparse.Namespace, epoch: int, ranges: List[TokenRange], found: List[Difference]) -> None:
+def show(name: str, keyspace: str, epoch: int, ranges: List[TokenRange], found: List[Difference]) -> None:
     """Prints differences, and what wasn't compared."""
-    name = name_of(options.describering)
     for it in found:
         say(f"{name}{f':{it.line}' if it.line else ''}: {it.where}: {it.why}")
     blind = [it for it in ranges if not it.places]
@@ -64,7 +64,7 @@ def show(options: argparse.Namespace, epoch: int, ranges: List[TokenRange], foun
         where_ = f"{name}:{blind[0].line}: " + ("" if len(blind) == 1 else "and later: ")
         say(f"{where_}racks not compared in {plural(len(blind), 'range')}: no endpoint_details that can be read")
     what = plural(len(found), "difference") if found else "no difference"
-    say(f"{plural(len(ranges), 'range')} of {options.keyspace} at epoch {epoch}: {what}")
+    say(f"{plural(len(ranges), 'range')} of {keyspace} at epoch {epoch}: {what}")
 
 
 def differences(ranges: List[TokenRange], keyspace: str, now: State, names: Names) -> List[Difference]:
@@ -122,8 +122,11 @@ def unlike_places(ranges: List[TokenRange], now: State, names: Names) -> Iterato
             ours = (names.there("datacenter", node.dc), names.there("rack", node.rack)) if node else place
             if ours != place and (host, place) not in told:
                 told.add((host, place))
+                only = " (they differ in spelling only)" if all(map(is_same_but_spelled, place, ours)) else ""
                 yield Difference(
-                    it.line, where(it), f"{host} is in {place[0]} {place[1]}, and in {ours[0]} {ours[1]} in the log"
+                    it.line,
+                    where(it),
+                    f"{host} is in {place[0]} {place[1]}, and in {ours[0]} {ours[1]} in the log{only}",
                 )
 
 

@@ -9,13 +9,18 @@ from dataclasses import dataclass, field
 from typing import Any, Dict, List, Optional, Set
 
 from tools import names as naming
+from tools import seen as seeing
+from tools.bundle import SCHEMA, Bundle, cluster_name, notes_of, read_bundle, seen_of_bundle
+from tools.compare import differences, show
 from tools.errors import Refused, WrongWords
-from tools.log import is_absent_or_empty
+from tools.log import is_absent_or_empty, state
 from tools.names import Names
-from tools.nodetool import RingNode, read_ring
+from tools.near import meant
+from tools.nodetool import RingNode, read_describering, read_ring
 from tools.on_disk import write_log
 from tools.program import Session
 from tools.schema import Keyspace, read_schema
+from tools.seen import Seen
 from tools.show import plain, say
 from tools.terms import (
     MOST_DATACENTERS,
@@ -33,9 +38,8 @@ from tools.words import add_cluster, add_output
 
 NAME, HELP = "import", "make a script or a log of what nodetool ring and cqlsh print"
 EXAMPLE = """example:
-  nodetool ring > ring.txt
-  cqlsh -e 'DESCRIBE SCHEMA' > schema.cql
-  bin/cluster import ring.txt schema.cql --log cluster.log --cluster prod"""
+  bin/collect shop | sh     # on a machine with nodetool and cqlsh
+  bin/cluster import shop --log shop.log"""
 
 LEFT_OUT = ("LocalStrategy", "MetaStrategy")
 
@@ -71,10 +75,16 @@ def datacenters_of(nodes: List[RingNode]) -> List[str]:
 
 def words(parser: argparse.ArgumentParser) -> None:
     """Declares the words of the verb."""
-    parser.add_argument("ring", metavar="RING", help="what nodetool ring printed; - is standard input")
-    parser.add_argument("schema", metavar="SCHEMA", help="what DESCRIBE SCHEMA or DESCRIBE KEYSPACE of cqlsh printed")
+    parser.add_argument(
+        "ring",
+        metavar="FOLDER|RING",
+        help="a folder made by the commands that bin/collect prints, or what nodetool ring printed; - is standard input",
+    )
+    parser.add_argument(
+        "schema", metavar="SCHEMA", nargs="?", help="with RING: what DESCRIBE FULL SCHEMA of cqlsh printed"
+    )
     to = parser.add_mutually_exclusive_group(required=True)
-    to.add_argument("--log", metavar="LOG", help="the log to make, with its names in LOG.names; needs --cluster")
+    to.add_argument("--log", metavar="LOG", help="the log to make, with its names in LOG.names")
     script = "the script to make, with its names in FILE.names: copy it to LOG.names of the log that you make"
     add_output(to, parser, "--script", script)
     add_cluster(parser)
@@ -101,40 +111,91 @@ def words(parser: argparse.ArgumentParser) -> None:
 
 
 def run(options: argparse.Namespace) -> int:
-    """Imports a cluster."""
+    """Imports a cluster, and returns 1 where its placements aren't those of the bundle."""
+    bundle = bundle_of(options)
+    cluster = options.cluster or (cluster_name(bundle) if options.log else "")
+    ring, schema = bundle.paths()
+    nodes = read_ring(read_lines(ring), name_of(ring))
+    skipped: Optional[List[str]] = [] if options.skip_unknown else None
+    keyspaces = read_schema(read_text(schema), name_of(schema), skipped)
+    seen = seen_of_bundle(bundle, nodes, keyspaces)
+    source = Source(name_of(ring), name_of(schema), datacenters_of(nodes))
+    imported = import_cluster(nodes, keyspaces, set(options.leave_out), source)
+    imported.notes += [f"{source.schema}: {it}" for it in skipped or []]
+    imported.notes += notes_of(bundle, nodes, keyspaces)
+    asked = asked_of(options, nodes, source.ring)
+    add_movements(imported, nodes, asked, source.ring)
+    seen.tokens = {it.address: tuple(it.tokens) for it in nodes if it.address in asked.settled}
+    if options.log:
+        make_log(options.log, cluster, imported)
+    else:
+        write_text(options.script, imported.script)
+        imported.names.save(naming.path_of(options.script))
+    to = options.log or options.script
+    seen.save(seeing.path_of(to))
+    tell(to, imported, nodes, seen)
+    return 1 if options.log and not agrees(options.log, bundle, imported.names) else 0
+
+
+def bundle_of(options: argparse.Namespace) -> Bundle:
+    """Returns the bundle that the words name: a folder, or two files."""
+    if os.path.isdir(options.ring):
+        if options.schema:
+            raise Refused(f"{options.ring} is a folder, which has {SCHEMA} itself, so SCHEMA has no place beside it")
+        return read_bundle(options.ring)
+    if not options.schema:
+        raise WrongWords("RING needs SCHEMA, unless it is a folder with both")
     if options.ring == options.schema == "-":
         raise WrongWords("only one of RING and SCHEMA can be standard input")
     if options.log and not options.cluster:
         raise WrongWords("a log needs the name of its cluster: --cluster NAME")
-    nodes = read_ring(read_lines(options.ring), name_of(options.ring))
-    skipped: Optional[List[str]] = [] if options.skip_unknown else None
-    keyspaces = read_schema(read_text(options.schema), name_of(options.schema), skipped)
-    source = Source(name_of(options.ring), name_of(options.schema), datacenters_of(nodes))
-    imported = import_cluster(nodes, keyspaces, set(options.leave_out), source)
-    imported.notes += [f"{source.schema}: {it}" for it in skipped or []]
-    add_movements(imported, nodes, asked_of(options, nodes), source.ring)
-    if options.log:
-        make_log(options.log, options.cluster, imported)
-    else:
-        write_text(options.script, imported.script)
-        imported.names.save(naming.path_of(options.script))
-    tell(options.log or options.script, imported, nodes)
-    return 0
+    return Bundle(files=(options.ring, options.schema))
 
 
-def tell(to: str, imported: Imported, nodes: List[RingNode]) -> None:
+def tell(to: str, imported: Imported, nodes: List[RingNode], seen: Seen) -> None:
     """Says what was made."""
-    for note in imported.notes:
+    for note in [*imported.notes, *notes_of_seen(seen, seeing.path_of(to))]:
         print(f"cluster: {plain(note)}", file=sys.stderr)
-    tokens = sum(len(it.tokens) for it in nodes)
+    joined = [it for it in nodes if it.state != "Joining"]
     made = sum(it.startswith("keyspace ") for it in imported.commands)
+    joining = f" and {plural(len(nodes) - len(joined), 'joining one')}" if len(joined) < len(nodes) else ""
     say(
-        f"{to}: {plural(len(nodes), 'node')}, {plural(tokens, 'token')}, {plural(made, 'keyspace')}, "
-        f"{plural(len(imported.commands), 'command')}"
+        f"{to}: {plural(len(joined), 'node')} with {plural(sum(len(it.tokens) for it in joined), 'token')}{joining}, "
+        f"{plural(made, 'keyspace')}, {plural(len(imported.commands), 'command')}"
     )
     differing = imported.names.differing()
     if differing:
         say(f"{naming.path_of(to)}: {plural(len(differing), 'name')} that differ from those of Cassandra")
+
+
+def notes_of_seen(seen: Seen, path: str) -> List[str]:
+    """Returns what the reader should know of what is kept beside the log."""
+    notes = []
+    if seen.down:
+        verb = "is" if len(seen.down) == 1 else "are"
+        notes.append(f"{listed(seen.down)} {verb} Down: {path} keeps it, so whatif and moves count with it")
+    if seen.missing:
+        notes.append(
+            f"the schema has no {listed(seen.missing)}, by which movements may have to wait: DESCRIBE FULL SCHEMA prints "
+            "all keyspaces"
+        )
+    return notes
+
+
+def agrees(log: str, bundle: Bundle, names: Names) -> bool:
+    """Says how the placements of a log differ from each describering of a bundle, and returns whether none does."""
+    is_same = True
+    now = state(log) if bundle.describering else None
+    for keyspace, path in bundle.describering.items():
+        here = names.here("keyspace", keyspace)
+        if now is None or here not in now.replications:
+            print(f"cluster: {plain(path)}: the log has no keyspace {plain(keyspace)}, so it isn't compared", file=sys.stderr)
+            continue
+        ranges = read_describering(read_lines(path), path)
+        found = differences(ranges, here, now, names)
+        show(path, keyspace, now.epoch, ranges, found)
+        is_same = is_same and not found
+    return is_same
 
 
 # ---- A cluster as commands
@@ -169,7 +230,11 @@ def check_limits(nodes: List[RingNode], ring: str) -> None:
         raise Refused(f"{ring}: {len(nodes):,} nodes, and at most {MOST_NODES:,} have room")
     tokens = sum(len(it.tokens) for it in nodes)
     if tokens > MOST_TOKENS:
-        raise Refused(f"{ring}: {tokens:,} tokens, and at most {MOST_TOKENS:,} have room")
+        most = max(len(it.tokens) for it in nodes)
+        raise Refused(
+            f"{ring}: {plural(len(nodes), 'node')} have {tokens:,} tokens, and at most {MOST_TOKENS:,} have room: "
+            f"{MOST_TOKENS // most:,} nodes of {most} tokens"
+        )
     for node in nodes:
         if len(node.tokens) > MOST_TOKENS_OF_NODE:
             raise fault(
@@ -189,11 +254,6 @@ def add_nodes(imported: Imported, nodes: List[RingNode]) -> None:
     for i, node in enumerate(nodes, 1):
         if node.state != "Joining":
             imported.commands.append(f"unsafe-join {i} {tokens_of(node)}")
-        if node.status == "Down":
-            imported.notes.append(
-                f"{node.address} is Down: the log doesn't know this, so tell it to whatif by a line `down "
-                f"{node.address}`"
-            )
 
 
 def tokens_of(node: RingNode) -> str:
@@ -211,6 +271,7 @@ def add_keyspace(imported: Imported, keyspace: Keyspace, leave_out: Set[str], so
         imported.notes.append(f"the keyspace {keyspace.name} is left out, as --leave-out says")
     else:
         replication = replication_of(imported, keyspace, source)
+        imported.notes += [f"{source.schema}:{keyspace.line}: {keyspace.name}: {it}" for it in keyspace.notes]
         imported.commands.append(f"keyspace {imported.names.take('keyspace', keyspace.name)} {replication}")
 
 
@@ -229,6 +290,9 @@ def replication_of(imported: Imported, keyspace: Keyspace, source: Source) -> st
     rest = options.pop("replication_factor", None)
     if rest is not None:
         options = {**{it: rest for it in source.datacenters}, **options}
+    if "0" in options.values():
+        none = listed([dc for dc, factor in options.items() if factor == "0"])
+        imported.notes.append(f"{schema}:{keyspace.line}: {keyspace.name} has no replica in {none}")
     factors = {dc: factor_of(keyspace, factor, schema) for dc, factor in options.items() if factor != "0"}
     check_datacenters(imported, keyspace, list(factors), source)
     return "topology " + " ".join(f"{imported.names.take('datacenter', dc)}:{it}" for dc, it in factors.items())
@@ -246,11 +310,15 @@ def check_datacenters(imported: Imported, keyspace: Keyspace, named: List[str], 
         )
     if len(strange) == len(named):
         raise unfit(
-            keyspace, schema, f"the ring has no datacenter {listed(strange)}, only {listed(datacenters)}: two clusters?"
+            keyspace,
+            schema,
+            f"the ring has no datacenter {listed(strange)}, only {listed(datacenters)}"
+            f"{meant(strange[0], datacenters) or ': two clusters?'}",
         )
     if strange:
         imported.notes.append(
             f"the keyspace {keyspace.name} names the datacenter {listed(strange)}, which has no node in the ring"
+            + meant(strange[0], datacenters)
         )
 
 
@@ -281,7 +349,7 @@ class Asked:
     settled: Set[str]
 
 
-def asked_of(options: argparse.Namespace, nodes: List[RingNode]) -> Asked:
+def asked_of(options: argparse.Namespace, nodes: List[RingNode], ring: str) -> Asked:
     """Returns what the words say of nodes, each of which has to be one that is in movement."""
     states = {it.address: it.state for it in nodes}
     asked = Asked({}, {naming.canonical(it) for it in options.settled})
@@ -292,7 +360,7 @@ def asked_of(options: argparse.Namespace, nodes: List[RingNode]) -> Asked:
     wrong = [it for it in asked.settled if states.get(it) not in ("Joining", "Leaving", "Moving")]
     wrong += [it for it in asked.moving if states.get(it) != "Moving" or it in asked.settled]
     if wrong:
-        raise Refused(f"{name_of(options.ring)}: {listed(sorted(wrong))} isn't in such a movement")
+        raise Refused(f"{ring}: {listed(sorted(wrong))} isn't in such a movement")
     return asked
 
 

@@ -5,9 +5,11 @@ import argparse
 from typing import Dict, List, Sequence
 
 from tools.answers import Movement
+from tools.down import add_down, down_of
 from tools.errors import Refused
 from tools.log import State, copy_of, state
 from tools.names import Names, names_of
+from tools.near import meant
 from tools.placements import Stretch
 from tools.runbook.page import page_of
 from tools.runbook.tasks import in_flight
@@ -28,9 +30,7 @@ def words(parser: argparse.ArgumentParser) -> None:
     """Declares the words of the verb."""
     add_log(parser)
     parser.add_argument("--node", metavar="NAME", help="show the movement of this node alone")
-    parser.add_argument(
-        "--down", metavar="NAME", action="append", default=[], help="a node that is down, so no source; may be repeated"
-    )
+    add_down(parser)
     add_keyspaces(parser)
     add_runbook(parser)
     add_json(parser)
@@ -38,14 +38,16 @@ def words(parser: argparse.ArgumentParser) -> None:
 
 def run(options: argparse.Namespace) -> int:
     """Shows the movements in flight."""
+    names = names_of(options.log)
+    dead = down_of(options.log, options.down, options.up, names)
     if options.runbook:
-        tasks = in_flight(options.log, names_of(options.log), options.down, loads_of(options))
+        tasks = in_flight(options.log, names, dead, loads_of(options))
         script = f"bin/cluster apply {options.log} STEPS.script   # the steps that the log lacks, as they stand below"
         print_lines(page_of(f"What is in flight in {options.log}", [tasks], version_of(options), script))
         return 0
     with copy_of(options.log) as copy:
-        names, now = names_of(options.log), state(copy, name=options.log)
-        down = {node_id(it, now, names) for it in options.down}
+        now = state(copy, name=options.log)
+        down = {node_id(it, now, names) for it in dead}
         keyspaces = chosen_keyspaces(options.keyspace, now, names)
         wanted = [it for it in now.movements if not options.node or it.node == node_id(options.node, now, names)]
         shown = [(it, streams_of(copy, it.node, now, keyspaces, down)) for it in wanted]
@@ -63,7 +65,8 @@ def node_id(said: str, now: State, names: Names) -> int:
     """Returns the id of the node with a name."""
     node = now.by_name.get(names.here("node", said))
     if not node:
-        raise Refused(f"no node {said} at epoch {now.epoch}")
+        others = meant(said, (names.there("node", it) for it in now.by_name))
+        raise Refused(f"no node {said} at epoch {now.epoch}{others}")
     return node.id
 
 

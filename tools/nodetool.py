@@ -5,8 +5,8 @@ import re
 from dataclasses import dataclass, field
 from typing import Dict, List, Match, Tuple
 
+from tools.endpoints import endpoint
 from tools.errors import Refused
-from tools.names import canonical
 from tools.terms import TOKEN, is_token
 from tools.text import fault
 
@@ -54,6 +54,7 @@ class RingReader:
         self.path = path
         self.nodes: Dict[str, RingNode] = {}
         self.owners: Dict[int, str] = {}
+        self.said: Dict[str, str] = {}  # the node of each address, as the lines say it
         self.greatest: Dict[str, Tuple[int, int]] = {}  # of each datacenter: the token of its first line, and the line
         self.last: Dict[str, int] = {}  # of each datacenter: the token of its last line
         self.dc = ""
@@ -65,6 +66,8 @@ class RingReader:
         row = RING_ROW.fullmatch(said)
         if words and words[0].startswith("Datacenter:") and line.strip() != "Datacenter:":
             self.begin(number, line.strip()[len("Datacenter:") :].strip())
+        elif said.startswith("Status=Up/Down"):
+            raise fault(self.path, number, "nodetool status printed this, and what nodetool ring prints is to be here")
         elif HEADING.fullmatch(said) or PASSED_OVER.fullmatch(said):
             pass
         elif not self.dc:
@@ -107,7 +110,13 @@ class RingReader:
 
     def add(self, number: int, row: Match[str]) -> None:
         """Adds the token of a row to its node."""
-        token, address = self.token(number, row["token"]), canonical(row["address"])
+        token, address = self.token(number, row["token"]), endpoint(row["address"])
+        if self.said.setdefault(address, row["address"]) != row["address"]:
+            raise fault(
+                self.path,
+                number,
+                f"{row['address']} and {self.said[address]} have one address, and nodes are told apart by addresses alone",
+            )
         node = self.nodes.setdefault(
             address, RingNode(address, self.dc, row["rack"], row["status"], row["state"], number)
         )
@@ -180,7 +189,7 @@ def read_range(number: int, said: str, path: str) -> TokenRange:
     for word in (start[1], end[1]):
         if not is_token(word):
             raise fault(path, number, f"`{word[:40]}` is no token of Murmur3Partitioner")
-    names = tuple(canonical(it.strip()) for it in said[endpoints.end() : closing].split(",") if it.strip())
+    names = tuple(endpoint(it.strip()) for it in said[endpoints.end() : closing].split(",") if it.strip())
     return TokenRange(int(start[1]), int(end[1]), names, places_of(said), number)
 
 
@@ -195,5 +204,5 @@ def places_of(said: str) -> Dict[str, Tuple[str, str]]:
         dc = rest[: rack.start()].strip() if rack else ""
         if not (rack and host.startswith("host:") and dc.startswith("datacenter:") and end.endswith(")")):
             return {}
-        places[canonical(host[len("host:") :].strip())] = (dc[len("datacenter:") :].strip(), end[rack.end() : -1].strip())
+        places[endpoint(host[len("host:") :].strip())] = (dc[len("datacenter:") :].strip(), end[rack.end() : -1].strip())
     return places

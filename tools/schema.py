@@ -2,7 +2,7 @@
 from __future__ import annotations
 
 import re
-from dataclasses import dataclass
+from dataclasses import dataclass, field
 from typing import Dict, Iterator, List, Optional
 
 from tools.errors import Refused
@@ -43,6 +43,7 @@ class Keyspace:
     strategy: str
     options: Dict[str, str]
     line: int
+    notes: List[str] = field(default_factory=list)  # what the reader should know of its statements
 
 
 class Reader:
@@ -86,7 +87,7 @@ def unquoted(kind: str, said: str) -> str:
 def statements_of(text: str, path: str, skipped: Optional[List[str]] = None) -> Iterator[List[Word]]:
     """Gives the statements of a schema, each to its semicolon.
 
-    Each begins with CREATE. What begins otherwise is refused, or if there is a list of what is skipped, its line is passed
+    Each begins with CREATE or ALTER. What begins otherwise is refused, or if there is a list of what is skipped, its line is passed
     over and told there.
     """
     reader = Reader(text, path)
@@ -94,7 +95,7 @@ def statements_of(text: str, path: str, skipped: Optional[List[str]] = None) -> 
         first = reader.word()
         if first is None:
             return
-        if first.is_word("create"):
+        if first.is_word("create", "alter"):
             yield statement_after(first, reader)
         elif first.is_word(";"):
             continue
@@ -123,6 +124,9 @@ def read_schema(text: str, path: str, skipped: Optional[List[str]] = None) -> Li
     found: Dict[str, Keyspace] = {}
     for words in statements_of(text, path, skipped):
         if not is_of_keyspace(words, path, skipped):
+            continue
+        if words[0].is_word("alter"):
+            alter(found, words, path)
             continue
         keyspace = read_keyspace(words, path)
         if keyspace.name in found:
@@ -159,7 +163,30 @@ def read_keyspace(words: List[Word], path: str) -> Keyspace:
     if "class" not in options:
         raise fault(path, words[at].line, f"the replication of {name} names no class")
     strategy = options.pop("class").rpartition(".")[2]
-    return Keyspace(name, strategy, options, words[at].line)
+    return Keyspace(name, strategy, options, words[at].line, left_out_of(words))
+
+
+def alter(found: Dict[str, Keyspace], words: List[Word], path: str) -> None:
+    """Gives a keyspace the replication that ALTER KEYSPACE says."""
+    line = words[0].line
+    if any(it.is_word("replication") for it in words):
+        changed = read_keyspace(words, path)
+        if changed.name not in found:
+            raise fault(path, line, f"ALTER KEYSPACE {changed.name} comes before any CREATE KEYSPACE {changed.name}")
+        keyspace = found[changed.name]
+        keyspace.strategy, keyspace.options = changed.strategy, changed.options
+        keyspace.notes += [f"its replication is that of ALTER KEYSPACE in line {line}", *changed.notes]
+
+
+def left_out_of(words: List[Word]) -> List[str]:
+    """Returns notes on options of a keyspace that have no place here: all but its replication, and the usual value."""
+    begins = [i + 1 for i, it in enumerate(words) if it.is_word("with", "and")]
+    said = [
+        " ".join(it.said for it in words[begin : end - 1])
+        for begin, end in zip(begins, [*begins[1:], len(words) + 1])
+        if not words[begin : begin + 1] or not words[begin].is_word("replication")
+    ]
+    return [f"its option {it[:60]} is left out" for it in said if it.lower() != "durable_writes = true"]
 
 
 def read_options(words: List[Word], name: str, path: str, line: int) -> Dict[str, str]:

@@ -4,20 +4,21 @@ from __future__ import annotations
 from dataclasses import dataclass, field
 from typing import Dict, List, Optional, Sequence, Tuple
 
-from tools.answers import is_refusal, read_nodes
-from tools.balance import groups_of, spread
+from tools.answers import Node, is_refusal, read_nodes
+from tools.balance import groups_of, parts_of
 from tools.coupling import Attempt, Coupling, couplings
 from tools.errors import Refused
 from tools.flight import Trial
 from tools.log import State, cluster_of, copy_of, state, words_on
 from tools.margins import Level, Margin, Quorums, least
 from tools.names import Names
+from tools.near import meant
 from tools.program import Session
 from tools.terms import STEPS
 from tools.tokens import Chooser
 from tools.wishes import Wish, chosen, command_of
 
-Spread = Tuple[float, float]  # the least and the greatest share of nodes, as parts of their fair shares
+Parts = Dict[Tuple[str, str], Dict[int, float]]  # by keyspace and datacenter, and by node
 ORDER = {"PREPARED": 0, "STARTED": 1, "MID": 2}
 
 
@@ -44,8 +45,10 @@ class Plan:
     node_names: Dict[int, str]
     same: Dict[str, List[str]]  # one keyspace of each replication, with all that have it
     after: Dict[Level, Margin]
-    spreads: Dict[Tuple[str, str], Tuple[Spread, Spread]]  # by keyspace and datacenter: before and after the plan
+    before: Parts  # the shares of nodes, as parts of their fair ones, before the plan
+    parts: Parts  # and after it
     begin: Tuple[Optional[str], int]  # the cluster and the epoch of the log
+    nodes: Tuple[Sequence[Node], Sequence[Node]]  # the nodes before the plan, and after it
 
 
 class Planner:
@@ -57,7 +60,7 @@ class Planner:
         self.trial = Trial(session, copy, now.epoch)
         self.ids = {it.name: it.id for it in now.nodes.nodes}
         self.places = {it.name: (it.dc, it.rack) for it in now.nodes.nodes}
-        self.same = now.distinct()
+        self.replications, self.same = now.replications, now.distinct()
         self.refused: Dict[str, str] = {}  # by the name of a wish whose node can't be registered: the refusal
         self.quorums = Quorums(self.trial, now.replications, now.nodes.nodes, {self.id_of(it) for it in down})
 
@@ -72,7 +75,7 @@ class Planner:
     def id_of(self, name: str) -> int:
         """Returns the id of the node with a name."""
         if self.here(name) not in self.ids:
-            raise Refused(f"no node {name} is in the log")
+            raise Refused(f"no node {name} is in the log{meant(name, (self.names.there('node', it) for it in self.ids))}")
         return self.ids[self.here(name)]
 
     # ---- Nodes
@@ -115,15 +118,18 @@ class Planner:
         if wish.kind == "replace":
             self.id_of(wish.gone)
             return self.places[self.here(wish.gone)]
+        if not wish.dc:
+            self.id_of(wish.name)
+            return self.places[self.here(wish.name)]
         return self.names.choose("datacenter", wish.dc), self.names.choose("rack", wish.rack)
 
-    def spreads(self) -> Dict[Tuple[str, str], Spread]:
-        """Returns how evenly each keyspace is spread in each datacenter now, by one keyspace of each replication."""
-        now, found = self.now(), {}
+    def parts(self) -> Parts:
+        """Returns shares as parts of fair ones, of one keyspace of each replication in each datacenter, by node."""
+        nodes, found = self.now().nodes.nodes, {}
         for keyspace in self.same:
             placement = self.trial.places([keyspace])[keyspace]
-            for dc, group in groups_of(self.quorums.replications[keyspace], now.nodes.nodes).items():
-                found[keyspace, dc] = spread(placement, group)
+            for dc, group in groups_of(self.replications[keyspace], nodes).items():
+                found[keyspace, dc] = parts_of(placement, group)
         return found
 
     def finish_half_way(self) -> List[Tuple[str, int]]:
@@ -187,7 +193,7 @@ def plan(log: str, wishes: List[Wish], down: List[str], names: Names, seed: int)
     rest = with_tokens(log, wishes, names, seed)
     with copy_of(log) as copy, Session(words_on(copy)) as session:
         planner = Planner(session, copy, names, down)
-        cluster, before = cluster_of(copy), planner.spreads()
+        cluster, before = cluster_of(copy), planner.parts()
         finished = planner.finish_half_way()
         registered = planner.register(wishes)
         rest = [it for it in rest if it.name not in planner.refused]
@@ -198,12 +204,12 @@ def plan(log: str, wishes: List[Wish], down: List[str], names: Names, seed: int)
                 break
             waves.append(wave)
             rest = [it for it in rest if it not in wave.wishes]
-        after = planner.look()[0]
-        spreads = {it: (before[it], now) for it, now in planner.spreads().items() if it in before}
+        after, parts, nodes = planner.look()[0], planner.parts(), planner.now().nodes.nodes
         impossible = {**planner.refused, **{it.name: wave.waiting[it.name] for it in rest}}
-    nodes, begin = {node: name for name, node in planner.ids.items()}, (cluster, planner.begin.epoch)
+    node_names = {node: name for name, node in planner.ids.items()}
     registered = [it for it in registered if it[0] not in impossible]
-    return Plan(waves, finished, impossible, registered, nodes, planner.same, after, spreads, begin)
+    begin, known = (cluster, planner.begin.epoch), (planner.begin.nodes.nodes, nodes)
+    return Plan(waves, finished, impossible, registered, node_names, planner.same, after, before, parts, begin, known)
 
 
 def with_tokens(log: str, wishes: List[Wish], names: Names, seed: int) -> List[Wish]:
@@ -216,10 +222,7 @@ def with_tokens(log: str, wishes: List[Wish], names: Names, seed: int) -> List[W
         chooser = Chooser(copy, planner.trial, seed)
         chooser.settle_all()
         planner.register(wishes)
-        for wish in wishes:
-            if wish.name in planner.refused:
-                found.append(wish)
-                continue
+        for wish in (it for it in wishes if it.name not in planner.refused):
             node = planner.id_of(wish.name)
             tokens = chooser.choose(wish, node, planner.place_of(wish)) if wish.draws else []
             found.append(chosen(wish, tokens) if tokens else wish)

@@ -2,8 +2,9 @@
 from __future__ import annotations
 
 import argparse
-from typing import Dict, List, Sequence
+from typing import Dict, Iterator, List, Sequence, Tuple
 
+from tools.down import down_of
 from tools.errors import Refused
 from tools.margins import Level, Margin
 from tools.names import Names, names_of
@@ -11,13 +12,15 @@ from tools.runbook.page import page_of
 from tools.runbook.tasks import planned
 from tools.runbook.words import add_runbook, loads_of, version_of
 from tools.script import head_of
+from tools.seen import seen_of
 from tools.show import print_json, print_lines, say, table
 from tools.terms import listed, percent, plural
 from tools.text import name_of, read_lines, write_text
 from tools.waves import Plan, Wave, plan
-from tools.wishes import FORMS, Wish, command_of, dead_first, read_wishes
+from tools.wishes import FORMS, Wish, command_of, dead_first, read_wishes, with_seen
 from tools.words import add_json, add_log, add_output
 
+Spread = Tuple[float, float]  # the least and the greatest share of nodes, as parts of their fair shares
 NAME, HELP = "whatif", "plan movements on a copy of a log, in waves that can be in flight together"
 EXAMPLE = f"""a file of wishes has one a line (# begins a remark):
 {FORMS}
@@ -44,8 +47,9 @@ def words(parser: argparse.ArgumentParser) -> None:
 
 def run(options: argparse.Namespace) -> int:
     """Plans, and returns 1 where a wish can't come true."""
-    wishes, down = read_wishes(read_lines(options.moves), name_of(options.moves))
-    names = names_of(options.log)
+    wishes, said, up = read_wishes(read_lines(options.moves), name_of(options.moves))
+    names, seen = names_of(options.log), seen_of(options.log)
+    wishes, down = with_seen(wishes, seen, name_of(options.moves)), down_of(options.log, said, up, names)
     ordered = dead_first(wishes, down, lambda it: names.here("node", it))
     made = plan(options.log, ordered, down, names, options.seed)
     if options.script:
@@ -147,12 +151,20 @@ def show_margins(margins: Dict[Level, Margin], made: Plan, names: Names, down: L
 
 def show_spreads(made: Plan, names: Names) -> None:
     """Prints how evenly keyspaces are spread before and after the plan."""
-    print("  Shares of nodes, as parts of their fair shares")
+    say("  Shares of nodes, as parts of their fair shares")
     rows = [["keyspace", "datacenter", "before", "after"]]
-    for (keyspace, dc), spreads in made.spreads.items():
+    for keyspace, dc, *spreads in spreads_of(made):
         there = names.there("datacenter", dc) if dc else "all"
         rows.append([keyspaces_said(made.same[keyspace], names), there, *(f"{a:.2f} to {b:.2f}" for a, b in spreads)])
     print_lines(table(rows), "    ")
+
+
+def spreads_of(made: Plan) -> Iterator[Tuple[str, str, Spread, Spread]]:
+    """Gives the least and the greatest shares before and after the plan, by keyspace and datacenter."""
+    for (keyspace, dc), parts in made.parts.items():
+        if (keyspace, dc) in made.before:
+            before = made.before[keyspace, dc].values()
+            yield keyspace, dc, (min(before), max(before)), (min(parts.values()), max(parts.values()))
 
 
 def level_said(level: str, names: Names) -> str:
@@ -252,7 +264,7 @@ def spreads_json(made: Plan, names: Names) -> List[Dict[str, object]]:
             "before": [round(it, 4) for it in before],
             "after": [round(it, 4) for it in after],
         }
-        for (keyspace, dc), (before, after) in made.spreads.items()
+        for keyspace, dc, before, after in spreads_of(made)
     ]
 
 

@@ -3,11 +3,12 @@ from __future__ import annotations
 
 import hashlib
 import re
-from dataclasses import dataclass
-from typing import Callable, Container, List, Optional, Tuple
+from dataclasses import dataclass, replace
+from typing import Callable, Container, Dict, List, Optional, Sequence, Tuple
 
 from tools.errors import Refused
 from tools.names import canonical
+from tools.seen import Seen
 from tools.terms import LEAST, MOST_TOKENS_OF_NODE, WHOLE, is_token
 from tools.text import fault
 
@@ -15,7 +16,9 @@ FORMS = """  join NAME DC RACK 16 tokens     (or the tokens themselves in the pl
   replace NEW for OLD
   leave NAME
   move NAME TOKEN
-  down NAME                       (a node that is dead)"""
+  down NAME                       (a node that is dead; those that the import saw Down need no line)
+  up NAME                         (a node that the import saw Down and that is up by now)
+  join NAME                       (a node that was to join at the import, with the tokens that it had then)"""
 
 
 @dataclass(frozen=True)
@@ -42,16 +45,16 @@ class Wish:
         return self.gone or (self.name if self.kind == "leave" else "")
 
 
-def read_wishes(lines: List[str], path: str) -> Tuple[List[Wish], List[str]]:
-    """Returns the wishes of a file, and the nodes that are down."""
+def read_wishes(lines: List[str], path: str) -> Tuple[List[Wish], List[str], List[str]]:
+    """Returns the wishes of a file, the nodes that are down, and those that are up by now."""
     wishes: List[Wish] = []
-    down: List[str] = []
+    told: Dict[str, List[str]] = {"down": [], "up": []}
     for number, line in enumerate(lines, 1):
         words = line.split("#")[0].split()
         if not words:
             continue
-        if words[0] == "down" and len(words) == 2:
-            down.append(canonical(words[1]))
+        if words[0] in told and len(words) == 2:
+            told[words[0]].append(canonical(words[1]))
             continue
         wish = read_wish(number, [canonical(it) for it in words], path)
         if any(it.name == wish.name for it in wishes):
@@ -59,7 +62,7 @@ def read_wishes(lines: List[str], path: str) -> Tuple[List[Wish], List[str]]:
         wishes.append(wish)
     if not wishes:
         raise Refused(f"{path}: no wish is there; a wish is one of\n{FORMS}")
-    return wishes, down
+    return wishes, told["down"], told["up"]
 
 
 def read_wish(number: int, words: List[str], path: str) -> Wish:
@@ -68,6 +71,8 @@ def read_wish(number: int, words: List[str], path: str) -> Wish:
     if kind == "join" and count >= 5:
         tokens, draws = read_tokens(number, words[4:], path)
         return Wish(number, kind, words[1], words[2], words[3], tokens=tokens, draws=draws)
+    if kind == "join" and count == 2:
+        return Wish(number, kind, words[1])
     if kind == "replace" and count == 4 and words[2] == "for":
         return Wish(number, kind, words[1], gone=words[3])
     if kind == "leave" and count == 2:
@@ -107,6 +112,19 @@ def draw_tokens(name: str, count: int, seed: int, taken: Container[int]) -> List
             token = LEAST + (token + 1 - LEAST) % WHOLE
         tokens.append(token)
     return sorted(tokens)
+
+
+def with_seen(wishes: Sequence[Wish], seen: Seen, path: str) -> List[Wish]:
+    """Returns wishes with the addresses of machines that they name, and the tokens that nodes had at the import."""
+    found = []
+    for it in wishes:
+        wish = replace(it, name=seen.node(it.name), gone=seen.node(it.gone))
+        if wish.kind == "join" and not wish.dc:
+            if wish.name not in seen.tokens:
+                raise fault(path, wish.line, f"the import saw no tokens of {it.name}: join {it.name} DC RACK 16 tokens")
+            wish = replace(wish, tokens=tuple(sorted(seen.tokens[wish.name])))
+        found.append(wish)
+    return found
 
 
 def dead_first(wishes: List[Wish], down: List[str], here: Callable[[str], str] = str) -> List[Wish]:

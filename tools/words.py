@@ -9,6 +9,7 @@ from tools.errors import Refused, WrongWords
 from tools.files import check_output
 from tools.log import State
 from tools.names import Names
+from tools.near import meant
 from tools.terms import NAME, listed
 
 
@@ -79,9 +80,9 @@ def keyspace_named(said: str, now: State, names: Names) -> str:
     """Returns the name in the log of a keyspace that is there."""
     name = names.here("keyspace", said)
     if name not in now.replications:
+        there = [names.there("keyspace", it) for it in sorted(now.replications)]
         raise Refused(
-            f"no keyspace {said} at epoch {now.epoch}, only "
-            f"{listed([names.there('keyspace', it) for it in sorted(now.replications)])}"
+            f"no keyspace {said} at epoch {now.epoch}, only {listed(there)}{meant(said, there)}"
         )
     return name
 

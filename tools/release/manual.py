@@ -6,7 +6,7 @@ import os
 import re
 from typing import Dict, List
 
-from tools import disk
+from tools import collect, disk
 from tools.main import every_verb, parser_of, version
 from tools.program import TOP
 from tools.release.roff import escaped, from_markdown, inline, page, verbatim
@@ -14,7 +14,8 @@ from tools.release.roff import escaped, from_markdown, inline, page, verbatim
 OF_LOG = ("The log file", "A log of format 1", "States of a log", "Valid images", "Refused files", "Limits")
 SEE_ALSO = {
     "tcm": "tcm\\-cluster(1), tcm\\-disk(1), tcm\\-log(5)",
-    "tcm-cluster": "tcm(1), tcm\\-log(5)",
+    "tcm-cluster": "tcm(1), tcm\\-collect(1), tcm\\-log(5)",
+    "tcm-collect": "tcm\\-cluster(1)",
     "tcm-disk": "tcm(1)",
     "tcm-log": "tcm(1)",
 }
@@ -73,9 +74,9 @@ def of_tcm() -> List[str]:
 
 
 def of_parser(name: str, about: str, parser: argparse.ArgumentParser) -> List[str]:
-    """Returns the man page of a parser with verbs."""
-    made = page(name, 1, about, version())
-    made += [".SH SYNOPSIS", f"\\fB{escaped(name)}\\fR VERB ..", ".SH DESCRIPTION"]
+    """Returns the man page of a parser, which may have verbs."""
+    made, words_ = page(name, 1, about, version()), "VERB .." if verbs_of(parser) else ".."
+    made += [".SH SYNOPSIS", f"\\fB{escaped(name)}\\fR {words_}", ".SH DESCRIPTION"]
     made += verbatim(help_of(parser)[1:])
     for verb, words in verbs_of(parser).items():
         made += [f'.SH "{escaped(verb).upper()}"', *verbatim(help_of(words))]
@@ -84,8 +85,8 @@ def of_parser(name: str, about: str, parser: argparse.ArgumentParser) -> List[st
 
 def verbs_of(parser: argparse.ArgumentParser) -> Dict[str, argparse.ArgumentParser]:
     """Returns the parser of each verb."""
-    group = next(it for it in parser._actions if isinstance(it, argparse._SubParsersAction))
-    return dict(group.choices)
+    groups = [it for it in parser._actions if isinstance(it, argparse._SubParsersAction)]
+    return {name: verb for group in groups for name, verb in group.choices.items()}
 
 
 def help_of(parser: argparse.ArgumentParser) -> List[str]:
@@ -96,7 +97,7 @@ def help_of(parser: argparse.ArgumentParser) -> List[str]:
 
 def with_installed_names(text: str) -> str:
     """Returns a text with the names of commands as they are installed."""
-    return re.sub(r"\bbin/(cluster|disk)\b", r"tcm \1", text).replace("bin/tcm", "tcm")
+    return re.sub(r"\bbin/(cluster|disk|collect)\b", r"tcm \1", text).replace("bin/tcm", "tcm")
 
 
 def of_log() -> List[str]:
@@ -113,6 +114,7 @@ def pages() -> Dict[str, str]:
     made = {
         "tcm.1": of_tcm(),
         "tcm-cluster.1": of_parser("tcm-cluster", plan, parser_of(every_verb())),
+        "tcm-collect.1": of_parser("tcm-collect", "prints the commands that make a bundle", collect.parser_of()),
         "tcm-disk.1": of_parser("tcm-disk", "looks into a disk of tcm, and puts files on it", disk.parser_of()),
         "tcm-log.5": of_log(),
     }

@@ -78,11 +78,11 @@ def put_program(prefix: str) -> None:
 
 
 def put_planner(prefix: str, python: str) -> None:
-    """Puts the planner and bin/disk, which this Python runs. Their texts name the commands that are installed."""
+    """Puts the planner, bin/collect and bin/disk, which this Python runs. Their texts name the commands that are installed."""
     shutil.rmtree(os.path.join(prefix, "lib", "vongxeli", "tools"), ignore_errors=True)
     for path in planner_files():
         put(prefix, f"lib/vongxeli/{path}", manual.with_installed_names(bytes_of(path).decode()).encode())
-    for name in ("cluster", "disk"):
+    for name in ("cluster", "collect", "disk"):
         script = bytes_of("bin", name).replace(b"#!/usr/bin/env python3", f"#!{python}".encode(), 1)
         put(prefix, f"lib/vongxeli/bin/{name}", script, 0o755)
         link(prefix, f"bin/tcm-{name}", f"../lib/vongxeli/bin/{name}")

@@ -2,6 +2,7 @@
 import contextlib
 import io
 import os
+import re
 import shutil
 import subprocess
 import sys
@@ -13,6 +14,7 @@ from tools.program import TOP, program
 
 TUTORIAL = os.path.join(TOP, "examples", "tutorial")
 YES = [word for kind in ("start", "mid", "finish") for word in ("--yes", kind)]
+BUNDLE = os.path.join(TUTORIAL, "bundle")
 needs_program = unittest.skipUnless(
     os.environ.get("TCM"), "TCM names no program, and bin/tcm may take long to prove one"
 )
@@ -35,14 +37,18 @@ def command(*words, **more):
 
 
 class InTutorial(unittest.TestCase):
-    """A test in a copy of the folder of the tutorial, with its log."""
+    """A test in a copy of the folder of the tutorial and of its bundle, with a log of two of its keyspaces, all nodes up."""
 
     def setUp(self):
         self.before = os.getcwd()
         self.folder = tempfile.mkdtemp(prefix="cluster-test-")
         shutil.copytree(TUTORIAL, os.path.join(self.folder, "here"))
+        shutil.copytree(BUNDLE, os.path.join(self.folder, "here"), dirs_exist_ok=True)
         os.chdir(os.path.join(self.folder, "here"))
+        self.write("schema.cql", re.sub(r"CREATE KEYSPACE system_(auth|distributed|traces) .*", "", self.read("schema.cql")))
         self.assertEqual(cluster("import", "ring.txt", "schema.cql", "--log", "shop.log", "--cluster", "shop")[0], 0)
+        os.remove("shop.log.seen")
+        self.write("wishes.txt", "down 10.0.0.4\n" + self.read("wishes.txt"))
 
     def tearDown(self):
         os.chdir(self.before)

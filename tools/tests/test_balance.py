@@ -7,7 +7,7 @@ import unittest
 from typing import Dict, List, Tuple
 
 from tools.answers import Pair, Placement, read_placement
-from tools.balance import Choice, Gap, Group, balanced, groups_of, overlap, parts_outside, spread
+from tools.balance import Choice, Gap, Group, balanced, groups_of, overlap, parts_of, parts_outside
 from tools.log import state
 from tools.placements import read_shares
 from tools.program import Session
@@ -75,7 +75,8 @@ def grown(nodes: int, racks: int, tokens: int, factor: int) -> Tuple[List[float]
             if node > max(racks, factor):
                 shares = read_shares(place(session, len(lines), lines))
                 parts.append(shares.get(node, 0) / group.fair_share(node))
-        return parts, spread(place(session, len(lines), lines), group)
+        found = parts_of(place(session, len(lines), lines), group).values()
+        return parts, (min(found), max(found))
 
 
 def even(count: int) -> List[int]:

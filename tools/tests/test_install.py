@@ -77,7 +77,7 @@ class Install(InFolder):
         for path in glob.glob(f"{self.prefix}/share/man/*/*.gz"):
             with gzip.open(path, "rt") as it:
                 pages[os.path.basename(path)] = it.read()
-        self.assertEqual(sorted(pages), ["tcm-cluster.1.gz", "tcm-disk.1.gz", "tcm-log.5.gz", "tcm.1.gz"])
+        self.assertEqual(sorted(pages), ["tcm-cluster.1.gz", "tcm-collect.1.gz", "tcm-disk.1.gz", "tcm-log.5.gz", "tcm.1.gz"])
         for module in every_verb():
             self.assertIn(f'.SH "{module.NAME.upper()}"', pages["tcm-cluster.1.gz"])
         for text in pages.values():

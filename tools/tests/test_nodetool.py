@@ -6,12 +6,12 @@ from tools.errors import Refused
 from tools.nodetool import order_of, read_describering, read_ring
 from tools.program import TOP
 
-TUTORIAL = os.path.join(TOP, "examples", "tutorial")
+BUNDLE = os.path.join(TOP, "examples", "tutorial", "bundle")
 
 
 def lines_of(name):
     """Returns the lines of a file of the tutorial."""
-    with open(os.path.join(TUTORIAL, name), encoding="utf-8") as it:
+    with open(os.path.join(BUNDLE, name), encoding="utf-8") as it:
         return it.read().split("\n")
 
 

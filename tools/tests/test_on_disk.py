@@ -18,6 +18,7 @@ class OnDisk(InTutorial):
         super().setUp()
         words = ("import", "ring.txt", "schema.cql", "--log", ON_DISK, "--cluster", "shop")
         self.assertEqual(cluster(*words)[0], 0)
+        os.remove(f"{ON_DISK}.seen")
 
     def same(self, *words):
         """Runs a verb over the file and over the disk, and checks that both say the same."""

@@ -20,7 +20,7 @@ class Wishes(unittest.TestCase):
             "down e  # dead",
             "replace f for e",
         ]
-        wishes, down = read_wishes(lines, "w")
+        wishes, down, _ = read_wishes(lines, "w")
         self.assertEqual(down, ["e"])
         self.assertEqual(
             [(it.kind, it.name, it.tokens, it.draws) for it in wishes][:2],
