@@ -65,9 +65,8 @@ def groups_of(replication: str, nodes: Sequence[Node]) -> Dict[str, Group]:
     return found
 
 
-def parts_of(placement: Placement, group: Group) -> Dict[int, float]:
-    """Returns the shares of a group's nodes, as parts of their fair ones."""
-    shares = read_shares(placement)
+def parts_of(shares: Dict[int, int], group: Group) -> Dict[int, float]:
+    """Returns shares of a group's nodes as parts of their fair ones."""
     return {it: shares.get(it, 0) / max(1, group.fair_share(it)) for it in group.racks}
 
 

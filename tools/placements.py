@@ -15,8 +15,9 @@ def read_shares(placement: Placement) -> Dict[int, int]:
     """Returns for each node that is read how many tokens it is read at."""
     shares: Dict[int, int] = {}
     for row in placement.rows:
+        tokens = row.width
         for node in row.reads:
-            shares[node] = shares.get(node, 0) + row.width
+            shares[node] = shares.get(node, 0) + tokens
     return shares
 
 

@@ -13,7 +13,9 @@ from tools.log import State, cluster_of, copy_of, state, words_on
 from tools.margins import Level, Margin, Quorums, least
 from tools.names import Names
 from tools.near import meant
+from tools.placements import read_shares
 from tools.program import Session
+from tools.progress import Say, silent
 from tools.terms import STEPS
 from tools.tokens import Chooser
 from tools.wishes import Wish, chosen, command_of
@@ -32,6 +34,7 @@ class Wave:
     already: List[Tuple[str, int, str]] = field(default_factory=list)  # kind, node and phase of what was in flight
     moved: Dict[str, Dict[int, int]] = field(default_factory=dict)  # by keyspace and node: tokens streamed to it
     margins: Dict[Level, Margin] = field(default_factory=dict)
+    down: List[str] = field(default_factory=list)  # the nodes that are down and still in the ring
 
 
 @dataclass
@@ -49,13 +52,15 @@ class Plan:
     parts: Parts  # and after it
     begin: Tuple[Optional[str], int]  # the cluster and the epoch of the log
     nodes: Tuple[Sequence[Node], Sequence[Node]]  # the nodes before the plan, and after it
+    replications: Dict[str, str]
+    down: List[str]  # the nodes that are down and in the ring after the plan
 
 
 class Planner:
     """Tries wishes on a copy of a log."""
 
-    def __init__(self, session: Session, copy: str, names: Names, down: Sequence[str]) -> None:
-        self.copy, self.names = copy, names
+    def __init__(self, session: Session, copy: str, names: Names, down: Sequence[str], say: Say = silent) -> None:
+        self.copy, self.names, self.down, self.say = copy, names, down, say
         self.begin = now = state(copy)
         self.trial = Trial(session, copy, now.epoch)
         self.ids = {it.name: it.id for it in now.nodes.nodes}
@@ -127,10 +132,15 @@ class Planner:
         """Returns shares as parts of fair ones, of one keyspace of each replication in each datacenter, by node."""
         nodes, found = self.now().nodes.nodes, {}
         for keyspace in self.same:
-            placement = self.trial.places([keyspace])[keyspace]
+            shares = read_shares(self.trial.places([keyspace])[keyspace])
             for dc, group in groups_of(self.replications[keyspace], nodes).items():
-                found[keyspace, dc] = parts_of(placement, group)
+                found[keyspace, dc] = parts_of(shares, group)
         return found
+
+    def down_in(self, nodes: Sequence[Node]) -> List[str]:
+        """Returns the nodes that are down and in the ring: one that was replaced counts no longer."""
+        there = {it.id for it in nodes if it.tokens}
+        return [it for it in self.down if self.id_of(it) in there]
 
     def finish_half_way(self) -> List[Tuple[str, int]]:
         """Finishes the movements that are half way, and returns their kinds and nodes."""
@@ -144,6 +154,7 @@ class Planner:
     def wave(self, wishes: Sequence[Wish]) -> Wave:
         """Prepares the wishes that can be in flight together, goes through their steps, and finishes them."""
         before, wave = self.now(), Wave()
+        wave.down = self.down_in(before.nodes.nodes)
         wave.already = [(it.kind, it.node, it.phase) for it in before.movements]
         moments = [self.look()[0]]
         attempts = [self.attempt(wave, it) for it in wishes]
@@ -164,6 +175,7 @@ class Planner:
         margins: Dict[Level, Margin] = {}
         moved: Dict[str, Dict[int, int]] = {}
         for keyspace in self.same:
+            self.say(f"looking at {self.names.there('keyspace', keyspace)} at epoch {self.trial.epoch}")
             seen = self.quorums.look(keyspace)
             moved[keyspace] = seen.moved
             margins.update(self.quorums.margins(keyspace, seen))
@@ -172,6 +184,7 @@ class Planner:
     def attempt(self, wave: Wave, wish: Wish) -> Attempt:
         """Tries to prepare a wish."""
         node = self.id_of(wish.name)
+        self.say(f"trying {wish.said}")
         command = command_of(wish, node, self.id_of(wish.gone) if wish.gone else None)
         answer = self.trial.try_commit(command)
         if is_refusal(answer):
@@ -188,11 +201,11 @@ class Planner:
                 self.trial.commit(f"{step}-{kind} {node}")
 
 
-def plan(log: str, wishes: List[Wish], down: List[str], names: Names, seed: int) -> Plan:
-    """Tries wishes on a copy of a log, in waves, and returns what was seen."""
-    rest = with_tokens(log, wishes, names, seed)
+def plan(log: str, wishes: List[Wish], down: List[str], names: Names, seed: int, say: Say = silent) -> Plan:
+    """Tries wishes on a copy of a log, in waves, and returns what was seen; `say` shows how far this is."""
+    rest = with_tokens(log, wishes, names, seed, say)
     with copy_of(log) as copy, Session(words_on(copy)) as session:
-        planner = Planner(session, copy, names, down)
+        planner = Planner(session, copy, names, down, say)
         cluster, before = cluster_of(copy), planner.parts()
         finished = planner.finish_half_way()
         registered = planner.register(wishes)
@@ -209,10 +222,13 @@ def plan(log: str, wishes: List[Wish], down: List[str], names: Names, seed: int)
     node_names = {node: name for name, node in planner.ids.items()}
     registered = [it for it in registered if it[0] not in impossible]
     begin, known = (cluster, planner.begin.epoch), (planner.begin.nodes.nodes, nodes)
-    return Plan(waves, finished, impossible, registered, node_names, planner.same, after, before, parts, begin, known)
+    return Plan(
+        waves, finished, impossible, registered, node_names, planner.same, after, before, parts, begin, known,
+        planner.replications, planner.down_in(nodes)
+    )
 
 
-def with_tokens(log: str, wishes: List[Wish], names: Names, seed: int) -> List[Wish]:
+def with_tokens(log: str, wishes: List[Wish], names: Names, seed: int, say: Say) -> List[Wish]:
     """Returns wishes with tokens for those that leave them open; each movement is gone through on a copy of its own."""
     if not any(it.draws for it in wishes):
         return wishes
@@ -224,6 +240,7 @@ def with_tokens(log: str, wishes: List[Wish], names: Names, seed: int) -> List[W
         planner.register(wishes)
         for wish in (it for it in wishes if it.name not in planner.refused):
             node = planner.id_of(wish.name)
+            say(f"choosing tokens for {wish.name}")
             tokens = chooser.choose(wish, node, planner.place_of(wish)) if wish.draws else []
             found.append(chosen(wish, tokens) if tokens else wish)
             prepare = command_of(found[-1], node, planner.id_of(wish.gone) if wish.gone else None)

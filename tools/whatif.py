@@ -2,18 +2,21 @@
 from __future__ import annotations
 
 import argparse
+import sys
 from typing import Dict, Iterator, List, Sequence, Tuple
 
 from tools.down import down_of
 from tools.errors import Refused
 from tools.margins import Level, Margin
 from tools.names import Names, names_of
+from tools.progress import Progress
 from tools.runbook.page import page_of
 from tools.runbook.tasks import planned
 from tools.runbook.words import add_runbook, loads_of, version_of
 from tools.script import head_of
 from tools.seen import seen_of
-from tools.show import print_json, print_lines, say, table
+from tools.show import plain, print_json, print_lines, say, table
+from tools.slips import slips_of
 from tools.terms import listed, percent, plural
 from tools.text import name_of, read_lines, write_text
 from tools.waves import Plan, Wave, plan
@@ -41,6 +44,7 @@ def words(parser: argparse.ArgumentParser) -> None:
         "--seed", metavar="N", type=int, default=1, help="the seed of tokens that are drawn; 1 is the default"
     )
     add_output(parser, parser, "--script", "write the plan as a script for apply")
+    parser.add_argument("--strict", action="store_true", help="refuse wishes in which something may not be meant")
     add_runbook(parser)
     add_json(parser)
 
@@ -51,16 +55,22 @@ def run(options: argparse.Namespace) -> int:
     names, seen = names_of(options.log), seen_of(options.log)
     wishes, down = with_seen(wishes, seen, name_of(options.moves)), down_of(options.log, said, up, names)
     ordered = dead_first(wishes, down, lambda it: names.here("node", it))
-    made = plan(options.log, ordered, down, names, options.seed)
+    with Progress() as progress:
+        made = plan(options.log, ordered, down, names, options.seed, progress.say)
+    slips = [it.said(name_of(options.moves)) for it in slips_of(wishes, made, down, names, seen)]
+    if slips and options.strict:
+        raise Refused("\n".join([*slips, "refused by --strict: nothing is written"]))
+    for it in slips:
+        print(f"cluster: {plain(it)}", file=sys.stderr)
     if options.script:
         write_text(options.script, script_of(made, names))
     if options.runbook:
         waves = planned(options.log, made, names, down, loads_of(options))
         print_lines(page_of(f"A plan for {options.log}", waves, version_of(options), script_said(options)))
     elif options.json:
-        print_json(as_json(made, names, down))
+        print_json({**as_json(made, names, down), "slips": slips})
     else:
-        show(made, names, down)
+        show(made, names)
     if made.impossible:
         raise Refused(
             "\n".join(f"{name} has no place in any wave: tcm answers {why}" for name, why in made.impossible.items())
@@ -76,8 +86,9 @@ def script_said(options: argparse.Namespace) -> str:
 # ---- The plan in words
 
 
-def show(made: Plan, names: Names, down: List[str]) -> None:
-    """Prints the plan."""
+def show(made: Plan, names: Names) -> None:
+    """Prints the plan; margins are shown where they change."""
+    shown: Dict[Level, Margin] = {}
     if made.finished:
         half_way = listed([f"{kind} of {names.there('node', made.node_names[node])}" for kind, node in made.finished])
         say(f"First: finish what is half way: {half_way}\n")
@@ -86,11 +97,12 @@ def show(made: Plan, names: Names, down: List[str]) -> None:
         say(f"Wave {number}: {plural(count, 'movement')}" + (" in flight together" if count > 1 else ""))
         show_movements(wave, made, names)
         show_moved(wave, made, names)
-        show_margins(wave.margins, made, names, down)
+        show_margins(wave.margins, shown, made, names, wave.down)
+        shown = wave.margins
         say()
     if made.waves:
         say("After the last wave")
-        show_margins(made.after, made, names, down)
+        show_margins(made.after, shown, made, names, made.down)
         show_spreads(made, names)
 
 
@@ -136,17 +148,28 @@ def show_moved(wave: Wave, made: Plan, names: Names) -> None:
     print_lines(table(rows, right=range(1, len(rows[0]))), "    ")
 
 
-def show_margins(margins: Dict[Level, Margin], made: Plan, names: Names, down: List[str]) -> None:
-    """Prints how many replicas more quorums can lose, where they have the fewest."""
+def show_margins(
+    margins: Dict[Level, Margin], shown: Dict[Level, Margin], made: Plan, names: Names, down: Sequence[str]
+) -> None:
+    """Prints how many replicas more quorums can lose, where they have the fewest: those that weren't shown so."""
+    new = {it: margin for it, margin in margins.items() if it not in shown or numbers(shown[it]) != numbers(margin)}
+    if not new:
+        return
     verb = "is" if len(down) == 1 else "are"
-    say(f"  Replicas that a quorum can still lose{f' while {listed(down)} {verb} down' if down else ''}")
+    changed = " now, where it changed" if shown else ""
+    say(f"  Replicas that a quorum can still lose{f' while {listed(list(down))} {verb} down' if down else ''}{changed}")
     rows, notes = [["keyspace", "level", "reads", "writes"]], []
-    for (keyspace, level), it in margins.items():
+    for (keyspace, level), it in new.items():
         said = [keyspaces_said(made.same[keyspace], names), level_said(level, names)]
-        rows.append([*said, *(str(n) if n >= 0 else "none" for n in (it.reads, it.writes))])
-        if min(it.reads, it.writes) < 0:
+        rows.append([*said, *(str(n) if n >= 0 else "none" for n in numbers(it))])
+        if min(numbers(it)) < 0:
             notes.append(f"{' '.join(said)}: no quorum, for example at {it.reads_at if it.reads < 0 else it.writes_at}")
     print_lines([*table(rows, right=(2, 3)), *notes], "    ")
+
+
+def numbers(margin: Margin) -> Tuple[int, int]:
+    """Returns the numbers of a margin: those of reads and writes."""
+    return margin.reads, margin.writes
 
 
 def show_spreads(made: Plan, names: Names) -> None:
@@ -244,6 +267,7 @@ def wave_json(wave: Wave, made: Plan, names: Names) -> Dict[str, object]:
             for first, same in made.same.items()
             for k in same
         },
+        "down": wave.down,
         "can_lose": margins_json(wave.margins, made, names),
     }
 

@@ -75,7 +75,7 @@ def grown(nodes: int, racks: int, tokens: int, factor: int) -> Tuple[List[float]
             if node > max(racks, factor):
                 shares = read_shares(place(session, len(lines), lines))
                 parts.append(shares.get(node, 0) / group.fair_share(node))
-        found = parts_of(place(session, len(lines), lines), group).values()
+        found = parts_of(read_shares(place(session, len(lines), lines)), group).values()
         return parts, (min(found), max(found))
 
 
