@@ -68,7 +68,8 @@ def run(options: argparse.Namespace) -> int:
         waves = planned(options.log, made, names, down, loads_of(options))
         print_lines(page_of(f"A plan for {options.log}", waves, version_of(options), script_said(options)))
     elif options.json:
-        print_json({**as_json(made, names, down), "slips": slips})
+        shown: Dict[str, object] = {**as_json(made, names, down), "slips": slips}
+        print_json(shown)
     else:
         show(made, names)
     if made.impossible:

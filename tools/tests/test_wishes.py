@@ -51,7 +51,7 @@ class Wishes(unittest.TestCase):
             read_wishes(["leave a", "leave a"], "w")
 
     def test_nodes_are_called_by_their_addresses(self):
-        wishes, down = read_wishes(["down /10.0.0.4", "leave /10.0.0.4", "replace a for 2001:db8:0::1"], "w")
+        wishes, down, _ = read_wishes(["down /10.0.0.4", "leave /10.0.0.4", "replace a for 2001:db8:0::1"], "w")
         self.assertEqual((down, wishes[0].name, wishes[1].gone), (["10.0.0.4"], "10.0.0.4", "2001:db8::1"))
         self.assertEqual([it.name for it in dead_first(wishes, ["x"], lambda it: "x" if "::" in it else it)], ["a", "10.0.0.4"])
         with self.assertRaisesRegex(Refused, "w:1: these are 257 tokens"):
